@@ -39,7 +39,7 @@ SHOWN_BY = {
     "check": ("from_nothing", "from_one", "from_two"),
     # as what an edge is declared: by name, version and source
     "Document::declared": (
-        "version_of declared_of is_name_of folded_order named_places places_under declared_at Document::declared_places"
+        "version_of declared_of is_name_of folded_order named_places places_under declared_at"
         " Document::places_for entry_at Document::parts_of is_same_info"
     ).split(),
     # a document that is asked looks its crates, features and names up
@@ -53,10 +53,9 @@ SHOWN_BY = {
     "Document::referent": ("Document::referent_of", "is_library_rename"),
     "Document::referents": ("Document::referents_of",),
     "Document::roots": ("Document::root_choice",),
-    "Document::presence": ("Document::standing_of",),
     # a selection is made of what a document has
     "select": (
-        "select_in numbers_of exclusions_of known_standing known_standing_of_child Work::new Work::count_krate"
+        "select_in numbers_of Context::exclusions Context::availability_at Work::new Work::count_krate"
         " Work::count_feature Reason::by_nothing Reason::by_one Reason::by_two put_krate enable toggle"
         " Document::packages Document::nodes Document::node_ids Document::crate_ids Document::listed_features Document::agrees"
         " expand expand_entry links_of Links::kept Links::is_asked Links::let_wait kept_edges kept_features"
@@ -64,11 +63,11 @@ SHOWN_BY = {
     ).split(),
     # the graph of a build: its outline, nodes and edges, and how they are stored
     "build_with_metadata": (
-        "records_of count_of given_by meanings_by draw_nodes plan store_edges in_order Krates::new divide handed_over"
+        "records_of count_of given_by meanings_by plan_nodes plan store_edges in_order Krates::new divide handed_over"
     ).split(),
     # the steps that a build keeps, and those of them that lead to a node
     "facts": ("kept_steps",),
-    "why": ("derivation_of", "step_of"),
+    "why": ("Explanation::derivation_of", "step_of"),
     # what is read as a document is listed, and what is read as a certificate is judged
     "run": ("listing_of", "CertificateSubject::judge", "CertificateSubject::judge_bytes"),
     # a refusal is handed over with its status

@@ -34,8 +34,8 @@ use Rattle.krates.specs.Build.{AreKeptMembers, HasOneEach, IsBuilt, IsResolvable
 use Rattle.krates_drawing.specs.Listed.{AreThosePackages}
 use Rattle.krates_queries.specs.DirectDependents.{IsDependent}
 use Rattle.krates_drawing.specs.Division.{IsAmong, IsDivision, outline_ids}
-use Rattle.krates_selection.specs.Explanation.{explained_steps}
-use Rattle.krates_selection.specs.declared.kept.Explanation.{Explanation}
+use Rattle.krates_selection.specs.KeptFacts.{steps_in}
+use Rattle.krates_selection.specs.declared.kept.KeptStep.{KeptStep}
 use Rattle.krates_queries.specs.KeptSteps.{IsExplainedBy}
 use Rattle.krates_queries.specs.Drawn.{IsNumbered, IsOutlineFor, planned_node}
 use Rattle.krates.specs.Enabled.{AreEnabledSets, numbered}
@@ -219,9 +219,9 @@ pub is_built : {F N E : Type 0} (filters : F → Package → F → Type 0) (made
     → FoldsTo filters before (krate_packages d.others.items) after → Selects (metadata_view m) s found → IsResolvable (metadata_view m) → IsNumbered g
     → AreKeptMembers (metadata_view m) (crate_ids g.nodes) members
     → ((i : Id) → HasOneEach (metadata_view m) s i → (p q : ℕ) → StandsAt (crate_ids g.nodes) i p → q < length (crate_ids g.nodes) → DependsOn (map planned_node g.nodes) p q ↔ IsDependent g.nodes g.edges q p)
-    → (e : Explanation) → IsExplainedBy (metadata_view m) s (explained_steps e)
-    → IsBuilt filters made made_edge m s before after (record { graph = g; members = members; workspace_root = text_view m.workspace_root; work = found.work; explanation = e })
-is_built filters made made_edge m s t d g members before after found h b w run selected resolvable numbered listed agree e explained =
+    → (steps : List KeptStep) → IsExplainedBy (metadata_view m) s (steps_in (crate_ids g.nodes) steps)
+    → IsBuilt filters made made_edge m s before after (record { graph = g; members = members; workspace_root = text_view m.workspace_root; work = found.work; steps = steps })
+is_built filters made made_edge m s t d g members before after found h b w run selected resolvable numbered listed agree steps explained =
     let x = h.holds.selection in
     let facts = facts_same (resolved (metadata_view m) h.graph) s.all_named x.krates.items x.features.items (outline_view t).features h.holds.is_outline.features in
     record {

@@ -13,11 +13,10 @@ use Rattle.krates_drawing.specs.declared.edge.Edge.{Edge}
 use Rattle.krates_drawing.specs.declared.outline.Outline.{Outline}
 use Rattle.krates_selection.proofs.KeptCrates.{same_in}
 use Rattle.krates_selection.proofs.PickedSteps.{seen_back}
-use Rattle.krates_selection.specs.Explanation.{AreBelow, explained_steps}
+use Rattle.krates_selection.specs.Explanation.{AreBelow}
 use Rattle.krates_selection.specs.CrateNumbers.{id_at, no_id}
 use Rattle.krates_selection.specs.KeptFacts.{Enables, IsBelow, KeepsCrate, KeepsEdge, KeptModel, Toggles, fact_in, facts_in, kept_view, step_in, steps_in}
 use Rattle.krates_selection.specs.KeptTables.{AreStepsOf, IsKeptIn}
-use Rattle.krates_selection.specs.declared.kept.Explanation.{Explanation}
 use Rattle.krates_selection.specs.declared.kept.KeptStep.{KeptStep}
 use Rattle.krates_graph.specs.Graph.{StoredGraph}
 use Rattle.krates_ids.specs.Identity.{Identity, empty_identity, id_cmp}
@@ -138,15 +137,12 @@ kept_same o m s d x b sel =
     member_of (map id_of ids) i ((b.kept i).0 ((kept_among (metadata_view m) s x sel i).1 (contains_of (map id_of chosen) i z))) in
     one_order o.total ids chosen b.packages.ascending sel.holds.krates there back
 
-kept_steps : Compares → (m : Metadata) (s : SettingModel) (d : Division) (x : Selection) (e : Explanation) (steps : List KeptStep) → Builds m s d → Selects (metadata_view m) s x → e.kids.items ≡ krate_ids d.kept.items → e.steps.items ≡ steps
-    → AreStepsFor (metadata_view m) s x.krates.items steps → AreStepsFor (metadata_view m) s e.kids.items e.steps.items
-kept_steps o m s d x e steps b sel kids same a =
-    let ids : map id_of e.kids.items ≡ map id_of x.krates.items = ap (λ (is : List Identity). map id_of is) kids ∙ kept_same o m s d x b sel in
-    subst (λ (xs : List KeptStep). AreStepsFor (metadata_view m) s e.kids.items xs) (sym same) (moved (metadata_view m) s e.kids.items x.krates.items steps ids a)
-
-pub explained_by : Compares → (m : Metadata) (s : SettingModel) (d : Division) (x : Selection) (e : Explanation) (steps : List KeptStep) → Builds m s d → Selects (metadata_view m) s x → e.kids.items ≡ krate_ids d.kept.items → e.steps.items ≡ steps
-    → AreStepsFor (metadata_view m) s x.krates.items steps → IsExplainedBy (metadata_view m) s (explained_steps e)
-explained_by o m s d x e steps b sel kids same a = (kept_steps o m s d x e steps b sel kids same a).explained
+-- the steps, for the ids of the graph's crates
+pub kept_steps : Compares → {N E : Type 0} (made : Package → N → Type 0) (made_edge : Edge → E → Type 0) (m : Metadata) (s : SettingModel) (t : Outline) (d : Division) (g : StoredGraph (Node N) E) (x : Selection) (steps : List KeptStep)
+    → Builds m s d → IsGraphOf made made_edge (outline_view t) d.kept.items g → Selects (metadata_view m) s x → AreStepsFor (metadata_view m) s x.krates.items steps → AreStepsFor (metadata_view m) s (crate_ids g.nodes) steps
+kept_steps o made made_edge m s t d g x steps b w sel a =
+    let ids : map id_of (crate_ids g.nodes) ≡ map id_of x.krates.items = ap (λ (is : List Identity). map id_of is) w.ids ∙ kept_same o m s d x b sel in
+    moved (metadata_view m) s (crate_ids g.nodes) x.krates.items steps ids a
 
 -- ---- each node has a step
 
@@ -177,20 +173,18 @@ module _ {N : Type 0} (o : Compares) (nodes : List (Node N)) (steps : List KeptS
       let enabled_in : IsEnabledIn (crate_ids nodes) (crate_features nodes) (id_at (crate_ids nodes) k) (text_view name) = record { names = named.names; theirs = record { place = k; stands = stands; at = named.at }; among = named.among } in
       has_step o (crate_ids nodes) steps (Enables k (text_view name)) are.ordered.ascending all low (features (id_at (crate_ids nodes) k) (text_view name) enabled_in)
 
-pub explains : Compares → {N E : Type 0} (made : Package → N → Type 0) (made_edge : Edge → E → Type 0) (m : Metadata) (s : SettingModel) (t : Outline) (d : Division) (g : StoredGraph (Node N) E) (x : Selection) (e : Explanation) (steps : List KeptStep)
+pub explains : Compares → {N E : Type 0} (made : Package → N → Type 0) (made_edge : Edge → E → Type 0) (m : Metadata) (s : SettingModel) (t : Outline) (d : Division) (g : StoredGraph (Node N) E) (x : Selection) (steps : List KeptStep)
     → IsOutlineFor (metadata_view m) s (outline_view t) → Builds m s d → IsGraphOf made made_edge (outline_view t) d.kept.items g → AreNodes g.nodes → Selects (metadata_view m) s x
-    → e.kids.items ≡ krate_ids d.kept.items → e.steps.items ≡ steps → AreStepsFor (metadata_view m) s x.krates.items steps → AreExplained g.nodes e
-explains o made made_edge m s t d g x e steps h b w are sel kids same a =
-    let k = kept_steps o m s d x e steps b sel kids same a in
-    let ids : e.kids.items ≡ crate_ids g.nodes = kids ∙ sym w.ids in
-    let z = subst (λ (is : List Identity). AreStepsFor (metadata_view m) s is e.steps.items) ids k in
+    → AreStepsFor (metadata_view m) s x.krates.items steps → AreExplained g.nodes steps
+explains o made made_edge m s t d g x steps h b w are sel a =
+    let z = kept_steps o made made_edge m s t d g x steps b w sel a in
     let facts = facts_named (metadata_view m) s t h in
     let enabled_is = enabled m s h.holds.selection d (λ i f. IsEnabledIn (crate_ids g.nodes) (crate_features g.nodes) i f) (map named_fact (outline_view t).features) (record { graph = h.graph; has_graph = h.has_graph; holds = h.holds.selected }) b facts w.enabled in
-    let crates : (i : Id) → Contains (map id_of (crate_ids g.nodes)) i → Contains (facts_in (steps_in (crate_ids g.nodes) e.steps.items)) (Crate i) = λ i c. (z.explained.facts (Crate i)).0 ((b.kept i).1 (subst (λ (is : List Identity). Contains (map id_of is) i) w.ids c)) in
-    let features : (i : Id) (f : Text) → IsEnabledIn (crate_ids g.nodes) (crate_features g.nodes) i f → Contains (facts_in (steps_in (crate_ids g.nodes) e.steps.items)) (Feature i f) = λ i f c. (z.explained.facts (Feature i f)).0 ((enabled_is i f).1 c) in
+    let crates : (i : Id) → Contains (map id_of (crate_ids g.nodes)) i → Contains (facts_in (steps_in (crate_ids g.nodes) steps)) (Crate i) = λ i c. (z.explained.facts (Crate i)).0 ((b.kept i).1 (subst (λ (is : List Identity). Contains (map id_of is) i) w.ids c)) in
+    let features : (i : Id) (f : Text) → IsEnabledIn (crate_ids g.nodes) (crate_features g.nodes) i f → Contains (facts_in (steps_in (crate_ids g.nodes) steps)) (Feature i f) = λ i f c. (z.explained.facts (Feature i f)).0 ((enabled_is i f).1 c) in
     record {
-      ids = ids;
-      explanation = record { below = k.below; backward = k.backward };
-      own = k.own;
-      each = each_node o g.nodes e.steps.items are z.below crates features;
+      below = z.below;
+      backward = z.backward;
+      own = z.own;
+      each = each_node o g.nodes steps are z.below crates features;
     }

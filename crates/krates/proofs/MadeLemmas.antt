@@ -1,5 +1,5 @@
 -- Nodes made from what was drawn and from packages, one by one and as lists.
-use Rattle.std.proofs.Common.{◌≡◌, ◌∙◌, ℕ, suc, List, [], ◌∷◌, ◌++◌, flat_map, length, map, Option, refl, sym, ap, subst}
+use Rattle.std.proofs.Common.{◌≡◌, ◌∙◌, ℕ, suc, List, [], ◌∷◌, ◌++◌, length, map, Option, refl, sym, ap, subst}
 use Rattle.std.specs.BTreeSet.{BTreeSet}
 use Rattle.std.specs.Global.{Vec}
 use Rattle.std.specs.List.{AllZip, zip}
@@ -11,18 +11,17 @@ use Rattle.krates_drawing.specs.Drawing as model
 use Rattle.krates_drawing.specs.Drawing.{planned_crate, planned_feature, mapping, planned_nodes}
 use Rattle.krates_drawing.specs.Outline as outline
 use Rattle.krates_drawing.specs.Outline.{Outline}
-use Rattle.krates_drawing.specs.Views.{planned_node_view}
-use Rattle.krates_drawing.specs.declared.nodes.PlannedNode.{PlannedNode}
-use Rattle.krates_drawing.specs.declared.nodes.PlannedNode.TheVariants as drawn
+use Rattle.krates_drawing.specs.Views.{ArePlannedNodes, planned_feature_view}
 use Rattle.krates_ids.specs.Identity.{Identity}
 use Rattle.krates_rules.specs.Facts.{Id}
 use Rattle.krates_rules.specs.Resolved.{id_of}
 use Rattle.krates_queries.specs.Drawn.{planned_node}
 use Rattle.krates_drawing.specs.Krate.{krate_ids, krate_packages}
-use Rattle.krates.specs.MadeNodes.{AreNodesWith, IsMade, crate_node, feature_in, feature_node, mapping_in}
+use Rattle.krates.specs.MadeNodes.{IsMade, crate_node, feature_node}
 use Rattle.krates_drawing.specs.Node.{crate_ids, crate_values, crate_features, CratesFirst, names_in}
 use Rattle.krates_drawing.specs.declared.krate.Krate.{Krate}
-use Rattle.krates.specs.declared.nodes.DrawnFeature.{DrawnFeature}
+use Rattle.krates_drawing.specs.declared.nodes.PlannedFeature.{PlannedFeature}
+use Rattle.krates_drawing.specs.declared.nodes.PlannedNodes.{PlannedNodes}
 use Rattle.krates_drawing.specs.declared.node.Node.{Node}
 use Rattle.krates_drawing.specs.declared.node.Node.TheVariants as node
 
@@ -41,11 +40,11 @@ zip_joined R (x ∷ xs) us [] vs h r = absurd h
 zip_joined R (x ∷ xs) us (y ∷ ys) vs h r = (h.0, zip_joined R xs us ys vs h.1 r)
 
 -- the node of a feature has no package, so it stays as it is
-pub features_made : {N : Type 0} (made : Package → N → Type 0) (fs : List DrawnFeature) → AllZip (IsMade made) (map feature_node fs) (map feature_node fs)
+pub features_made : {N : Type 0} (made : Package → N → Type 0) (fs : List PlannedFeature) → AllZip (IsMade made) (map feature_node fs) (map feature_node fs)
 features_made made [] = tt
 features_made made (f ∷ fs) = ((refl, refl), features_made made fs)
 
--- ---- what was drawn, in two lists
+-- ---- what was planned
 
 abbrev Set : Type 0
 Set = BTreeSet (String Global)
@@ -53,36 +52,18 @@ Set = BTreeSet (String Global)
 abbrev Mapping : Type 0
 Mapping = Vec (Option ℕ)
 
-abbrev nodes_for : List DrawnFeature → List (Node Package)
+abbrev nodes_for : List PlannedFeature → List (Node Package)
 nodes_for fs = map feature_node fs
 
-record Parted (t : Outline) (ks : List outline.CrateRow) (fs : List outline.FeatureRow) (xs : List PlannedNode) : Type 0 where
-  mappings : flat_map mapping_in xs ≡ map (mapping t) ks
-  features : map planned_node (nodes_for (flat_map feature_in xs)) ≡ map (planned_feature t) fs
-
-parted : (t : Outline) (ks : List outline.CrateRow) (fs : List outline.FeatureRow) (xs : List PlannedNode) → map planned_node_view xs ≡ map (planned_crate t) ks ++ map (planned_feature t) fs → Parted t ks fs xs
-parted t [] [] [] e = record { mappings = refl; features = refl }
-parted t [] [] (x ∷ xs) e = absurd cc
-parted t [] (f ∷ fs) [] e = absurd cc
-parted t [] (f ∷ fs) (drawn.Krate id m ∷ xs) e = absurd cc
-parted t [] (f ∷ fs) (drawn.Feature krate_index name ∷ xs) e =
-    let rest : map planned_node_view xs ≡ map (planned_feature t) fs = cc in
-    let here : Node Package = node.Feature krate_index name in
-    let head : planned_node here ≡ planned_feature t f = cc in
-    let more = parted t [] fs xs rest in
-    record { mappings = more.mappings; features = ap (λ s. s ∷ map planned_node (nodes_for (flat_map feature_in xs))) head ∙ ap (λ ss. planned_feature t f ∷ ss) more.features }
-parted t (k ∷ ks) fs [] e = absurd cc
-parted t (k ∷ ks) fs (drawn.Feature krate_index name ∷ xs) e = absurd cc
-parted t (k ∷ ks) fs (drawn.Krate id m ∷ xs) e =
-    let rest : map planned_node_view xs ≡ map (planned_crate t) ks ++ map (planned_feature t) fs = cc in
-    let head : m.items ≡ mapping t k = cc in
-    let more = parted t ks fs xs rest in
-    record { mappings = ap (λ n. n ∷ flat_map mapping_in xs) head ∙ ap (λ ns. mapping t k ∷ ns) more.mappings; features = more.features }
+-- the nodes of the features are those that were planned
+features_seen : (fs : List PlannedFeature) → map planned_node (nodes_for fs) ≡ map planned_feature_view fs
+features_seen [] = refl
+features_seen (f ∷ fs) = ap (λ xs. planned_feature_view f ∷ xs) (features_seen fs)
 
 -- ---- nodes that are made of both
 
 -- the features contain no crate
-no_crates : (fs : List DrawnFeature) → (crate_ids (nodes_for fs) ≡ []) × (crate_values (nodes_for fs) ≡ []) × (crate_features (nodes_for fs) ≡ []) × CratesFirst (nodes_for fs)
+no_crates : (fs : List PlannedFeature) → (crate_ids (nodes_for fs) ≡ []) × (crate_values (nodes_for fs) ≡ []) × (crate_features (nodes_for fs) ≡ []) × CratesFirst (nodes_for fs)
 no_crates [] = (refl, refl, refl, tt)
 no_crates (f ∷ fs) = let w = no_crates fs in (w.0, w.1, w.2, w.0)
 
@@ -93,7 +74,7 @@ pub record AreMadeOf (t : Outline) (krates : List Krate) (sets : List Set) (node
   pub features : crate_features nodes ≡ map names_in sets
   pub first : CratesFirst nodes
 
-joined : (t : Outline) (krates : List Krate) (sets : List Set) (maps : List Mapping) (rest : List DrawnFeature) → length sets ≡ length krates → length maps ≡ length krates
+joined : (t : Outline) (krates : List Krate) (sets : List Set) (maps : List Mapping) (rest : List PlannedFeature) → length sets ≡ length krates → length maps ≡ length krates
     → AreMadeOf t krates sets (map crate_node (zip krates (zip sets maps)) ++ nodes_for rest)
 joined t [] [] [] rest e d = let w = no_crates rest in record { ids = w.0; values = w.1; features = w.2; first = w.3 }
 joined t [] [] (m ∷ maps) rest e d = absurd cc
@@ -144,32 +125,24 @@ pub record AreDrawnNodes (t : Outline) (krates : List Krate) (sets : List Set) (
   pub made : AreMadeOf t krates sets nodes
   pub planned_are : map planned_node nodes ≡ planned_nodes t
 
-pub drawn_nodes : (t : Outline) (krates : List Krate) (sets : List Set) (xs : List PlannedNode) (nodes : List (Node Package)) → length sets ≡ length krates → map planned_node_view xs ≡ planned_nodes t
-    → map id_of (krate_ids krates) ≡ map (λ (k : outline.CrateRow). k.id) t.krates → AreNodesWith krates sets xs nodes → AreDrawnNodes t krates sets nodes
-drawn_nodes t krates sets xs nodes e d i w =
-    let p = parted t t.krates t.features xs d in
-    let maps : List Mapping = w.mappings in
-    let mapped : map (λ (m : Mapping). m.items) maps ≡ map (mapping t) t.krates = w.drawn ∙ p.mappings in
-    let many : length maps ≡ length t.krates = same_length (λ (m : Mapping). m.items) (mapping t) maps t.krates mapped in
+pub drawn_nodes : (t : Outline) (krates : List Krate) (sets : List Set) (planned : PlannedNodes) (nodes : List (Node Package)) → length sets ≡ length krates → ArePlannedNodes t planned
+    → map id_of (krate_ids krates) ≡ map (λ (k : outline.CrateRow). k.id) t.krates → nodes ≡ map crate_node (zip krates (zip sets planned.mappings.items)) ++ map feature_node planned.features.items → AreDrawnNodes t krates sets nodes
+drawn_nodes t krates sets planned nodes e d i are =
+    let maps : List Mapping = planned.mappings.items in
+    let rest = planned.features.items in
+    let many : length maps ≡ length t.krates = same_length (λ (m : Mapping). m.items) (mapping t) maps t.krates d.mappings in
     let ids : length (krate_ids krates) ≡ length t.krates = same_length id_of (λ (k : outline.CrateRow). k.id) (krate_ids krates) t.krates i in
     let crates : length (krate_ids krates) ≡ length krates = mapped_length krates in
-    let made = joined t krates sets maps (flat_map feature_in xs) e (many ∙ sym ids ∙ crates) in
-    let there = planned_joined t t.krates krates sets maps (nodes_for (flat_map feature_in xs)) (map (planned_feature t) t.features) e mapped i p.features in
+    let made = joined t krates sets maps rest e (many ∙ sym ids ∙ crates) in
+    let there = planned_joined t t.krates krates sets maps (nodes_for rest) (map (planned_feature t) t.features) e d.mappings i (features_seen rest ∙ d.features) in
     record {
-      made = subst (AreMadeOf t krates sets) (sym w.are) made;
-      planned_are = ap (λ (ns : List (Node Package)). map planned_node ns) w.are ∙ there;
+      made = subst (AreMadeOf t krates sets) (sym are) made;
+      planned_are = ap (λ (ns : List (Node Package)). map planned_node ns) are ∙ there;
     }
 
 many : {X Y : Type 0} (f : X → Y) (xs : List X) → length xs ≡ length (map f xs)
 many f [] = refl
 many f (x ∷ xs) = ap suc (many f xs)
-
--- the same, for the values in the code
-pub drawn_from : (t : Outline) (krates : List Krate) (sets : List Set) (xs : List PlannedNode) (maps : List Mapping) (features : List DrawnFeature) (nodes : List (Node Package)) → length sets ≡ length krates → map planned_node_view xs ≡ planned_nodes t
-    → map id_of (krate_ids krates) ≡ map (λ (k : outline.CrateRow). k.id) t.krates → map (λ (m : Mapping). m.items) maps ≡ flat_map mapping_in xs → features ≡ flat_map feature_in xs
-    → nodes ≡ map crate_node (zip krates (zip sets maps)) ++ map feature_node features → AreDrawnNodes t krates sets nodes
-drawn_from t krates sets xs maps features nodes e d i m f n =
-    drawn_nodes t krates sets xs nodes e d i (record { mappings = maps; drawn = m; are = n ∙ ap (λ (fs : List DrawnFeature). map crate_node (zip krates (zip sets maps)) ++ map feature_node fs) f })
 
 pub count_of : {X Y : Type 0} (f : X → Y) (xs : List X) (ys : List Y) → map f xs ≡ ys → length xs ≡ length ys
 count_of f xs ys e = many f xs ∙ ap length e
@@ -209,7 +182,7 @@ alike made (node.Feature krate_index name ∷ xs) (node.Feature k n ∷ ys) h =
     }
 
 -- as many as there were, with the features
-pub as_many : {N : Type 0} (made : Package → N → Type 0) (crates : List (Node Package)) (nodes : List (Node N)) (features : List DrawnFeature) → AllZip (IsMade made) crates nodes
+pub as_many : {N : Type 0} (made : Package → N → Type 0) (crates : List (Node Package)) (nodes : List (Node N)) (features : List PlannedFeature) → AllZip (IsMade made) crates nodes
     → length (nodes ++ map feature_node features) ≡ length (crates ++ map feature_node features)
 as_many made crates nodes features h =
     (alike made (crates ++ map feature_node features) (nodes ++ map feature_node features) (zip_joined (IsMade made) crates (map feature_node features) nodes (map feature_node features) h (features_made made features))).count

@@ -1,16 +1,13 @@
 -- How nodes are made from what was drawn and from packages.
-use Rattle.std.specs.Prelude.{◌≡◌, ◌<◌, ℕ, List, [], ◌∷◌, ◌++◌, Option, String, flat_map, map, ⊤}
+use Rattle.std.specs.Prelude.{◌≡◌, ◌<◌, ℕ, List, ◌++◌, Option, String, map, ⊤}
 use Rattle.std.specs.BTreeSet.{BTreeSet}
 use Rattle.std.specs.Global.{Vec}
-use Rattle.std.specs.List.{zip}
 use Rattle.std.specs.declared.alloc.Global.{Global}
 use Rattle.krates_cm.specs.declared.package.Package.{Package}
-use Rattle.krates_drawing.specs.declared.nodes.PlannedNode.{PlannedNode}
-use Rattle.krates_drawing.specs.declared.nodes.PlannedNode.TheVariants as drawn
 use Rattle.krates_ids.specs.declared.error.Error.{Error}
 use Rattle.krates_ids.specs.declared.error.Error.TheVariants as errors
 use Rattle.krates_drawing.specs.declared.krate.Krate.{Krate}
-use Rattle.krates.specs.declared.nodes.DrawnFeature.{DrawnFeature}
+use Rattle.krates_drawing.specs.declared.nodes.PlannedFeature.{PlannedFeature}
 use Rattle.krates.specs.declared.nodes.DrawnNodes.{DrawnNodes}
 use Rattle.krates_drawing.specs.declared.node.Node.{Node}
 use Rattle.krates_drawing.specs.declared.node.Node.TheVariants as node
@@ -21,20 +18,8 @@ Set = BTreeSet (String Global)
 abbrev Mapping : Type 0
 Mapping = Vec (Option ℕ)
 
--- ---- what was drawn
-
--- the mapping of a drawn crate
-abbrev pub mapping_in : PlannedNode → List (List (Option ℕ))
-mapping_in (drawn.Krate id mapping) = mapping.items ∷ []
-mapping_in (drawn.Feature krate_index name) = []
-
--- the drawn feature
-abbrev pub feature_in : PlannedNode → List DrawnFeature
-feature_in (drawn.Krate id mapping) = []
-feature_in (drawn.Feature index name) = record { krate_index = index; name = name } ∷ []
-
--- its node
-abbrev pub feature_node : {P : Type 0} → DrawnFeature → Node P
+-- the node of a feature
+abbrev pub feature_node : {P : Type 0} → PlannedFeature → Node P
 feature_node f = node.Feature f.krate_index f.name
 
 -- the nodes that were drawn
@@ -46,12 +31,6 @@ nodes_in nodes = nodes.crates.items ++ map feature_node nodes.features.items
 -- the node of a crate with these features and this mapping
 abbrev pub crate_node : Krate × (Set × Mapping) → Node Package
 crate_node parts = node.Krate parts.0.id parts.0.pkg parts.1.0 parts.1.1
-
--- the crates with the features and the mappings at their places, then the features
-pub record AreNodesWith (krates : List Krate) (sets : List (BTreeSet (String Global))) (planned_nodes : List PlannedNode) (nodes : List (Node Package)) : Type 0 where
-  pub mappings : List (Vec (Option ℕ))
-  pub drawn : map (λ m. m.items) mappings ≡ flat_map mapping_in planned_nodes
-  pub are : nodes ≡ map crate_node (zip krates (zip sets mappings)) ++ map feature_node (flat_map feature_in planned_nodes)
 
 -- ---- with values in the place of packages
 

@@ -15,7 +15,6 @@ ghost use Rattle.krates.specs.BuilderModel.{AsksForCrates, at_targets, excluding
 ghost use Rattle.krates.specs.Indexed.{IsAskable, Sees};
 
 use crate::drawn::{Sketch, graph_of, sketch_of};
-use crate::explained::explanation_of;
 use crate::indexed::{IndexSource, seen_through};
 use crate::members::members_of;
 use krates_cm::{Metadata, Package};
@@ -356,11 +355,10 @@ fn build_admitted<N: FromPackage + Drop, E: FromEdge + Drop, F: OnFilter>(
     let division = divide(alloc, packages, kids, &outline.krates)?;
     let Division { kept, others } = division;
     let count = kept.len();
-    let explanation = explanation_of(alloc, &kept, steps)?;
     let graph = graph_of(alloc, limits, outline, kept)?;
     let found = members_of(alloc, graph.raw_nodes(), &members);
     let members = handed_over(found, others, filter)?;
-    let findings = Findings { work, explanation };
+    let findings = Findings { work, steps };
     Ok(Krates::new(graph, count, members, workspace_root, findings))
 }
 

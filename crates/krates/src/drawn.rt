@@ -12,10 +12,7 @@ ghost use Rattle.krates_drawing.specs.Views.{planned_edge_view, outline_view};
 ghost use Rattle.krates_ids.specs.declared.error.Error.TheVariants.{Memory};
 ghost use Rattle.krates_rules.specs.Admission.{IsAdmitted};
 ghost use Rattle.krates_rules.specs.NamedIds.{NamesReadIds};
-ghost use Rattle.krates_selection.specs.KeptTables.{AreStepsOf};
-ghost use Rattle.krates_questions.specs.Lookup.{resolved_view};
-ghost use Rattle.krates_selection.specs.Explained.{IsExplained};
-ghost use Rattle.krates_selection.specs.Selection.{IsSelection, RefusesSelection};
+ghost use Rattle.krates_selection.specs.Selection.{RefusesSelection};
 ghost use Rattle.krates_rules.specs.Resolved.{id_of};
 ghost use Rattle.krates.specs.KeptGraph.{IsGraphOf};
 ghost use Rattle.krates_drawing.specs.Krate.{krate_ids};
@@ -23,7 +20,7 @@ ghost use Rattle.krates.specs.MadeNodes.{IsMade, nodes_in};
 ghost use Rattle.krates.specs.Sketch.{IsSketchOf};
 
 use crate::enabled::enabled_of;
-use crate::nodes::{DrawnNodes, drawn_parts, nodes_of, store_nodes};
+use crate::nodes::{DrawnNodes, nodes_of, store_nodes};
 use krates_cm::Metadata;
 use krates_drawing::edge::PlannedEdge;
 use krates_drawing::gather::outline_of;
@@ -36,7 +33,7 @@ use krates_graph::graph::Graph;
 use krates_ids::Error;
 use krates_queries::from_package::FromPackage;
 use krates_questions::context::Context;
-use krates_resolve::{Document, EnabledFeature, Ids, Selection, Setting, Work, select_in};
+use krates_resolve::{Document, EnabledFeature, Ids, Setting, Work, select_in};
 use krates_selection::{KeptStep, kept_steps};
 use std::alloc::{AllocError, Global};
 
@@ -65,33 +62,18 @@ pub(crate) fn sketch_of(
     let document = Document::new(alloc, metadata, ids)?;
     let selection = select_in(alloc, &document, setting)?;
     let work = selection.work;
-    let steps = steps_of(alloc, &document, setting, &selection)?;
+    let context = Context {
+        alloc,
+        document: &document,
+        setting,
+    };
+    let steps = kept_steps(&context, &selection.krates, &selection.steps)?;
     let outline = outline_of(alloc, &document, setting, selection)?;
     Ok(Sketch {
         outline,
         steps,
         work,
     })
-}
-
-/// The steps of a selection, with its crates by number.
-fn steps_of(
-    alloc: Global,
-    document: &Document<'_>,
-    setting: &Setting,
-    selection: &Selection,
-) -> Result<Vec<KeptStep>, AllocError>
-    requires selected { IsSelection (resolved_view document.now) setting.now selection.now }
-    requires explained { IsExplained (resolved_view document.now) setting.now selection.now }
-    ensures { IfOk result (λ steps. AreStepsOf (resolved_view document.now) setting.now
-        selection.now.krates.items selection.now.steps.items steps.items) }
-{
-    let context = Context {
-        alloc,
-        document,
-        setting,
-    };
-    kept_steps(&context, &selection.krates, &selection.steps)
 }
 
 /// The enabled features of an outline.
@@ -157,7 +139,6 @@ pub(crate) fn graph_of<N: FromPackage + Drop, E: FromEdge + Drop>(
     } = plan;
     let features = features_in(alloc, outline)?;
     let sets = enabled_of(alloc, krates.len(), features)?;
-    let parts = drawn_parts(alloc, planned_nodes)?;
-    let nodes = nodes_of(alloc, krates, sets, parts)?;
+    let nodes = nodes_of(alloc, krates, sets, planned_nodes)?;
     stored(alloc, limits, nodes, &planned_edges)
 }

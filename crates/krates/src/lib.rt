@@ -16,7 +16,6 @@ mod cargo;
 pub mod derive;
 mod drawn;
 mod enabled;
-mod explained;
 mod indexed;
 pub mod laws;
 mod members;
@@ -81,7 +80,7 @@ pub mod index {
 /// Which documents can be resolved, what is kept of them, and what they answer to the questions of the rules.
 pub mod resolve {
     pub use krates_resolve::{
-        Document, EnabledFeature, Ids, KeptEdge, Need, NumberedFact, NumberedStep, Presence,
+        Availability, Document, EnabledFeature, Ids, KeptEdge, Need, NumberedFact, NumberedStep,
         Reason, Selection, Setting, ToggledFeature, Work, admit, select,
     };
 }

@@ -3,36 +3,18 @@
 //! A node is as large as a package with its crate's features and mapping. So only the crates are put together as nodes before they
 //! are stored; a feature, of which there may be many, becomes a node where it is stored.
 
-ghost use Rattle.std.specs.Prelude.{◌≡◌, ◌++◌, [], IfErr, IfOk, OnOk, flat_map, length, map};
+ghost use Rattle.std.specs.Prelude.{◌≡◌, ◌++◌, [], IfErr, IfOk, OnOk, length, map};
 ghost use Rattle.std.specs.List.{AllZip, zip};
-ghost use Rattle.krates.specs.MadeNodes.{CountRefusal, IsMade, crate_node, feature_in, feature_node, mapping_in, nodes_in};
+ghost use Rattle.krates.specs.MadeNodes.{CountRefusal, IsMade, crate_node, feature_node, nodes_in};
 
 use krates_cm::Package;
 use krates_drawing::krate::Krate;
 use krates_drawing::node::{EnabledFeatures, Node};
-use krates_drawing::nodes::PlannedNode;
+use krates_drawing::nodes::{PlannedFeature, PlannedNodes};
 use krates_graph::graph::{Graph, GraphError, NodeId};
 use krates_ids::Error;
 use krates_queries::from_package::FromPackage;
 use std::alloc::{AllocError, Global};
-
-/// An enabled feature, as it was drawn.
-#[derive(Drop)]
-pub(crate) struct DrawnFeature {
-    /// The number of its crate.
-    krate_index: NodeId,
-    /// Its name.
-    name: String,
-}
-
-/// What was drawn, without the packages: the mappings of the crates, and the features.
-#[derive(Drop)]
-pub(crate) struct DrawnParts {
-    /// The mappings of the crates.
-    pub(crate) mappings: Vec<Vec<Option<NodeId>>>,
-    /// The features.
-    pub(crate) features: Vec<DrawnFeature>,
-}
 
 /// The nodes that were drawn: first those of the crates, with their packages, and then the features.
 #[derive(Drop)]
@@ -40,46 +22,7 @@ pub(crate) struct DrawnNodes {
     /// The crates.
     pub(crate) crates: Vec<Node<Package>>,
     /// The features.
-    pub(crate) features: Vec<DrawnFeature>,
-}
-
-/// The mappings of the crates and the features, each in the order in which they were drawn.
-pub(crate) fn drawn_parts(
-    alloc: Global,
-    planned_nodes: Vec<PlannedNode>,
-) -> Result<DrawnParts, AllocError>
-    ensures mappings { IfOk result
-        (λ parts. map (λ m. m.items) parts.mappings.items ≡ flat_map mapping_in planned_nodes.items) }
-    ensures features { IfOk result (λ parts. parts.features.items ≡ flat_map feature_in planned_nodes.items) }
-{
-    let mut mappings = Vec::new(alloc);
-    let mut features = Vec::with_capacity(alloc, planned_nodes.len())?;
-    for planned in planned_nodes {
-        push_part(planned, &mut mappings, &mut features)?;
-    }
-    Ok(DrawnParts { mappings, features })
-}
-
-/// Puts a mapping to the mappings, or a feature to the features.
-fn push_part(
-    planned: PlannedNode,
-    mappings: &mut Vec<Vec<Option<NodeId>>>,
-    features: &mut Vec<DrawnFeature>,
-) -> Result<(), AllocError>
-    ensures mappings { OnOk result (map (λ m. m.items) mappings.new.items
-        ≡ map (λ m. m.items) mappings.old.items ++ mapping_in planned) }
-    ensures features { OnOk result (features.new.items ≡ features.old.items ++ feature_in planned) }
-{
-    match planned {
-        PlannedNode::Krate { id, mapping } => {
-            drop(id);
-            mappings.push(mapping)?;
-        }
-        PlannedNode::Feature { krate_index, name } => {
-            features.push(DrawnFeature { krate_index, name })?;
-        }
-    }
-    Ok(())
+    pub(crate) features: Vec<PlannedFeature>,
 }
 
 /// Each crate with the features and the mapping at its place.
@@ -109,13 +52,13 @@ pub(crate) fn nodes_of(
     alloc: Global,
     krates: Vec<Krate>,
     sets: Vec<EnabledFeatures>,
-    parts: DrawnParts,
+    planned: PlannedNodes,
 ) -> Result<DrawnNodes, AllocError>
     ensures { IfOk result
-        (λ nodes. nodes_in nodes ≡ map crate_node (zip krates.items (zip sets.items parts.mappings.items))
-        ++ map feature_node parts.features.items) }
+        (λ nodes. nodes_in nodes ≡ map crate_node (zip krates.items (zip sets.items planned.mappings.items))
+        ++ map feature_node planned.features.items) }
 {
-    let DrawnParts { mappings, features } = parts;
+    let PlannedNodes { mappings, features } = planned;
     let crates = crates_with(alloc, krates, sets, mappings)?;
     Ok(DrawnNodes { crates, features })
 }
@@ -159,7 +102,7 @@ pub(crate) fn store_nodes<N: FromPackage + Drop, E: Drop>(
 
 /// Adds the features to a graph, in their order, behind the nodes that it has.
 fn store_features<N: Drop, E: Drop>(
-    features: Vec<DrawnFeature>,
+    features: Vec<PlannedFeature>,
     graph: &mut Graph<Node<N>, E>,
 ) -> Result<(), Error>
     ensures stored { OnOk result (graph.new.nodes ≡ graph.old.nodes ++ map feature_node features.items) }
@@ -168,7 +111,7 @@ fn store_features<N: Drop, E: Drop>(
         (length (graph.old.nodes ++ map (feature_node {P = N}) features.items))) }
 {
     for feature in features {
-        let DrawnFeature { krate_index, name } = feature;
+        let PlannedFeature { krate_index, name } = feature;
         match graph.add_node(Node::Feature { krate_index, name }) {
             Ok(_) => {}
             Err(GraphError::Full(_)) => return Err(Error::TooMany),

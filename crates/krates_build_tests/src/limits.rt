@@ -38,7 +38,8 @@ fn drawn_within(alloc: Global, metadata: &Metadata, limits: Limits) -> Result<St
     let outline = outline(alloc, metadata)?;
     let told = match plan_within(alloc, &outline, limits) {
         Ok(plan) => {
-            let (nodes, edges) = (plan.planned_nodes.len(), plan.planned_edges.len());
+            let nodes = plan.planned_nodes.mappings.len() + plan.planned_nodes.features.len();
+            let edges = plan.planned_edges.len();
             format!(in alloc; "{nodes} nodes, {edges} edges")
         }
         Err(error) => error.to_string(alloc),

@@ -68,14 +68,14 @@ struct Feature {
 }
 
 /// Adds whether a crate is a root and stands, what there is for it, its package and whether it has a node.
-fn push_standing<'a>(
+fn push_availability<'a>(
     told: &mut String,
     asked: &Document<'a>,
     setting: &Setting,
     krate: &'a Kid,
 ) -> Result<(), AllocError> {
     let (is_root, stands) = (asked.is_root(setting, krate), asked.stands(setting, krate));
-    let presence = asked.presence(setting, krate);
+    let availability = asked.availability(setting, krate);
     let package = match asked.package_of(krate) {
         Some(package) => package.name.as_str(),
         None => "none",
@@ -83,7 +83,7 @@ fn push_standing<'a>(
     let has_node = asked.node_of(krate).is_some();
     write!(
         told,
-        "root {is_root}, stands {stands}, {presence:?}, package {package}, node {has_node}"
+        "root {is_root}, stands {stands}, {availability:?}, package {package}, node {has_node}"
     )
 }
 
@@ -120,7 +120,7 @@ impl Asked for Feature {
         setting: &Setting,
     ) -> Result<String, AllocError> {
         let mut told = String::new(alloc);
-        push_standing(&mut told, asked, setting, &self.krate)?;
+        push_availability(&mut told, asked, setting, &self.krate)?;
         push_listed(&mut told, asked, &self.krate, self.name.as_str())?;
         Ok(told)
     }
@@ -158,12 +158,12 @@ impl Asked for Edge {
 const CRATES: &[Row] = &[
     (
         "a f",
-        r#"root true, stands true, Stands, package a, node true, lists true ["b/g", "x"] of 2: b c"#,
+        r#"root true, stands true, Available(0), package a, node true, lists true ["b/g", "x"] of 2: b c"#,
     ),
     // a feature that the manifest lacks, and one that the node doesn't list
     (
         "a e",
-        "root true, stands true, Stands, package a, node true, lists true [] of 2: b c",
+        "root true, stands true, Available(0), package a, node true, lists true [] of 2: b c",
     ),
     (
         "a g / without a",

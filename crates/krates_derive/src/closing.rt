@@ -17,7 +17,7 @@ use crate::following::{declaration_of, need_of};
 use krates_cm::Dependency;
 use krates_document::Setting;
 use krates_ids::Kid;
-use krates_questions::{Document, Need, Presence};
+use krates_questions::{Availability, Document, Need};
 use krates_text::{features, laws};
 use std::alloc::{AllocError, Global};
 
@@ -55,11 +55,11 @@ fn is_root_in<'a>(check: &ClosureCheck<'a, '_>, krate: &'a Kid) -> bool
     ensures { IsTrue result
         ↔ RootIn (document_in check.now) check.now.setting.now (facts_in check.now) (id_of krate.now) }
 {
-    match check.document.presence(check.setting, krate) {
-        Presence::Stands => is_stock_in(check, krate),
-        Presence::NoPackage => false,
-        Presence::NoNode => false,
-        Presence::Excluded => true,
+    match check.document.availability(check.setting, krate) {
+        Availability::Available(_) => is_stock_in(check, krate),
+        Availability::NoPackage => false,
+        Availability::NoNode => false,
+        Availability::Excluded => true,
     }
 }
 
@@ -168,11 +168,11 @@ fn is_child_in<'a>(check: &ClosureCheck<'a, '_>, edge: &EdgeRef<'a>) -> bool
     ensures { IsTrue result
         ↔ ChildIn (document_in check.now) check.now.setting.now (facts_in check.now) (edge_of_ref edge.now) }
 {
-    match check.document.presence(check.setting, edge.child) {
-        Presence::Stands => check.facts.has(&FactKey::Kept(edge_key(edge))),
-        Presence::NoPackage => false,
-        Presence::NoNode => false,
-        Presence::Excluded => true,
+    match check.document.availability(check.setting, edge.child) {
+        Availability::Available(_) => check.facts.has(&FactKey::Kept(edge_key(edge))),
+        Availability::NoPackage => false,
+        Availability::NoNode => false,
+        Availability::Excluded => true,
     }
 }
 

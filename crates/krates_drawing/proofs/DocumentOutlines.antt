@@ -1,16 +1,10 @@
--- A document has only one graph, so what is promised of it, or of a selection of it, holds of the document that is asked.
+-- A document has only one graph, so what is promised of a selection of it holds of the document that is asked.
 use Rattle.std.proofs.Common.{◌≡◌, subst}
 use Rattle.krates_cm.specs.Document.{MetadataModel}
 use Rattle.krates_selection.specs.Selection.{IsSelection, IsSelectionOf}
 use Rattle.krates_selection.specs.declared.selection.Selection.{Selection}
-use Rattle.krates_rules.specs.Admission.{IsAdmitted, IdsModel, NoneDoubled}
 use Rattle.krates_rules.specs.Resolved.{HasGraphWith, Resolved, resolved}
 use Rattle.krates_rules.specs.Setting.{SettingModel}
-
-pub none_doubled_in : (m : MetadataModel) (ids : IdsModel) (r : Resolved) → IsAdmitted m ids → HasGraphWith m (λ g. r ≡ resolved m g) → NoneDoubled r.metadata r.graph
-none_doubled_in m ids r a h =
-    let same : a.graph ≡ h.graph = cc (a.has_graph, h.has_graph) in
-    rw h.holds (subst (λ g. NoneDoubled m g) same a.none_doubled)
 
 pub selected_in : (m : MetadataModel) (s : SettingModel) (x : Selection) (r : Resolved) → IsSelectionOf m s x → HasGraphWith m (λ g. r ≡ resolved m g) → IsSelection r s x
 selected_in m s x r sel h =

@@ -5,9 +5,7 @@ use Rattle.std.proofs.lemmas.List.Elements.{All-contains, All-from_recursion}
 use Rattle.std.specs.Global.{Vec}
 use Rattle.std.specs.List.{AllZip}
 use Rattle.std.specs.List.Sorted.{IsStrictlySortedBy}
-use Rattle.std.specs.declared.alloc.Global.{Global}
-use Rattle.std.specs.Prelude.{String}
-use Rattle.krates_cm.specs.Document.{NodeModel, PackageModel, node_view, text_view, texts_view}
+use Rattle.krates_cm.specs.Document.{NodeModel, PackageModel, node_view, text_view}
 use Rattle.krates_ids.specs.Identity.{Identity, id_cmp}
 use Rattle.krates_questions.specs.Lookup.{IsPackageOf, TellsPackage}
 use Rattle.krates_questions.specs.Contents.{IsNodeOf}
@@ -15,7 +13,7 @@ use Rattle.krates_rules.specs.Admission.{NoneDoubled}
 use Rattle.krates_rules.specs.DeclaredDependency.{dependency_entry}
 use Rattle.krates_rules.specs.Derivation.{Derivable}
 use Rattle.krates_rules.specs.Facts.{Id, Crate}
-use Rattle.krates_rules.specs.Questions.{kind_info_of, questions}
+use Rattle.krates_rules.specs.Questions.{IsDeclaredAt, kind_info_of, questions}
 use Rattle.krates_rules.specs.Resolved.{Resolved, id_of, HasNode, HasPackage, NoPackage, NoNode}
 use Rattle.krates_selection.specs.CrateNumbers.{HasCrates, HasEnds, HasHome, id_at}
 use Rattle.krates_selection.specs.Selection.{edge_view, IsPlaced, IsSelection, crate_fact, edge_fact, feature_fact}
@@ -24,18 +22,16 @@ use Rattle.krates_selection.specs.SelectionOrder.{place_cmp, feature_cmp}
 use Rattle.krates_selection.specs.declared.selection.EnabledFeature.{EnabledFeature}
 use Rattle.krates_selection.specs.declared.selection.KeptEdge.{KeptEdge}
 use Rattle.krates_selection.specs.declared.selection.Selection.{Selection}
-use Rattle.krates_drawing.specs.Gathered.{MeaningsRecorded, AreMeant, count_in, declared_in, dependency_in, given_in, listed_of, values_in}
+use Rattle.krates_drawing.specs.Gathered.{AreMeant, IsEdgeWith, IsFeatureWith, count_in, declared_in, dependency_in, listed_of, values_in}
 use Rattle.krates_drawing.specs.Outline.{IsCrateRow, IsEdgeRow, IsMeaning, IsFeatureRow, IsOutline, toggle_of}
 use Rattle.krates_drawing.specs.InOrder.{AreInOrder}
 use Rattle.krates_drawing.specs.CrateRecord.{IsRecordOf, node_at, node_in, of_crate, package_at, package_in}
-use Rattle.krates_drawing.specs.Views.{kids_of, crate_row_view, edge_row_view, meanings_view, feature_row_view}
+use Rattle.krates_drawing.specs.Views.{kids_of, crate_row_view, edge_row_view, meaning_view, feature_row_view}
 use Rattle.krates_drawing.specs.declared.outline.CrateRow.{CrateRow}
 use Rattle.krates_drawing.specs.declared.outline.EdgeRow.{EdgeRow}
-use Rattle.krates_drawing.specs.declared.outline.Meaning.{Meaning}
 use Rattle.krates_drawing.specs.declared.outline.FeatureRow.{FeatureRow}
 use Rattle.krates_drawing.specs.declared.crate_record.CrateRecord.{CrateRecord}
 use Rattle.krates_document.proofs.DeclaredOnce.{declared_stands}
-use Rattle.krates_drawing.proofs.ById.{zip_by}
 use Rattle.krates_drawing.proofs.Derivations.{child_kept, crate_of_feature, kept_stands}
 use Rattle.krates_drawing.proofs.Holding.{crate_there, edge_there, feature_there}
 use Rattle.krates_rules.proofs.Members.{Member, contains_of, member_map}
@@ -44,32 +40,26 @@ use Rattle.krates_rules.proofs.OnlyOne.{one_package}
 
 -- ---- what is gathered
 
--- what is put beside the crates, edges and features of a selection
-pub record AreGathered (r : Resolved) (s : SettingModel) (x : Selection) (records : List CrateRecord) (ns : List ℕ) (gs : List (Vec (String Global))) (ms : List (Vec Meaning)) : Type 0 where
+-- the rows of a selection, with the records of its crates and the counts of these
+pub record AreGathered (r : Resolved) (s : SettingModel) (x : Selection) (records : List CrateRecord) (ns : List ℕ) (ks : List CrateRow) (ls : List EdgeRow) (fs : List FeatureRow) : Type 0 where
   pub each : AllZip (IsRecordOf r) x.krates.items records
   pub counts : ns ≡ map count_in records
-  pub givens : map texts_view gs ≡ map (given_in records) x.edges.items
-  pub names : AllZip (MeaningsRecorded r s.all_named records) x.features.items (map meanings_view ms)
+  pub krates : ks ≡ map (λ pair. record { id = pair.0; declared = pair.1 }) (zip x.krates.items ns)
+  pub links : AllZip (IsEdgeWith records) x.edges.items ls
+  pub features : AllZip (IsFeatureWith r s.all_named records) x.features.items fs
 
--- what each call gives about the lists that it reads is about those of the selection
-pub gathered_by_reading : (r : Resolved) (s : SettingModel) (x : Selection) (records : List CrateRecord) (ns : List ℕ) (gs : List (Vec (String Global))) (ms : List (Vec Meaning))
-    → {kids : List Identity} {counted edges_from named_from : List CrateRecord} {edges : List KeptEdge} {features : List EnabledFeature}
-    → kids ≡ x.krates.items → counted ≡ records → edges_from ≡ records → edges ≡ x.edges.items → named_from ≡ records → features ≡ x.features.items
-    → AllZip (IsRecordOf r) kids records → ns ≡ map count_in counted → map texts_view gs ≡ map (given_in edges_from) edges → AllZip (MeaningsRecorded r s.all_named named_from) features (map meanings_view ms)
-    → AreGathered r s x records ns gs ms
-gathered_by_reading r s x records ns gs ms {edges = edges} {features = features} krates_read counted_read from_read edges_read named_read features_read each counts givens names = record {
+-- what each call gives about the records that it reads is about those of the selection
+pub gathered_by_reading : (r : Resolved) (s : SettingModel) (x : Selection) (records : List CrateRecord) (ns : List ℕ) (ks : List CrateRow) (ls : List EdgeRow) (fs : List FeatureRow)
+    → {kids : List Identity} {counted edges_from named_from : List CrateRecord} → kids ≡ x.krates.items → counted ≡ records → edges_from ≡ records → named_from ≡ records
+    → AllZip (IsRecordOf r) kids records → ns ≡ map count_in counted → ks ≡ map (λ pair. record { id = pair.0; declared = pair.1 }) (zip x.krates.items ns)
+    → AllZip (IsEdgeWith edges_from) x.edges.items ls → AllZip (IsFeatureWith r s.all_named named_from) x.features.items fs → AreGathered r s x records ns ks ls fs
+gathered_by_reading r s x records ns ks ls fs krates_read counted_read from_read named_read each counts krates links features = record {
   each = subst (λ (xs : List Identity). AllZip (IsRecordOf r) xs records) krates_read each;
   counts = counts ∙ ap (map count_in) counted_read;
-  givens = givens ∙ (ap (λ xs. map (given_in xs) edges) from_read ∙ ap (map (given_in records)) edges_read);
-  names = subst (λ (xs : List EnabledFeature). AllZip (MeaningsRecorded r s.all_named records) xs (map meanings_view ms)) features_read
-      (subst (λ (xs : List CrateRecord). AllZip (MeaningsRecorded r s.all_named xs) features (map meanings_view ms)) named_read names);
+  krates = krates;
+  links = subst (λ (xs : List CrateRecord). AllZip (IsEdgeWith xs) x.edges.items ls) from_read links;
+  features = subst (λ (xs : List CrateRecord). AllZip (IsFeatureWith r s.all_named xs) x.features.items fs) named_read features;
 }
-
--- the lists have each item of the selection with what is beside it
-pub record AreMadeOf (x : Selection) (ns : List ℕ) (gs : List (Vec (String Global))) (ms : List (Vec Meaning)) (ks : List CrateRow) (ls : List EdgeRow) (fs : List FeatureRow) : Type 0 where
-  pub krates : ks ≡ map (λ pair. record { id = pair.0; declared = pair.1 }) (zip x.krates.items ns)
-  pub links : ls ≡ map (λ pair. record { edge = pair.0; given = pair.1 }) (zip x.edges.items gs)
-  pub features : fs ≡ map (λ pair. record { feature = pair.0; meanings = pair.1 }) (zip x.features.items ms)
 
 -- the count beside a crate
 record CountRecorded (r : Resolved) (i : Identity) (n : ℕ) : Type 0 where
@@ -83,12 +73,6 @@ counts_recorded r [] [] z = tt
 counts_recorded r [] (t ∷ ts) z = absurd z
 counts_recorded r (i ∷ is) [] z = absurd z
 counts_recorded r (i ∷ is) (t ∷ ts) z = (record { found = t; is = z.0; count = refl }, counts_recorded r is ts z.1)
-
-zip_unmapped : {A B C : Type 0} (R : A → C → Type 0) (g : B → C) (xs : List A) (ys : List B) → AllZip R xs (map g ys) → AllZip (λ x y. R x (g y)) xs ys
-zip_unmapped R g [] [] z = tt
-zip_unmapped R g [] (y ∷ ys) z = absurd z
-zip_unmapped R g (x ∷ xs) [] z = absurd z
-zip_unmapped R g (x ∷ xs) (y ∷ ys) z = (z.0, zip_unmapped R g xs ys z.1)
 
 -- ---- what the document has for the crate of a number
 
@@ -131,9 +115,9 @@ at_place r s kids e w p none h =
     subst (λ (z : PackageModel). slice_get z.dependencies e.declared ≡ Some w.dependency) same
     (declared_stands a.pkg.dependencies (dependency_entry (id_at kids e.child) a.dep) (kind_info_of (edge_view kids e)) e.declared w.dependency a.declared)
 
-link_recorded : (r : Resolved) (s : SettingModel) (kids : List Identity) (records : List CrateRecord) (e : KeptEdge) (v : Vec (String Global)) → NoneDoubled r.metadata r.graph → AllZip (IsRecordOf r) kids records → HasEnds (length kids) e → IsPlaced r s kids e
-    → (NoNode r (id_at kids e.child) → ⊥) → given_in records e ≡ texts_view v → IsEdgeRow r s kids e (edge_row_view kids (record { edge = e; given = v }))
-link_recorded r s kids records e v none z ends w some is =
+link_recorded : (r : Resolved) (s : SettingModel) (kids : List Identity) (records : List CrateRecord) (e : KeptEdge) (l : EdgeRow) → NoneDoubled r.metadata r.graph → AllZip (IsRecordOf r) kids records → HasEnds (length kids) e → IsPlaced r s kids e
+    → (NoNode r (id_at kids e.child) → ⊥) → IsEdgeWith records e l → IsEdgeRow r s kids e (edge_row_view kids l)
+link_recorded r s kids records e l none z ends w some is =
     let a = w.declared.declares in
     let parent = record_at r kids records e.parent z ends.parent in
     let child = record_at r kids records e.child z ends.child in
@@ -143,25 +127,34 @@ link_recorded r s kids records e v none z ends w some is =
     ap (λ o. dependency_in (of_crate package_in o) e.declared) parent.at ∙ (ap (λ o. dependency_in o e.declared) p.1 ∙ at_place r s kids e w p.0 none p.2) in
     let node : node_at records e.child ≡ Some n.0 = ap (of_crate node_in) child.at ∙ n.1 in
     record {
-      edge = refl;
-      place = refl;
+      edge = ap (edge_view kids) is.edge;
+      place = ap (λ (z : KeptEdge). z.declared) is.edge;
       dependency = w.dependency;
-      declared = w.declared;
+      declared = subst (λ (z : KeptEdge). IsDeclaredAt r s (edge_view kids z) z.declared w.dependency) (sym is.edge) w.declared;
       node = n.0;
-      has_node = n.2;
-      given = sym is ∙ (ap (λ o. listed_of o (node_at records e.child)) declared ∙ ap (listed_of (Some w.dependency)) node);
+      has_node = subst (λ (z : KeptEdge). HasNode r (id_at kids z.child) n.0) (sym is.edge) n.2;
+      given = is.given ∙ (ap (λ o. listed_of o (node_at records e.child)) declared ∙ ap (listed_of (Some w.dependency)) node);
     }
 
-named_recorded : (r : Resolved) (all : Bool) (kids : List Identity) (records : List CrateRecord) (f : EnabledFeature) (v : Vec Meaning) → AllZip (IsRecordOf r) kids records → HasHome (length kids) f → (NoPackage r (id_at kids f.krate) → ⊥)
-    → MeaningsRecorded r all records f (meanings_view v) → IsFeatureRow r all kids f (feature_row_view kids (record { feature = f; meanings = v }))
-named_recorded r all kids records f v z home some h =
+named_recorded : (r : Resolved) (all : Bool) (kids : List Identity) (records : List CrateRecord) (f : EnabledFeature) (n : FeatureRow) → AllZip (IsRecordOf r) kids records → HasHome (length kids) f → (NoPackage r (id_at kids f.krate) → ⊥)
+    → IsFeatureWith r all records f n → IsFeatureRow r all kids f (feature_row_view kids n)
+named_recorded r all kids records f n z home some h =
     let here = record_at r kids records f.krate z home in
     let i = id_at kids f.krate in
     let p = some_package r i (package_in here.here) here.pkg some in
     let name = text_view f.name in
-    let meant : AreMeant r all (Some here.here) name (meanings_view v) = subst (λ o. AreMeant r all o name (meanings_view v)) here.at h in
-    let of_it : AllZip (IsMeaning r all i) (values_in (package_in here.here) name) (meanings_view v) = subst (λ j. AllZip (IsMeaning r all j) (values_in (package_in here.here) name) (meanings_view v)) here.krate meant in
-    record { krate = refl; name = refl; pkg = p.0; has_package = p.2; meanings = subst (λ o. AllZip (IsMeaning r all i) (values_in o name) (meanings_view v)) p.1 of_it }
+    let told = map meaning_view n.meanings.items in
+    let meant : AreMeant r all (Some here.here) name told = subst (λ o. AreMeant r all o name told) here.at h.meanings in
+    let of_it : AllZip (IsMeaning r all i) (values_in (package_in here.here) name) told = subst (λ j. AllZip (IsMeaning r all j) (values_in (package_in here.here) name) told) here.krate meant in
+    let krate : id_at kids n.feature.krate ≡ i = ap (λ (x : EnabledFeature). id_at kids x.krate) h.feature in
+    let named : text_view n.feature.name ≡ name = ap (λ (x : EnabledFeature). text_view x.name) h.feature in
+    record {
+      krate = krate;
+      name = named;
+      pkg = p.0;
+      has_package = subst (λ (z : EnabledFeature). HasPackage r (id_at kids z.krate) p.0) (sym h.feature) p.2;
+      meanings = rw (krate, named) (subst (λ o. AllZip (IsMeaning r all i) (values_in o name) told) p.1 of_it);
+    }
 
 -- ---- whole lists
 
@@ -172,6 +165,20 @@ made_zip R Q make view [] [] h z = tt
 made_zip R Q make view [] (y ∷ ys) h z = absurd z
 made_zip R Q make view (x ∷ xs) [] h z = absurd z
 made_zip R Q make view (x ∷ xs) (y ∷ ys) h z = (h x y (inl refl) z.0, made_zip R Q make view xs ys (λ a b m. h a b (inr m)) z.1)
+
+-- the same where the rows are there
+seen_rows : {A B D : Type 0} (R : A → B → Type 0) (Q : A → D → Type 0) (view : B → D) (xs : List A) (ys : List B) → ((x : A) (y : B) → Member xs x → R x y → Q x (view y)) → AllZip R xs ys → AllZip Q xs (map view ys)
+seen_rows R Q view [] [] h z = tt
+seen_rows R Q view [] (y ∷ ys) h z = absurd z
+seen_rows R Q view (x ∷ xs) [] h z = absurd z
+seen_rows R Q view (x ∷ xs) (y ∷ ys) h z = (h x y (inl refl) z.0, seen_rows R Q view xs ys (λ a b m. h a b (inr m)) z.1)
+
+-- rows of these items are rows of the list
+rows_of : {A B : Type 0} (R : A → B → Type 0) (back : B → A) (xs : List A) (ys : List B) → ((x : A) (y : B) → R x y → back y ≡ x) → AllZip R xs ys → map back ys ≡ xs
+rows_of R back [] [] h z = refl
+rows_of R back [] (y ∷ ys) h z = absurd z
+rows_of R back (x ∷ xs) [] h z = absurd z
+rows_of R back (x ∷ xs) (y ∷ ys) h z = ap (λ a. a ∷ map back ys) (h x y z.0) ∙ ap (λ rest. x ∷ rest) (rows_of R back xs ys h z.1)
 
 -- ---- what a kept crate has
 
@@ -201,30 +208,18 @@ all_under f P xs h = All-from_recursion (λ x. P (f x)) xs (each (λ x. P (f x))
 abbrev make_krate : Identity → ℕ → CrateRow
 make_krate i n = record { id = i; declared = n }
 
-abbrev make_link : KeptEdge → Vec (String Global) → EdgeRow
-make_link e v = record { edge = e; given = v }
-
-abbrev make_named : EnabledFeature → Vec Meaning → FeatureRow
-make_named f v = record { feature = f; meanings = v }
-
-module _ (r : Resolved) (s : SettingModel) (x : Selection) (records : List CrateRecord) (ns : List ℕ) (gs : List (Vec (String Global))) (ms : List (Vec Meaning)) (ks : Vec CrateRow) (ls : Vec EdgeRow) (fs : Vec FeatureRow) (h : IsSelection r s x) (w : AreGathered r s x records ns gs ms) (m : AreMadeOf x ns gs ms ks.items ls.items fs.items) where
+module _ (r : Resolved) (s : SettingModel) (x : Selection) (records : List CrateRecord) (ns : List ℕ) (ks : Vec CrateRow) (ls : Vec EdgeRow) (fs : Vec FeatureRow) (h : IsSelection r s x) (w : AreGathered r s x records ns ks.items ls.items fs.items) where
   counts : AllZip (CountRecorded r) x.krates.items ns
   counts = subst (AllZip (CountRecorded r) x.krates.items) (sym w.counts) (counts_recorded r x.krates.items records w.each)
 
-  givens : AllZip (λ e v. given_in records e ≡ texts_view v) x.edges.items gs
-  givens = zip_by (given_in records) texts_view x.edges.items gs (sym w.givens)
-
-  names : AllZip (λ f v. MeaningsRecorded r s.all_named records f (meanings_view v)) x.features.items ms
-  names = zip_unmapped (MeaningsRecorded r s.all_named records) meanings_view x.features.items ms w.names
-
   same_kids : kids_of ks.items ≡ x.krates.items
-  same_kids = ap (map (λ (k : CrateRow). k.id)) m.krates ∙ first_parts (CountRecorded r) make_krate (λ (k : CrateRow). k.id) x.krates.items ns (λ i n. refl) counts
+  same_kids = ap (map (λ (k : CrateRow). k.id)) w.krates ∙ first_parts (CountRecorded r) make_krate (λ (k : CrateRow). k.id) x.krates.items ns (λ i n. refl) counts
 
   same_edges : map (λ (l : EdgeRow). l.edge) ls.items ≡ x.edges.items
-  same_edges = ap (map (λ (l : EdgeRow). l.edge)) m.links ∙ first_parts (λ e v. given_in records e ≡ texts_view v) make_link (λ (l : EdgeRow). l.edge) x.edges.items gs (λ e v. refl) givens
+  same_edges = rows_of (IsEdgeWith records) (λ (l : EdgeRow). l.edge) x.edges.items ls.items (λ e l is. is.edge) w.links
 
   same_features : map (λ (n : FeatureRow). n.feature) fs.items ≡ x.features.items
-  same_features = ap (map (λ (n : FeatureRow). n.feature)) m.features ∙ first_parts (λ f v. MeaningsRecorded r s.all_named records f (meanings_view v)) make_named (λ (n : FeatureRow). n.feature) x.features.items ms (λ f v. refl) names
+  same_features = rows_of (IsFeatureWith r s.all_named records) (λ (n : FeatureRow). n.feature) x.features.items fs.items (λ f n is. is.feature) w.features
 
   as_many : length x.krates.items ≡ length ks.items
   as_many = sym (ap length same_kids) ∙ length-map ks.items (λ (k : CrateRow). k.id)
@@ -234,21 +229,21 @@ module _ (r : Resolved) (s : SettingModel) (x : Selection) (records : List Crate
   krates_made = made_zip (CountRecorded r) (IsCrateRow r) make_krate crate_row_view x.krates.items ns
       (λ i n at c. krate_recorded r i n (has_package r s (id_of i) ((h.facts (crate_fact i)).1 (crate_there x i at))) c) counts
 
-  links_made : NoneDoubled r.metadata r.graph → AllZip (IsEdgeRow r s x.krates.items) x.edges.items (map (edge_row_view x.krates.items) (map (λ pair. make_link pair.0 pair.1) (zip x.edges.items gs)))
-  links_made none = made_zip (λ e v. given_in records e ≡ texts_view v) (IsEdgeRow r s x.krates.items) make_link (edge_row_view x.krates.items) x.edges.items gs
-      (λ e v at is. (
+  links_made : NoneDoubled r.metadata r.graph → AllZip (IsEdgeRow r s x.krates.items) x.edges.items (map (edge_row_view x.krates.items) ls.items)
+  links_made none = seen_rows (IsEdgeWith records) (IsEdgeRow r s x.krates.items) (edge_row_view x.krates.items) x.edges.items ls.items
+      (λ e l at is. (
       let among = contains_of x.edges.items e at in
       let kept = (h.facts (edge_fact x.krates.items e)).1 (edge_there x e at) in
-      link_recorded r s x.krates.items records e v none w.each (All-contains (HasEnds (length x.krates.items)) x.edges.items e h.ends among) (All-contains (IsPlaced r s x.krates.items) x.edges.items e h.placed among)
-      (has_node r s (id_at x.krates.items e.child) (child_kept (questions r s) (edge_view x.krates.items e) kept)) is)) givens
+      link_recorded r s x.krates.items records e l none w.each (All-contains (HasEnds (length x.krates.items)) x.edges.items e h.ends among) (All-contains (IsPlaced r s x.krates.items) x.edges.items e h.placed among)
+      (has_node r s (id_at x.krates.items e.child) (child_kept (questions r s) (edge_view x.krates.items e) kept)) is)) w.links
 
-  features_made : AllZip (IsFeatureRow r s.all_named x.krates.items) x.features.items (map (feature_row_view x.krates.items) (map (λ pair. make_named pair.0 pair.1) (zip x.features.items ms)))
-  features_made = made_zip (λ f v. MeaningsRecorded r s.all_named records f (meanings_view v)) (IsFeatureRow r s.all_named x.krates.items) make_named (feature_row_view x.krates.items) x.features.items ms
-      (λ f v at is. (
+  features_made : AllZip (IsFeatureRow r s.all_named x.krates.items) x.features.items (map (feature_row_view x.krates.items) fs.items)
+  features_made = seen_rows (IsFeatureWith r s.all_named records) (IsFeatureRow r s.all_named x.krates.items) (feature_row_view x.krates.items) x.features.items fs.items
+      (λ f n at is. (
       let home = All-contains (HasHome (length x.krates.items)) x.features.items f h.homes (contains_of x.features.items f at) in
       let i = id_at x.krates.items f.krate in
       let kept = crate_of_feature (questions r s) i (text_view f.name) ((h.facts (feature_fact x.krates.items f)).1 (feature_there x f at)) in
-      named_recorded r s.all_named x.krates.items records f v w.each home (has_package r s i kept) is)) names
+      named_recorded r s.all_named x.krates.items records f n w.each home (has_package r s i kept) is)) w.features
 
   pub gathered : NoneDoubled r.metadata r.graph → IsOutline r s x (record {
     krates = map crate_row_view ks.items;
@@ -257,11 +252,9 @@ module _ (r : Resolved) (s : SettingModel) (x : Selection) (records : List Crate
     toggled = map (toggle_of (kids_of ks.items)) x.toggled.items;
   })
   gathered none = record {
-    krates = subst (λ zs. AllZip (IsCrateRow r) x.krates.items (map crate_row_view zs)) (sym m.krates) krates_made;
-    links = subst (λ is. AllZip (IsEdgeRow r s x.krates.items) x.edges.items (map (edge_row_view is) ls.items)) (sym same_kids)
-        (subst (λ zs. AllZip (IsEdgeRow r s x.krates.items) x.edges.items (map (edge_row_view x.krates.items) zs)) (sym m.links) (links_made none));
-    features = subst (λ is. AllZip (IsFeatureRow r s.all_named x.krates.items) x.features.items (map (feature_row_view is) fs.items)) (sym same_kids)
-        (subst (λ zs. AllZip (IsFeatureRow r s.all_named x.krates.items) x.features.items (map (feature_row_view x.krates.items) zs)) (sym m.features) features_made);
+    krates = subst (λ zs. AllZip (IsCrateRow r) x.krates.items (map crate_row_view zs)) (sym w.krates) krates_made;
+    links = subst (λ is. AllZip (IsEdgeRow r s x.krates.items) x.edges.items (map (edge_row_view is) ls.items)) (sym same_kids) (links_made none);
+    features = subst (λ is. AllZip (IsFeatureRow r s.all_named x.krates.items) x.features.items (map (feature_row_view is) fs.items)) (sym same_kids) features_made;
     toggled = ap (λ is. map (toggle_of is) x.toggled.items) same_kids;
   }
 

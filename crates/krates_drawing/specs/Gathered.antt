@@ -1,5 +1,5 @@
 -- What is gathered about kept crates, edges and features.
-use Rattle.std.specs.Prelude.{◌≡◌, ℕ, Bool, List, [], Option, Some, None, filter, length, slice_get}
+use Rattle.std.specs.Prelude.{◌≡◌, ℕ, Bool, List, [], Option, Some, None, filter, length, map, slice_get}
 use Rattle.std.specs.List.{AllZip}
 use Rattle.krates_cm.specs.Document.{Text, text_view, DependencyModel, PackageModel, NodeModel}
 use Rattle.krates_rules.specs.Resolved.{Resolved, id_of}
@@ -9,7 +9,10 @@ use Rattle.krates_questions.specs.FeatureValues.{values_of}
 use Rattle.krates_drawing.specs.Outline.{Meaning, IsMeaning, asked_by}
 use Rattle.krates_text.specs.Texts.{has_text}
 use Rattle.krates_drawing.specs.CrateRecord.{node_at, package_at, package_in}
+use Rattle.krates_drawing.specs.Views.{meaning_view}
 use Rattle.krates_drawing.specs.declared.crate_record.CrateRecord.{CrateRecord}
+use Rattle.krates_drawing.specs.declared.outline.EdgeRow.{EdgeRow}
+use Rattle.krates_drawing.specs.declared.outline.FeatureRow.{FeatureRow}
 
 -- how many dependencies a package declares; none where there is no package
 abbrev pub declared_in : Option PackageModel → ℕ
@@ -45,3 +48,13 @@ AreMeant r all (Some t) name meanings = AllZip (IsMeaning r all (id_of t.krate.n
 
 abbrev pub MeaningsRecorded : Resolved → Bool → List CrateRecord → EnabledFeature → List Meaning → Type 0
 MeaningsRecorded r all records f meanings = AreMeant r all (slice_get records f.krate) (text_view f.name) meanings
+
+-- the row is of this edge, with the features that it gives
+pub record IsEdgeWith (records : List CrateRecord) (e : KeptEdge) (row : EdgeRow) : Type 0 where
+  pub edge : row.edge ≡ e
+  pub given : map text_view row.given.items ≡ given_in records e
+
+-- the row is of this feature, with what its references mean
+pub record IsFeatureWith (r : Resolved) (all : Bool) (records : List CrateRecord) (f : EnabledFeature) (row : FeatureRow) : Type 0 where
+  pub feature : row.feature ≡ f
+  pub meanings : MeaningsRecorded r all records f (map meaning_view row.meanings.items)

@@ -8,14 +8,14 @@ use Rattle.krates_ids.specs.Identity.{Identity}
 use Rattle.krates_selection.specs.CrateNumbers.{id_at, no_id}
 use Rattle.krates_selection.specs.Selection.{edge_view}
 use Rattle.krates_drawing.specs.Drawing as drawing
-use Rattle.krates_drawing.specs.Drawing.{EdgeModel, Dep, Feature, DepFeature, PlannedCrate, PlannedFeature}
+use Rattle.krates_drawing.specs.Drawing.{EdgeModel, Dep, Feature, DepFeature, PlannedFeature, mapping, planned_feature}
 use Rattle.krates_drawing.specs.Outline as model
 use Rattle.krates_drawing.specs.Outline.{OwnFeature, Crates, FeatureOf, toggle_of}
 use Rattle.krates_drawing.specs.declared.edge.PlannedEdge.{PlannedEdge}
 use Rattle.krates_drawing.specs.declared.edge.Edge.{Edge}
 use Rattle.krates_drawing.specs.declared.edge.Edge.TheVariants as edge
-use Rattle.krates_drawing.specs.declared.nodes.PlannedNode as drawn
-use Rattle.krates_drawing.specs.declared.nodes.PlannedNode.TheVariants as planned
+use Rattle.krates_drawing.specs.declared.nodes.PlannedFeature as nodes
+use Rattle.krates_drawing.specs.declared.nodes.PlannedNodes.{PlannedNodes}
 use Rattle.krates_drawing.specs.declared.outline.CrateRow.{CrateRow}
 use Rattle.krates_drawing.specs.declared.outline.EdgeRow.{EdgeRow}
 use Rattle.krates_drawing.specs.declared.outline.Meaning.{Meaning}
@@ -83,9 +83,14 @@ Draws old new ls = map planned_edge_view new.items ≡ map planned_edge_view old
 abbrev pub IsFew : Outline → Type 0
 IsFew t = length t.krates.items + length t.features.items < 2 ^ 32
 
-abbrev pub planned_node_view : drawn.PlannedNode → drawing.PlannedNode
-planned_node_view (planned.Krate id mapping) = PlannedCrate (id_of id) mapping.items
-planned_node_view (planned.Feature krate_index name) = PlannedFeature krate_index (text_view name)
+-- the planned node of a feature, as the drawing has it
+abbrev pub planned_feature_view : nodes.PlannedFeature → drawing.PlannedNode
+planned_feature_view f = PlannedFeature f.krate_index (text_view f.name)
+
+-- these are the nodes of the outline's graph: the mapping of each crate, and each feature
+pub record ArePlannedNodes (t : model.Outline) (planned : PlannedNodes) : Type 0 where
+  pub mappings : map (λ m. m.items) planned.mappings.items ≡ map (mapping t) t.krates
+  pub features : map planned_feature_view planned.features.items ≡ map (planned_feature t) t.features
 
 -- what there is, as a list
 abbrev pub listed : {A : Type 0} → Option A → List A

@@ -2,14 +2,13 @@
 
 ghost use Rattle.std.specs.Prelude.{◌≡◌, Some, map, length, slice_get, option_map, zip, IfOk};
 ghost use Rattle.std.specs.List.{AllZip};
-ghost use Rattle.krates_cm.specs.Document.{dependency_view, package_view, text_view, texts_view};
-ghost use Rattle.krates_rules.specs.Admission.{NoneDoubled};
-ghost use Rattle.krates_questions.specs.Lookup.{resolved_view};
+ghost use Rattle.krates_cm.specs.Document.{dependency_view, package_view, text_view};
+ghost use Rattle.krates_questions.specs.Lookup.{IsLookup, resolved_view};
 ghost use Rattle.krates_selection.specs.Selection.{IsSelection};
 ghost use Rattle.krates_drawing.specs.Outline.{IsOutline};
-ghost use Rattle.krates_drawing.specs.Gathered.{MeaningsRecorded, count_in, dependency_in, given_in, values_in};
+ghost use Rattle.krates_drawing.specs.Gathered.{IsEdgeWith, IsFeatureWith, MeaningsRecorded, count_in, dependency_in, given_in, values_in};
 ghost use Rattle.krates_drawing.specs.CrateRecord.{package_at as package_recorded};
-ghost use Rattle.krates_drawing.specs.Views.{meaning_view, meanings_view, outline_view};
+ghost use Rattle.krates_drawing.specs.Views.{meaning_view, outline_view};
 
 use crate::crate_record::{CrateRecord, node_at, package_at, records_of};
 use crate::meanings::{given_of, meanings_of};
@@ -114,38 +113,40 @@ fn counts_of(alloc: Global, records: &[CrateRecord<'_, '_>]) -> Result<Vec<usize
     Ok(counts)
 }
 
-/// The features that the edges give.
-fn givens_of(
+/// The edges, each with the features that it gives.
+fn edge_rows(
     alloc: Global,
     records: &[CrateRecord<'_, '_>],
-    edges: &[KeptEdge],
-) -> Result<Vec<Vec<String>>, AllocError>
-    ensures { IfOk result (λ givens. map texts_view givens.items ≡ map (given_in records.now) edges.now) }
+    edges: Vec<KeptEdge>,
+) -> Result<Vec<EdgeRow>, AllocError>
+    ensures { IfOk result (λ rows. AllZip (IsEdgeWith records.now) edges.items rows.items) }
 {
-    let mut givens = Vec::with_capacity(alloc, edges.len())?;
+    let mut rows = Vec::with_capacity(alloc, edges.len())?;
     for edge in edges {
-        givens.push(given_by(alloc, records, edge)?)?;
+        let given = given_by(alloc, records, &edge)?;
+        rows.push(EdgeRow { edge, given })?;
     }
-    Ok(givens)
+    Ok(rows)
 }
 
-/// What the references of the features name.
-fn reference_meanings<'a>(
+/// The features, each with what its references name.
+fn feature_rows<'a>(
     alloc: Global,
     document: &Document<'a>,
     setting: &Setting,
     records: &[CrateRecord<'_, 'a>],
-    features: &[EnabledFeature],
-) -> Result<Vec<Vec<Meaning>>, AllocError>
+    features: Vec<EnabledFeature>,
+) -> Result<Vec<FeatureRow>, AllocError>
     ensures { let all = setting.now.all_named in
-        IfOk result (λ names. AllZip (MeaningsRecorded (resolved_view document.now) all records.now)
-        features.now (map meanings_view names.items)) }
+        IfOk result (λ rows. AllZip (IsFeatureWith (resolved_view document.now) all records.now)
+        features.items rows.items) }
 {
-    let mut names = Vec::with_capacity(alloc, features.len())?;
+    let mut rows = Vec::with_capacity(alloc, features.len())?;
     for feature in features {
-        names.push(meanings_by(alloc, document, setting, records, feature)?)?;
+        let meanings = meanings_by(alloc, document, setting, records, &feature)?;
+        rows.push(FeatureRow { feature, meanings })?;
     }
-    Ok(names)
+    Ok(rows)
 }
 
 /// Each crate with the number at its place.
@@ -164,38 +165,6 @@ fn krates_with(
         .collect(alloc)
 }
 
-/// Each edge with the features at its place.
-fn links_with(
-    alloc: Global,
-    edges: Vec<KeptEdge>,
-    givens: Vec<Vec<String>>,
-) -> Result<Vec<EdgeRow>, AllocError>
-    ensures { IfOk result (λ v. v.items ≡ map (λ pair. record { edge = pair.0; given = pair.1 })
-        (zip edges.items givens.items)) }
-{
-    edges
-        .into_iter()
-        .zip(givens)
-        .map(|(edge, given)| EdgeRow { edge, given })
-        .collect(alloc)
-}
-
-/// Each feature with the meanings at its place.
-fn features_with(
-    alloc: Global,
-    features: Vec<EnabledFeature>,
-    names: Vec<Vec<Meaning>>,
-) -> Result<Vec<FeatureRow>, AllocError>
-    ensures { IfOk result (λ v. v.items ≡ map (λ pair. record { feature = pair.0; meanings = pair.1 })
-        (zip features.items names.items)) }
-{
-    features
-        .into_iter()
-        .zip(names)
-        .map(|(feature, meanings)| FeatureRow { feature, meanings })
-        .collect(alloc)
-}
-
 /// The outline of a selection under a setting: beside each crate, edge and feature what the document says of it.
 ///
 /// The only error is running out of memory. Time: O(n log n) for n crates, edges, features and references.
@@ -205,11 +174,11 @@ pub fn outline_of<'a>(
     setting: &Setting,
     selection: Selection,
 ) -> Result<Outline, AllocError>
-    requires distinct { NoneDoubled (resolved_view document.now).metadata (resolved_view document.now).graph }
     requires selected { IsSelection (resolved_view document.now) setting.now selection }
     ensures { IfOk result (λ outline. IsOutline (resolved_view document.now) setting.now selection
         (outline_view outline)) }
 {
+    document.agrees();
     let Selection {
         krates,
         edges,
@@ -222,12 +191,10 @@ pub fn outline_of<'a>(
     drop(steps);
     let records = records_of(alloc, document, &krates)?;
     let counts = counts_of(alloc, &records)?;
-    let givens = givens_of(alloc, &records, &edges)?;
-    let names = reference_meanings(alloc, document, setting, &records, &features)?;
+    let links = edge_rows(alloc, &records, edges)?;
+    let features = feature_rows(alloc, document, setting, &records, features)?;
     drop(records);
     let krates = krates_with(alloc, krates, counts)?;
-    let links = links_with(alloc, edges, givens)?;
-    let features = features_with(alloc, features, names)?;
     Ok(Outline {
         krates,
         links,

@@ -3,10 +3,10 @@ ghost use Rattle.std.specs.Prelude.{◌≡◌, ◌<◌, ◌≤◌, IfErr, IfOk, 
 ghost use Rattle.std.specs.Bool.{MatchBool};
 ghost use Rattle.krates_drawing.specs.Drawing.{planned_edges, planned_nodes};
 ghost use Rattle.krates_drawing.specs.Limits.{DrawingRefusal, IsWithin};
-ghost use Rattle.krates_drawing.specs.Views.{planned_edge_view, outline_view, planned_node_view};
+ghost use Rattle.krates_drawing.specs.Views.{ArePlannedNodes, planned_edge_view, outline_view};
 
 use crate::edge::PlannedEdge;
-use crate::nodes::{PlannedNode, draw_nodes};
+use crate::nodes::{PlannedNodes, plan_nodes};
 use crate::outline::Outline;
 use crate::plan::plan;
 use krates_ids::Error;
@@ -25,7 +25,7 @@ pub struct Limits {
 #[derive(Drop)]
 pub struct Plan {
     /// The nodes, before packages are put into them.
-    pub planned_nodes: Vec<PlannedNode>,
+    pub planned_nodes: PlannedNodes,
     /// The edges.
     pub planned_edges: Vec<PlannedEdge>,
 }
@@ -46,8 +46,7 @@ fn has_room(outline: &Outline, nodes: u32) -> bool
 ///
 /// Time: O(n log n) for n nodes and edges.
 pub fn plan_within(alloc: Global, outline: &Outline, limits: Limits) -> Result<Plan, Error>
-    ensures nodes { IfOk result (λ p. map planned_node_view p.planned_nodes.items
-        ≡ planned_nodes (outline_view outline.now)) }
+    ensures nodes { IfOk result (λ p. ArePlannedNodes (outline_view outline.now) p.planned_nodes) }
     ensures edges { IfOk result (λ p. map planned_edge_view p.planned_edges.items
         ≡ planned_edges (outline_view outline.now)) }
     ensures within { IfOk result (λ _. IsWithin limits (outline_view outline.now)) }
@@ -56,7 +55,7 @@ pub fn plan_within(alloc: Global, outline: &Outline, limits: Limits) -> Result<P
     if !has_room(outline, limits.nodes) {
         return Err(Error::TooMany);
     }
-    let planned_nodes = draw_nodes(alloc, outline)?;
+    let planned_nodes = plan_nodes(alloc, outline)?;
     let planned_edges = plan(alloc, outline)?;
     if planned_edges.len() > limits.edges as usize {
         return Err(Error::TooMany);

@@ -1,31 +1,33 @@
 //! The nodes, with the mappings of the crates.
-ghost use Rattle.std.specs.Prelude.{◌≡◌, ◌<◌, ◌++◌, length, map, IfOk, OnOk};
+ghost use Rattle.std.specs.Prelude.{◌≡◌, ◌<◌, length, map, IfOk};
 ghost use Rattle.std.specs.List.{range_with_len};
 ghost use Rattle.krates_selection.specs.CrateNumbers.{HasEnds};
-ghost use Rattle.krates_drawing.specs.Drawing.{planned_crate, planned_feature, mapped, mapping as mapping_of, planned_nodes};
+ghost use Rattle.krates_drawing.specs.Drawing.{planned_feature, mapped, mapping as mapping_of};
 ghost use Rattle.krates_drawing.specs.OutlineOrder.{AreByChild, HaveEnds, IsClaimed};
-ghost use Rattle.krates_drawing.specs.Views.{IsFew, kids_in, krate_at, edge_row_view, planned_node_view, outline_view};
+ghost use Rattle.krates_drawing.specs.Views.{ArePlannedNodes, IsFew, kids_in, krate_at, edge_row_view, planned_feature_view, outline_view};
 
 use crate::equal_ranges::links_from;
 use crate::numbers::crate_number;
 use crate::outline::{EdgeRow, Outline};
 use krates_graph::graph::NodeId;
-use krates_ids::Kid;
 use std::alloc::{AllocError, Global};
 
-/// A node of the graph, before its package is put into it.
+/// The node of an enabled feature.
 #[derive(Drop)]
-pub enum PlannedNode {
-    /// A kept crate, with the numbers of the crates that its declared dependencies mean.
-    Krate {
-        id: Kid,
-        mapping: Vec<Option<NodeId>>,
-    },
-    /// An enabled feature of the crate of this number.
-    Feature {
-        krate_index: NodeId,
-        name: String,
-    },
+pub struct PlannedFeature {
+    /// The number of its crate.
+    pub krate_index: NodeId,
+    /// Its name.
+    pub name: String,
+}
+
+/// What the nodes of the graph hold beside packages: first the nodes of the crates, then those of the features.
+#[derive(Drop)]
+pub struct PlannedNodes {
+    /// For each crate, the numbers of the crates that its declared dependencies mean.
+    pub mappings: Vec<Vec<Option<NodeId>>>,
+    /// The features.
+    pub features: Vec<PlannedFeature>,
 }
 
 /// Writes the number of the crate to which the edge leads at the place of its declared dependency.
@@ -81,49 +83,46 @@ fn mapping(
     )
 }
 
-fn push_crates(
-    alloc: Global,
-    outline: &Outline,
-    out: &mut Vec<PlannedNode>,
-) -> Result<(), AllocError>
+/// The mappings of the crates.
+fn mappings(alloc: Global, outline: &Outline) -> Result<Vec<Vec<Option<NodeId>>>, AllocError>
     requires few { IsFew outline.now }
-    ensures { OnOk result (map planned_node_view out.new.items ≡ map planned_node_view out.old.items
-        ++ map (planned_crate (outline_view outline.now)) (outline_view outline.now).krates) }
+    ensures { IfOk result (λ v. map (λ m. m.items) v.items
+        ≡ map (mapping_of (outline_view outline.now)) (outline_view outline.now).krates) }
 {
-    for (krate, x) in outline.krates.iter().enumerate() {
-        out.push(PlannedNode::Krate {
-            id: x.id.clone()?,
-            mapping: mapping(alloc, outline, krate)?,
-        })?;
+    let mut mappings = Vec::with_capacity(alloc, outline.krates.len())?;
+    for krate in 0..outline.krates.len() {
+        mappings.push(mapping(alloc, outline, krate)?)?;
     }
-    Ok(())
+    Ok(mappings)
 }
 
-fn push_features(outline: &Outline, out: &mut Vec<PlannedNode>) -> Result<(), AllocError>
+/// The nodes of the features.
+fn planned_features(alloc: Global, outline: &Outline) -> Result<Vec<PlannedFeature>, AllocError>
     requires few { IsFew outline.now }
-    ensures { OnOk result (map planned_node_view out.new.items ≡ map planned_node_view out.old.items
-        ++ map (planned_feature (outline_view outline.now)) (outline_view outline.now).features) }
+    ensures { IfOk result (λ v. map planned_feature_view v.items
+        ≡ map (planned_feature (outline_view outline.now)) (outline_view outline.now).features) }
 {
+    let mut features = Vec::with_capacity(alloc, outline.features.len())?;
     for x in &outline.features {
         let krate_index = crate_number(outline, x.feature.krate);
-        out.push(PlannedNode::Feature {
+        features.push(PlannedFeature {
             krate_index,
             name: x.feature.name.clone()?,
         })?;
     }
-    Ok(())
+    Ok(features)
 }
 
 /// All nodes of the selection's graph, in the order of their numbers: the crates by id, then the features by crate
 /// and name. The only error is running out of memory.
 ///
 /// Time: O(n log n) for n nodes.
-pub fn draw_nodes(alloc: Global, outline: &Outline) -> Result<Vec<PlannedNode>, AllocError>
+pub fn plan_nodes(alloc: Global, outline: &Outline) -> Result<PlannedNodes, AllocError>
     requires few { IsFew outline.now }
-    ensures { IfOk result (λ v. map planned_node_view v.items ≡ planned_nodes (outline_view outline.now)) }
+    ensures { IfOk result (ArePlannedNodes (outline_view outline.now)) }
 {
-    let mut out = Vec::with_capacity(alloc, outline.krates.len() + outline.features.len())?;
-    push_crates(alloc, outline, &mut out)?;
-    push_features(outline, &mut out)?;
-    Ok(out)
+    Ok(PlannedNodes {
+        mappings: mappings(alloc, outline)?,
+        features: planned_features(alloc, outline)?,
+    })
 }

@@ -7,7 +7,7 @@ use Rattle.std.specs.Ordering.{nat_cmp, ordering_then}
 use Rattle.std.specs.declared.alloc.Global.{Global}
 use Rattle.std.specs.declared.cmp.Ordering.{Ordering}
 use Rattle.krates_cm.specs.Document.{Text}
-use Rattle.krates_selection.specs.declared.kept.Explanation.{Explanation}
+use Rattle.krates_selection.specs.declared.kept.KeptStep.{KeptStep}
 use Rattle.krates_graph.specs.Graph.{StoredGraph}
 use Rattle.krates_ids.specs.Identity.{Identity, id_cmp}
 use Rattle.krates_rules.specs.Facts.{Id}
@@ -22,7 +22,7 @@ pub record KeptCrates (N E : Type 0) : Type 0 where
   pub members : List ℕ
   pub workspace_root : Text
   pub work : Work
-  pub explanation : Explanation
+  pub steps : List KeptStep
 
 -- the ids of the kept crates
 abbrev pub ids_of : {N E : Type 0} → KeptCrates N E → List Identity

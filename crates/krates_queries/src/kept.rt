@@ -11,7 +11,7 @@ use krates_cm::Package;
 use krates_drawing::edge::Edge;
 use krates_drawing::node::Node;
 use krates_graph::graph::{Graph, NodeId};
-use krates_selection::{Explanation, Work};
+use krates_selection::{KeptStep, Work};
 use std::alloc::Global;
 use std::marker::Model;
 
@@ -20,8 +20,8 @@ use std::marker::Model;
 pub struct Findings {
     /// How much work it was.
     pub work: Work,
-    /// Why all that it keeps is kept.
-    pub explanation: Explanation,
+    /// The steps by which all that it keeps is kept, its crates by number.
+    pub steps: Vec<KeptStep>,
 }
 
 /// The graph of the crates that a build keeps, and the path of the workspace.
@@ -35,7 +35,7 @@ pub struct Krates<N = Package, E = Edge> {
     members: Vec<NodeId>,
     workspace_root: String,
     work: Work,
-    explanation: Explanation,
+    steps: Vec<KeptStep>,
 }
 
 impl<N, E> Model for Krates<N, E> {
@@ -52,14 +52,14 @@ impl<N, E> Model for Krates<N, E> {
       members = k.members.items;
       workspace_root = string_bytes k.workspace_root;
       work = k.work;
-      explanation = k.explanation;
+      steps = k.steps.items;
     } };
 
     ghost invariant = { λ k. AreNodes k.graph.nodes
         × (k.count ≡ length (crate_ids k.graph.nodes))
         × AreCrateNumbers k.graph.nodes k.members.items
         × AreConnected k.graph.nodes k.graph.edges
-        × AreExplained k.graph.nodes k.explanation };
+        × AreExplained k.graph.nodes k.steps.items };
 }
 
 impl<N, E> Krates<N, E> {
@@ -77,13 +77,13 @@ impl<N, E> Krates<N, E> {
         requires counted { count ≡ length (crate_ids graph.nodes) }
         requires members { AreCrateNumbers graph.nodes members.items }
         requires connected { AreConnected graph.nodes graph.edges }
-        requires explained { AreExplained graph.nodes findings.explanation }
+        requires explained { AreExplained graph.nodes findings.steps.items }
         ensures { result ≡ record {
           graph = graph;
           members = members.items;
           workspace_root = string_bytes workspace_root;
           work = findings.work;
-          explanation = findings.explanation;
+          steps = findings.steps.items;
         } }
     {
         Krates {
@@ -92,7 +92,7 @@ impl<N, E> Krates<N, E> {
             members,
             workspace_root,
             work: findings.work,
-            explanation: findings.explanation,
+            steps: findings.steps,
         }
     }
 
@@ -143,11 +143,11 @@ impl<N, E> Krates<N, E> {
     }
 
     /// The steps by which all that is kept is kept.
-    pub(crate) fn explanation(&self) -> &Explanation
-        ensures explanation { result.now ≡ self.now.explanation }
+    pub(crate) fn steps(&self) -> &[KeptStep]
+        ensures steps { result.now ≡ self.now.steps }
         ensures explained { AreExplained self.now.graph.nodes result.now }
     {
-        &self.explanation
+        self.steps.as_slice()
     }
 
     /// Where memory comes from.

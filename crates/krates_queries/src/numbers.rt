@@ -1,6 +1,6 @@
 //! Crates among the nodes of a graph, found by their ids.
 
-ghost use Rattle.std.specs.Prelude.{◌≡◌, ◌↔◌, ◌<◌, ℕ, Some, length, option_map, slice_get};
+ghost use Rattle.std.specs.Prelude.{◌≡◌, ◌↔◌, ◌<◌, ◌∷◌, ◌++◌, [], ℕ, IfOk, OnOk, Some, length, map, option_map, slice_get};
 ghost use Rattle.krates_rules.specs.Resolved.{id_of, StandsAt};
 ghost use Rattle.krates_queries.specs.Kept.{AreNodes};
 ghost use Rattle.krates_drawing.specs.Node.{crate_ids, crate_features, names_in};
@@ -8,6 +8,7 @@ ghost use Rattle.krates_queries.specs.NodeOrder.{node_cmp};
 
 use krates_drawing::node::{EnabledFeatures, Node};
 use krates_ids::{Kid, laws};
+use std::alloc::{AllocError, Global};
 use std::cmp::Ordering;
 
 /// How a node compares with an id: a crate by its own, and a feature after every crate.
@@ -31,6 +32,31 @@ pub fn number_of<N>(nodes: &[Node<N>], kid: &Kid) -> Option<usize>
     match nodes.binary_search_by(|node| compare(node, kid)) {
         Ok(place) => Some(place),
         Err(_) => None,
+    }
+}
+
+/// The ids of the crates among the nodes, by number. The only error is running out of memory. Time: O(n).
+pub(crate) fn lent_ids<N>(alloc: Global, nodes: &[Node<N>]) -> Result<Vec<&Kid>, AllocError>
+    ensures { IfOk result (λ kids. map (λ kid. kid.now) kids.items ≡ crate_ids nodes.now) }
+{
+    let mut kids = Vec::new(alloc);
+    for node in nodes {
+        push_id(node, &mut kids)?;
+    }
+    Ok(kids)
+}
+
+/// Adds the id of a crate; nothing of a feature.
+fn push_id<'a, N>(node: &'a Node<N>, kids: &mut Vec<&'a Kid>) -> Result<(), AllocError>
+    ensures { OnOk result (map (λ kid. kid.now) kids.new.items
+        ≡ map (λ kid. kid.now) kids.old.items ++ crate_ids (node.now ∷ [])) }
+{
+    match node {
+        Node::Krate { id, .. } => match kids.push(id) {
+            Ok(()) => Ok(()),
+            Err(_) => Err(AllocError),
+        },
+        Node::Feature { .. } => Ok(()),
     }
 }
 

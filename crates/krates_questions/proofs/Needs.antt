@@ -8,7 +8,7 @@ use Rattle.krates_ids.specs.Identity.{Reads}
 use Rattle.krates_rules.specs.Admission.{NoneDoubled, dep_texts}
 use Rattle.krates_rules.specs.DeclaredDependency.{dependency_entry, IsDeclared, IsUndeclared}
 use Rattle.krates_rules.specs.Facts.{Id, Edge}
-use Rattle.krates_rules.specs.Questions.{Declares, IsDeclaredAs, IsLeftOut, ListsEdge, edge_between}
+use Rattle.krates_rules.specs.Questions.{Declares, IsDeclaredAs, ListsEdge, edge_between}
 use Rattle.krates_rules.specs.Resolved.{Resolved, HasNode, HasDep, id_of}
 use Rattle.krates_rules.specs.Setting.{SettingModel, IsIgnored, Passes}
 use Rattle.krates_questions.specs.NodeEntry.{IsEntry, parent_of, child_of, declared_in, entry_of, edge_for}
@@ -16,13 +16,12 @@ use Rattle.krates_questions.specs.declared.node_entry.NodeEntry.{NodeEntry}
 use Rattle.krates_questions.specs.declared.node_entry.NodeParts.{NodeParts}
 use Rattle.krates_questions.specs.LookedUp.{ArePartsOf, NoDep, IsEntryBetween, TellsDeclared}
 use Rattle.krates_questions.specs.Need.{HasChild, ListsKind, IsDeclaredOnly, IsWantedAs, TellsNeed}
-use Rattle.krates_questions.specs.Presence.{IsExcludedOnly}
 use Rattle.krates_questions.specs.declared.dependency_questions.Need.TheVariants as needs
 use Rattle.krates_rules.proofs.Readings.{ReadsOnce, left_of, right_of}
 use Rattle.krates_document.proofs.DeclaredOnce.{declared_once, declared_stands}
 use Rattle.krates_rules.proofs.FirstPlaces.{seen_at}
 use Rattle.krates_rules.proofs.OnlyOne.{one_dep, one_node, place_in}
-use Rattle.krates_rules.proofs.Standings.{not_included, contains_at}
+use Rattle.krates_rules.proofs.Standings.{contains_at}
 use Rattle.krates_questions.proofs.Asked.{declared_told}
 use Rattle.krates_questions.proofs.Entries.{Heeds, loose, not_loose, own_dep, wanted, wanted_one}
 
@@ -108,11 +107,6 @@ declaration_here r x k place y none e told at =
       declared = (place, subst (Declares r (edge_for x k) place) (declared_one r x k place d h.0 none e told.declared (place, h.1)) h.1);
       only = λ other o. declared_one r x k place d other none e told.declared o;
     })
-
--- ---- crates
-
-pub presence_told : (r : Resolved) (s : SettingModel) (i : Id) → NoneDoubled r.metadata r.graph → IsLeftOut r s i → IsExcludedOnly r s i
-presence_told r s i none h = record { has_package = λ lost. lost h.pkg h.has_package; excluded = not_included r s i none h }
 
 -- ---- what a node depends on
 

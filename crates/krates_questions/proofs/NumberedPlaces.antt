@@ -1,18 +1,21 @@
 -- A table of places by number, filled place by place.
-use Rattle.std.proofs.Common.{◌≡◌, ◌≢◌, ℕ, ◌+◌, ◌<◌, ◌≤◌, List, Option, Some, None, MatchOption, IfSome, Equal, length, get_or, slice_get, refl, sym, ap, ◌∙◌, inl, inr, arith, subst, replicate}
+use Rattle.std.proofs.Common.{◌≡◌, ℕ, ◌+◌, ◌<◌, ◌≤◌, List, Option, Some, None, MatchOption, IfSome, Equal, length, map, get_or, slice_get, refl, sym, ap, ◌∙◌, inl, inr, arith, subst, replicate}
+use Rattle.std.specs.Option.{option_map}
 use Rattle.std.proofs.Math.ListN.{set}
 use Rattle.std.proofs.lemmas.Bool.{cases_eq, cases_lt, cases_order}
 use Rattle.std.proofs.lemmas.Cmp.{then_total, on_total, nat_list_cmp_total}
 use Rattle.std.proofs.lemmas.List.{get_or-set_same, get_or-set_other, get_or-replicate, length-replicate, length-set}
 use Rattle.std.proofs.lemmas.Map.Keys.{Less-from_sorted}
-use Rattle.std.proofs.lemmas.Option.{same_Some, slice_get_within, slice_get-get_or, get_or_from_slice_get}
+use Rattle.std.proofs.lemmas.Option.{same_Some, slice_get_within, slice_get-get_or, slice_get-map, get_or_from_slice_get}
 use Rattle.std.specs.Cmp.{IsTotalOrder}
 use Rattle.krates_ids.specs.Identity.{Identity}
 use Rattle.krates_rules.specs.Facts.{Id}
 use Rattle.krates_rules.specs.Referent.{id_order}
 use Rattle.krates_rules.specs.Resolved.{id_of, StandsAt}
 use Rattle.krates_rules.proofs.Standings.{contains_at}
-use Rattle.krates_questions.specs.CrateTable.{Among, AreNumbered, IsIndex, IsNumberOf, IsPlaceOf, at_number}
+use Rattle.krates_rules.proofs.FirstPlaces.{seen_at}
+use Rattle.krates_rules.proofs.Readings.{left_of, right_of}
+use Rattle.krates_questions.specs.CrateTable.{Among, AreNumbered, AreNumbersBelow, AreNumbersOf, ArePlacesOf, IsIndex, IsNumberOf, IsPlaceOf, IsWhere, at_number}
 use Rattle.krates_rules.proofs.SeenInOrder.{equal_self}
 
 -- ids are in one order
@@ -36,58 +39,80 @@ one_number ids m n i sorted at other = elim (cases_order m n) [
   ]
 ]
 
--- where an id stands before a place
-abbrev pub IsPlaceBelow : List Identity → Id → ℕ → Option ℕ → Type 0
-IsPlaceBelow list i k answer = MatchOption answer ((place : ℕ) → place < k → StandsAt list i place → ⊥) (λ place. StandsAt list i place)
+-- where a number stands before a place
+abbrev pub IsWhereBelow : List (Option ℕ) → ℕ → ℕ → Option ℕ → Type 0
+IsWhereBelow numbers n k answer = MatchOption answer ((p : ℕ) → p < k → slice_get numbers p ≡ Some (Some n) → ⊥) (λ p. slice_get numbers p ≡ Some (Some n))
 
-pub record IsIndexBelow (ids : List Id) (list : List Identity) (k : ℕ) (places : List (Option ℕ)) : Type 0 where
-  pub size : length places ≡ length ids
-  pub each : (n : ℕ) (i : Id) → slice_get ids n ≡ Some i → IsPlaceBelow list i k (get_or places n None)
+pub record ArePlacesBelow (count : ℕ) (numbers : List (Option ℕ)) (k : ℕ) (places : List (Option ℕ)) : Type 0 where
+  pub long : length places ≡ count
+  pub each : (n : ℕ) → n < count → IsWhereBelow numbers n k (get_or places n None)
 
-pub no_places : (ids : List Id) (list : List Identity) (count : ℕ) → count ≡ length ids → IsIndexBelow ids list 0 (replicate count None)
-no_places ids list count long = record {
-  size = length-replicate count None ∙ long;
-  each = λ n i at. subst (IsPlaceBelow list i 0) (sym (get_or-replicate count n None None (omega (arith, slice_get_within ids n i at, long)))) (λ place below s. absurd (omega (arith, below)));
+pub no_places : (count : ℕ) (numbers : List (Option ℕ)) → ArePlacesBelow count numbers 0 (replicate count None)
+no_places count numbers = record {
+  long = length-replicate count None;
+  each = λ n lt. subst (IsWhereBelow numbers n 0) (sym (get_or-replicate count n None None lt)) (λ p below s. absurd (omega (arith, below)));
 }
 
-later : (ids : List Id) (list : List Identity) (k n m : ℕ) (i : Id) (id : Identity) (answer : Option ℕ) → AreNumbered ids → slice_get ids n ≡ Some i → slice_get ids m ≡ Some (id_of id) → slice_get list k ≡ Some id → n ≢ m
-    → IsPlaceBelow list i k answer → IsPlaceBelow list i (k + 1) answer
-later ids list k n m i id (Some p) sorted at number here other h = h
-later ids list k n m i id None sorted at number here other h = λ place below s. elim (cases_lt place k) [
-  | inl lt ↦ h place lt s
+later : (numbers : List (Option ℕ)) (n k : ℕ) (there answer : Option ℕ) → slice_get numbers k ≡ Some there → (there ≡ Some n → ⊥) → IsWhereBelow numbers n k answer → IsWhereBelow numbers n (k + 1) answer
+later numbers n k there (Some p) here other h = h
+later numbers n k there None here other h = λ p below s. elim (cases_lt p k) [
+  | inl lt ↦ h p lt s
   | inr le ↦ (
-      let e : place ≡ k = omega (arith, le, below) in
-      let same : s.there ≡ id = same_Some s.there id (sym s.at ∙ ap (slice_get list) e ∙ here) in
-      let is : i ≡ id_of id = sym s.same ∙ ap id_of same in
-      other (one_number ids n m i sorted at (number ∙ ap (λ j. Some j) (sym is))))
+      let e : p ≡ k = omega (arith, le, below) in
+      other (same_Some there (Some n) (sym here ∙ sym (ap (slice_get numbers) e) ∙ s)))
 ]
 
+-- nothing has a number at the next place
+pub places_same : (count : ℕ) (numbers : List (Option ℕ)) (k : ℕ) (places : List (Option ℕ)) → slice_get numbers k ≡ Some None → ArePlacesBelow count numbers k places → ArePlacesBelow count numbers (k + 1) places
+places_same count numbers k places here h = record { long = h.long; each = λ n lt. later numbers n k None (get_or places n None) here (λ e. cc e) (h.each n lt) }
+
 -- one more place
-pub index_more : (ids : List Id) (list : List Identity) (k m : ℕ) (id : Identity) (places : List (Option ℕ)) → AreNumbered ids → slice_get list k ≡ Some id → slice_get ids m ≡ Some (id_of id) → IsIndexBelow ids list k places
-    → IsIndexBelow ids list (k + 1) (set places m (Some k))
-index_more ids list k m id places sorted here number h =
-    let lt : m < length places = omega (arith, slice_get_within ids m (id_of id) number, h.size) in
+pub places_more : (count : ℕ) (numbers : List (Option ℕ)) (k m : ℕ) (places : List (Option ℕ)) → m < count → slice_get numbers k ≡ Some (Some m) → ArePlacesBelow count numbers k places
+    → ArePlacesBelow count numbers (k + 1) (set places m (Some k))
+places_more count numbers k m places low here h =
+    let lt : m < length places = omega (arith, low, h.long) in
     record {
-      size = length-set places m (Some k) ∙ h.size;
-      each = λ n i at. elim (cases_eq n m) [
-        | inl e ↦ (
-            let same : id_of id ≡ i = same_Some (id_of id) i (sym number ∙ sym (ap (slice_get ids) e) ∙ at) in
-            let stands : StandsAt list i k = record { there = id; at = here; same = same } in
-            subst (IsPlaceBelow list i (k + 1)) (sym (ap (λ (j : ℕ). get_or (set places m (Some k)) j None) e ∙ get_or-set_same places m (Some k) None lt)) stands)
-        | inr ne ↦ subst (IsPlaceBelow list i (k + 1)) (sym (get_or-set_other places m n (Some k) None ne)) (later ids list k n m i id (get_or places n None) sorted at number here ne (h.each n i at))
+      long = length-set places m (Some k) ∙ h.long;
+      each = λ n below. elim (cases_eq n m) [
+        | inl e ↦ subst (IsWhereBelow numbers n (k + 1)) (sym (ap (λ (j : ℕ). get_or (set places m (Some k)) j None) e ∙ get_or-set_same places m (Some k) None lt)) (here ∙ ap (λ (j : ℕ). Some (Some j)) (sym e))
+        | inr ne ↦ subst (IsWhereBelow numbers n (k + 1)) (sym (get_or-set_other places m n (Some k) None ne)) (later numbers n k (Some m) (get_or places n None) here (λ e. ne (sym (same_Some m n e))) (h.each n below))
       ];
     }
 
-whole : (list : List Identity) (i : Id) (k : ℕ) (answer : Option ℕ) → length list ≤ k → IsPlaceBelow list i k answer → IsPlaceOf list i answer
-whole list i k None le h = λ place s. h place (omega (arith, le, slice_get_within list place s.there s.at)) s
-whole list i k (Some p) le h = h
+whole : (numbers : List (Option ℕ)) (n k : ℕ) (answer : Option ℕ) → length numbers ≤ k → IsWhereBelow numbers n k answer → IsWhere numbers n answer
+whole numbers n k None le h = λ p s. h p (omega (arith, le, slice_get_within numbers p (Some n) s)) s
+whole numbers n k (Some p) le h = h
 
-pub index_whole : (ids : List Id) (list : List Identity) (k : ℕ) (places : List (Option ℕ)) → length list ≤ k → Among list ids → IsIndexBelow ids list k places → IsIndex ids list places
-index_whole ids list k places le among h = record {
+pub places_whole : (count : ℕ) (numbers : List (Option ℕ)) (k : ℕ) (places : List (Option ℕ)) → length numbers ≤ k → ArePlacesBelow count numbers k places → ArePlacesOf count numbers places
+places_whole count numbers k places le h = record { long = h.long; each = λ n lt. whole numbers n k (get_or places n None) le (h.each n lt) }
+
+-- ---- places of ids by places of their numbers
+
+unplaced : (ids : List Id) (numbers : List (Option ℕ)) (n p : ℕ) (i : Id) (o : Option ℕ) → AreNumbered ids → slice_get ids n ≡ Some i → IsNumberOf ids i o → slice_get numbers p ≡ Some o → (slice_get numbers p ≡ Some (Some n) → ⊥) → ⊥
+unplaced ids numbers n p i None sorted at number here none = number n at
+unplaced ids numbers n p i (Some m) sorted at number here none = none (here ∙ ap (λ (j : ℕ). Some (Some j)) (one_number ids m n i sorted number at))
+
+placed : (ids : List Id) (list : List Identity) (numbers : List (Option ℕ)) (n : ℕ) (i : Id) (answer : Option ℕ) → AreNumbered ids → slice_get ids n ≡ Some i → AreNumbersOf ids list numbers → IsWhere numbers n answer → IsPlaceOf list i answer
+placed ids list numbers n i (Some p) sorted at are here =
+    let w = left_of (IsNumberOf ids) (map id_of list) numbers p (Some n) are here in
+    let y = seen_at id_of list p w.0 w.1 in
+    record { there = get_or list p y.0; at = slice_get-get_or list p y.0 y.1; same = y.2 ∙ same_Some w.0 i (sym w.2 ∙ at) }
+placed ids list numbers n i None sorted at are none = λ p s.
+    let w = right_of (IsNumberOf ids) (map id_of list) numbers p (id_of s.there) are (slice_get-map id_of list p ∙ ap (option_map id_of) s.at) in
+    unplaced ids numbers n p i w.0 sorted at (subst (λ (j : Id). IsNumberOf ids j w.0) s.same w.2) w.1 (none p)
+
+-- the numbers of ids are below their count
+pub numbers_below : (ids : List Id) (list : List Identity) (numbers : List (Option ℕ)) → AreNumbersOf ids list numbers → AreNumbersBelow (length ids) numbers
+numbers_below ids list numbers are p n at =
+    let w = left_of (IsNumberOf ids) (map id_of list) numbers p (Some n) are at in
+    slice_get_within ids n w.0 w.2
+
+pub index_by : (ids : List Id) (list : List Identity) (numbers places : List (Option ℕ)) → AreNumbered ids → Among list ids → AreNumbersOf ids list numbers → ArePlacesOf (length ids) numbers places → IsIndex ids list places
+index_by ids list numbers places sorted among are h = record {
   among = among;
   each = λ n i at.
-      let lt : n < length places = omega (arith, slice_get_within ids n i at, h.size) in
-      (get_or places n None, slice_get-get_or places n None lt, whole list i k (get_or places n None) le (h.each n i at));
+      let lt : n < length ids = slice_get_within ids n i at in
+      (get_or places n None, slice_get-get_or places n None (omega (arith, lt, h.long)), placed ids list numbers n i (get_or places n None) sorted at are (h.each n lt));
 }
 
 -- ---- what a table returns

@@ -1,5 +1,5 @@
 -- The crates of a document by number: the place of their id among all ids of the document, in order.
-use Rattle.std.specs.Prelude.{◌≡◌, ℕ, List, Contains, Option, None, Some, MatchOption, get_or, map, slice_get}
+use Rattle.std.specs.Prelude.{◌≡◌, ◌<◌, ℕ, List, Contains, Option, None, Some, MatchOption, get_or, length, map, slice_get}
 use Rattle.std.specs.Borrow.{Bor}
 use Rattle.std.specs.Global.{Vec}
 use Rattle.std.specs.List.{AllZip}
@@ -49,6 +49,20 @@ pub record IsIndex (ids : List Id) (list : List Identity) (places : List (Option
 -- the number of each of these ids, or none where it isn't numbered
 abbrev pub AreNumbersOf : List Id → List Identity → List (Option ℕ) → Type 0
 AreNumbersOf ids list numbers = AllZip (IsNumberOf ids) (map id_of list) numbers
+
+-- a place at which the number stands, or none where it stands nowhere
+abbrev pub IsWhere : List (Option ℕ) → ℕ → Option ℕ → Type 0
+IsWhere numbers n answer =
+    MatchOption answer ((place : ℕ) → slice_get numbers place ≡ Some (Some n) → ⊥) (λ place. slice_get numbers place ≡ Some (Some n))
+
+-- these numbers are below the count
+abbrev pub AreNumbersBelow : ℕ → List (Option ℕ) → Type 0
+AreNumbersBelow count numbers = (place n : ℕ) → slice_get numbers place ≡ Some (Some n) → n < count
+
+-- under each number below the count is a place of it among these
+pub record ArePlacesOf (count : ℕ) (numbers places : List (Option ℕ)) : Type 0 where
+  pub long : length places ≡ count
+  pub each : (n : ℕ) → n < count → IsWhere numbers n (get_or places n None)
 
 abbrev pub numbers_in : Vec (Vec (Option ℕ)) → List (List (Option ℕ))
 numbers_in lists = map (λ (v : Vec (Option ℕ)). v.items) lists.items

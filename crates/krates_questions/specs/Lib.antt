@@ -1,3 +1,4 @@
+pub mod Availability
 pub mod Contents
 pub mod Context
 pub mod CrateTable
@@ -13,9 +14,7 @@ pub mod NameIndex
 pub mod Need
 pub mod NodeEntry
 pub mod Numbering
-pub mod Presence
 pub mod ReferentPlace
 pub mod Renamed
 pub mod RootChoice
 pub mod RootOrder
-pub mod Standing

@@ -28,5 +28,4 @@ AsksFor r s all = MatchBool all (AsksForMembers r s) (AsksForManifests r s)
 -- the choice is that of the setting; a root that is chosen is the only one, and its id is read of the document
 abbrev pub IsChoice : Resolved → SettingModel → RootChoice → Type 0
 IsChoice r s (choice.Root root) = IsRoot r s (id_of root.now) × ((i : Id) → IsRoot r s i → i ≡ id_of root.now) × IsReadOf r root.now
-IsChoice r s choice.Members = AsksForMembers r s
-IsChoice r s choice.Manifests = AsksForManifests r s
+IsChoice r s (choice.Members all) = AsksFor r s all

@@ -4,7 +4,7 @@ ghost use Rattle.std.specs.Cmp.Lexicographic.{slice_cmp};
 ghost use Rattle.std.specs.Ordering.{nat_cmp, ordering_then};
 ghost use Rattle.krates_ids.specs.Identity.{IsSameId, id_cmp};
 
-use crate::crate_questions::Presence;
+use crate::availability::Availability;
 use crate::feature_table::ListedFeature;
 use crate::referent::Referent;
 
@@ -18,9 +18,9 @@ pub fn listed_features_compared()
         ≡ ordering_then (nat_cmp a.place b.place) (slice_cmp nat_cmp a.name.now b.name.now) }
 {}
 
-/// Each presence is equal to itself alone.
-pub fn presences_compared()
-    ensures { (a b : Presence) → (⟦<Presence as PartialEq>⟧.eq a b ≡ true) ↔ (a ≡ b) }
+/// What there is for a crate is equal to itself alone.
+pub fn availabilities_compared()
+    ensures { (a b : Availability) → (⟦<Availability as PartialEq>⟧.eq a b ≡ true) ↔ (a ≡ b) }
 {}
 
 /// Referents are compared by id and place, in this order.

@@ -3,7 +3,7 @@
 ghost use Rattle.std.specs.Prelude.{◌≡◌, ◌++◌, IfOk, OnOk, map};
 ghost use Rattle.std.specs.List.{AllZip};
 ghost use Rattle.krates_document.specs.Ids.{ids_view};
-ghost use Rattle.krates_questions.specs.CrateTable.{Among, AreNumbered, AreNumbersOf, IsIndex, IsNumberOf, IsTable, lent_to, numbers_in};
+ghost use Rattle.krates_questions.specs.CrateTable.{Among, AreNumbered, AreNumbersBelow, AreNumbersOf, ArePlacesOf, IsIndex, IsNumberOf, IsTable, lent_to, numbers_in};
 ghost use Rattle.krates_rules.specs.Resolved.{id_of};
 
 use crate::sorted::in_order;
@@ -33,10 +33,10 @@ pub(crate) fn crate_table(alloc: Global, ids: &Ids) -> Result<CrateTable, AllocE
     ensures { IfOk result (IsTable (ids_view ids.now)) }
 {
     let numbered = numbered_ids(alloc, ids)?;
-    let packages = places_of(alloc, &numbered, &ids.packages)?;
-    let nodes = places_of(alloc, &numbered, &ids.nodes)?;
-    let members = places_of(alloc, &numbered, &ids.members)?;
+    let packages = index_of(alloc, &numbered, &ids.packages)?;
     let node_numbers = numbers_of(alloc, &numbered, &ids.nodes)?;
+    let nodes = places_of(alloc, numbered.len(), &node_numbers)?;
+    let members = index_of(alloc, &numbered, &ids.members)?;
     let dep_numbers = numbers_of_each(alloc, &numbered, &ids.deps)?;
     Ok(CrateTable {
         ids: numbered,
@@ -95,17 +95,29 @@ pub(crate) fn number_of(ids: &[Kid], id: &Kid) -> Option<usize>
 }
 
 /// For each number, a place of its id in the list.
-fn places_of(alloc: Global, ids: &[Kid], list: &[Kid]) -> Result<Vec<Option<usize>>, AllocError>
+fn index_of(alloc: Global, ids: &[Kid], list: &[Kid]) -> Result<Vec<Option<usize>>, AllocError>
     requires numbered { AreNumbered (map id_of ids.now) }
     requires among { Among list.now (map id_of ids.now) }
     ensures { IfOk result (λ places. IsIndex (map id_of ids.now) list.now places.items) }
 {
-    let mut places: Vec<Option<usize>> = vec![in alloc; None; ids.len()]?;
-    for (place, id) in list.iter().enumerate() {
-        let Some(number) = number_of(ids, id) else {
-            unreachable!()
-        };
-        places[number] = Some(place);
+    let numbers = numbers_of(alloc, ids, list)?;
+    places_of(alloc, ids.len(), &numbers)
+}
+
+/// For each number below the count, a place of it among these.
+fn places_of(
+    alloc: Global,
+    count: usize,
+    numbers: &[Option<usize>],
+) -> Result<Vec<Option<usize>>, AllocError>
+    requires { AreNumbersBelow count numbers.now }
+    ensures { IfOk result (λ places. ArePlacesOf count numbers.now places.items) }
+{
+    let mut places: Vec<Option<usize>> = vec![in alloc; None; count]?;
+    for (place, number) in numbers.iter().enumerate() {
+        if let Some(number) = *number {
+            places[number] = Some(place);
+        }
     }
     Ok(places)
 }

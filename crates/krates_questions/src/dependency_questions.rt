@@ -1,6 +1,6 @@
 //! What a document and a setting answer of the dependencies of a crate.
 
-ghost use Rattle.std.specs.Prelude.{◌↔◌, Contains, IfOk, IsTrue, map, true};
+ghost use Rattle.std.specs.Prelude.{◌↔◌, Contains, IfOk, IsTrue, map};
 ghost use Rattle.krates_cm.specs.Document.{DepKindInfoModel, dep_kind_info_view};
 ghost use Rattle.krates_questions.specs.Lookup.{IsLookup, resolved_view};
 ghost use Rattle.krates_questions.specs.NodeEntry.{IsEntry, edge_for};
@@ -65,8 +65,12 @@ impl<'a> Document<'a> {
             IsTrue result
             ↔ IsReferent (resolved_view self.now) all (id_of krate.now) name.now (id_of child.now) }
     {
+        self.agrees();
         if setting.is_all_named() {
-            return self.is_answering(krate, name, child);
+            return match self.entry_between(krate, child) {
+                Some(entry) => self.answers_to(entry.child, entry.dep, name),
+                None => false,
+            };
         }
         match self.referent(krate, name) {
             Some(referent) => is_same(referent, child),
@@ -108,26 +112,18 @@ impl<'a> Document<'a> {
             (dep_kind_info_view info.now) in
             TellsDeclaration (resolved_view self.now) edge result }
     {
-        match self.entry_between(parent, child) {
-            Some(entry) => self.entry_declaration(&entry, info),
-            None => None,
-        }
+        self.agrees();
+        let Some(entry) = self.entry_between(parent, child) else {
+            return None;
+        };
+        let Some(place) = self.declared_for(&entry, info) else {
+            return None;
+        };
+        Some(declared_at(&entry, place))
     }
 }
 
 impl<'a> Document<'a> {
-    /// Whether a crate is a dependency of another that answers to a name.
-    fn is_answering(&self, krate: &Kid, name: &str, child: &Kid) -> bool
-        ensures { IsTrue result
-            ↔ IsReferent (resolved_view self.now) true (id_of krate.now) name.now (id_of child.now) }
-    {
-        self.agrees();
-        match self.entry_between(krate, child) {
-            Some(entry) => self.answers_to(entry.child, entry.dep, name),
-            None => false,
-        }
-    }
-
     /// What there is for an edge of an entry.
     fn entry_need(
         &self,
@@ -155,18 +151,5 @@ impl<'a> Document<'a> {
             return Ok(Need::Nothing);
         }
         Ok(Need::Wanted(declared_at(entry, place)))
-    }
-
-    /// As what an edge of an entry is declared.
-    fn entry_declaration(&self, entry: &NodeEntry<'a>, info: &DepKindInfo) -> Option<&'a Dependency>
-        requires entry { IsEntry (resolved_view self.now) entry.now }
-        ensures { let edge = edge_for entry.now (dep_kind_info_view info.now) in
-            TellsDeclaration (resolved_view self.now) edge result }
-    {
-        self.agrees();
-        let Some(place) = self.declared_for(entry, info) else {
-            return None;
-        };
-        Some(declared_at(entry, place))
     }
 }

@@ -2,6 +2,7 @@
 //! of the rules under a setting. Nothing here searches for what is kept.
 #![tactic(auto)]
 
+pub mod availability;
 pub mod comparisons;
 pub mod context;
 pub mod crate_questions;
@@ -18,9 +19,8 @@ pub mod referent;
 pub mod renamed;
 pub mod root_choice;
 pub mod sorted;
-pub mod standing;
 
-pub use crate_questions::Presence;
+pub use availability::Availability;
 pub use dependency_questions::Need;
 pub use krates_document::{Ids, Setting, admit};
 pub use krates_rules::{DepKind, Scope, laws};

@@ -167,24 +167,7 @@ impl<'a> Document<'a> {
         requires entry { IsEntry (resolved_view self.now) entry.now }
         ensures { TellsDeclaredPlaces (resolved_view self.now) (parent_of entry.now) result.now }
     {
-        self.places_at(self.node_number(entry.place))
-    }
-
-    /// Where what the package of a crate declares stands by name. Nothing where it has no package. Time O(log n) in the
-    /// crates.
-    pub fn declared_places(&self, krate: &Kid) -> &[NamedPlace<'a>]
-        ensures { TellsDeclaredPlaces (resolved_view self.now) (id_of krate.now) result.now }
-    {
-        self.places_at(self.crate_number(krate))
-    }
-
-    /// Where what the package of the crate with the number declares stands by name.
-    fn places_at(&self, number: Option<usize>) -> &[NamedPlace<'a>]
-        requires number { IsNumber self.now number }
-        ensures { (i : Id) → IsNumberIn self.now i number
-            → TellsDeclaredPlaces (resolved_view self.now) i result.now }
-    {
-        match self.package_place_at(number) {
+        match self.package_place_at(self.node_number(entry.place)) {
             Some(place) => &self.lookup.names.declared[place],
             None => &[],
         }

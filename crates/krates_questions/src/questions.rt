@@ -136,18 +136,9 @@ impl<'a> Document<'a> {
         laws::one_reading();
         match self.root_choice(setting) {
             RootChoice::Root(root) => alone(alloc, root),
-            RootChoice::Members => self.root_members(
-                alloc,
-                setting,
-                true,
-                &self.lookup.ids.members,
-            ),
-            RootChoice::Manifests => self.root_members(
-                alloc,
-                setting,
-                false,
-                &self.lookup.ids.members,
-            ),
+            RootChoice::Members { all } => {
+                self.root_members(alloc, setting, all, &self.lookup.ids.members)
+            }
         }
     }
 
@@ -308,8 +299,7 @@ impl<'a> Document<'a> {
             version: entry.version,
             info,
         };
-        let places = self.declared_places(entry.parent);
-        declared_of(entry.declared, places, &sought)
+        declared_of(entry.declared, self.places_for(entry), &sought)
     }
 }
 

@@ -16,10 +16,8 @@ use krates_text::path::{parent, same};
 pub enum RootChoice<'a> {
     /// The graph's root.
     Root(&'a Kid),
-    /// Every member of the workspace.
-    Members,
-    /// The members with one of the manifests that are asked for.
-    Manifests,
+    /// Members of the workspace: all of them, or those with one of the manifests that are asked for.
+    Members { all: bool },
 }
 
 impl<'a> Document<'a> {
@@ -31,16 +29,12 @@ impl<'a> Document<'a> {
         if setting.manifests().is_empty() {
             return match &self.lookup.ids.root {
                 Some(root) if !setting.is_workspace() => RootChoice::Root(root),
-                _ => RootChoice::Members,
+                _ => RootChoice::Members { all: true },
             };
         }
-        if asks_for_workspace(
-            setting.manifests(),
-            self.lookup.metadata.workspace_root.as_str(),
-        ) {
-            RootChoice::Members
-        } else {
-            RootChoice::Manifests
+        let workspace_root = self.lookup.metadata.workspace_root.as_str();
+        RootChoice::Members {
+            all: asks_for_workspace(setting.manifests(), workspace_root),
         }
     }
 }

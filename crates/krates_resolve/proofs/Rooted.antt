@@ -13,7 +13,7 @@ use Rattle.krates_rules.specs.Features.{ListsFeature}
 use Rattle.krates_resolve.specs.Progress.{HasRooted, HasRootedEach}
 use Rattle.krates_search.specs.SearchState.{Grows, HasFound, IsRooted, HasRoots, MayName}
 use Rattle.krates_rules.specs.Resolved.{NodeAt, Resolved, id_of, NoPackage}
-use Rattle.krates_rules.specs.Questions.{Stands, LacksNode, questions, IsLeftOut}
+use Rattle.krates_rules.specs.Questions.{Stands, LacksNode, questions}
 use Rattle.krates_questions.specs.Context.{document_of}
 use Rattle.krates_questions.specs.RootChoice.{AsksFor}
 use Rattle.krates_questions.specs.declared.context.Context.{Context}
@@ -23,7 +23,7 @@ use Rattle.krates_rules.specs.Setting.{SettingModel}
 use Rattle.krates_search.specs.declared.search_state.SearchState.{SearchState}
 use Rattle.krates_rules.proofs.Readings.{ReadsOnce, right_of}
 use Rattle.krates_rules.proofs.OnlyOne.{place_in}
-use Rattle.krates_rules.proofs.Standings.{not_included}
+use Rattle.krates_questions.specs.Availability.{IsExcludedOnly}
 use Rattle.krates_questions.proofs.Lookups.{one_id}
 use Rattle.krates_questions.proofs.RootLemmas.{root_member}
 use Rattle.krates_search.proofs.Growing.{rooted_grows}
@@ -66,12 +66,12 @@ rooted_here r s x i stands found enabled = record {
 }
 
 -- an excluded root gives nothing
-pub left_out_rooted : (r : Resolved) (s : SettingModel) (x : SearchState) (i : Id) → NoneDoubled r.metadata r.graph → IsLeftOut r s i → IsRooted r s x i
-left_out_rooted r s x i none out = record {
-  kept = λ there. absurd (not_included r s i none out there.included);
-  enabled = λ there f lists. absurd (not_included r s i none out there.included);
-  has_package = λ lost. lost out.pkg out.has_package;
-  has_node = λ lost. not_included r s i none out lost.included;
+pub left_out_rooted : (r : Resolved) (s : SettingModel) (x : SearchState) (i : Id) → IsExcludedOnly r s i → IsRooted r s x i
+left_out_rooted r s x i h = record {
+  kept = λ there. absurd (h.excluded there.included);
+  enabled = λ there f lists. absurd (h.excluded there.included);
+  has_package = λ lost. lost h.left_out.pkg h.left_out.has_package;
+  has_node = λ lost. h.excluded lost.included;
 }
 
 -- a listed feature may be enabled, and isn't lost

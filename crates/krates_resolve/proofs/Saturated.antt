@@ -13,7 +13,7 @@ use Rattle.krates_search.specs.SearchState.{HasFound, IsSound, Advances, HasRoot
 use Rattle.krates_rules.specs.Resolved.{DepAt, Resolved}
 use Rattle.krates_search.specs.Links.{AreNew, HasLinks}
 use Rattle.krates_questions.specs.ListedFeatures.{listed_features}
-use Rattle.krates_questions.specs.Standing.{AreExclusions}
+use Rattle.krates_questions.specs.Availability.{AreExclusions}
 use Rattle.krates_rules.specs.Questions.{IsDeclaredAs, Stands, IsWanted, questions}
 use Rattle.krates_rules.specs.References.{Demands}
 use Rattle.krates_rules.specs.Referent.{IsReferent}

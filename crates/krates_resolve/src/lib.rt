@@ -8,7 +8,9 @@ pub mod resolution;
 mod roots;
 mod saturation;
 
-pub use krates_questions::{DepKind, Document, Ids, Need, Presence, Scope, Setting, admit, laws};
+pub use krates_questions::{
+    Availability, DepKind, Document, Ids, Need, Scope, Setting, admit, laws,
+};
 pub use krates_selection::{
     EnabledFeature, KeptEdge, NumberedFact, NumberedStep, Reason, Selection, ToggledFeature, Work,
 };

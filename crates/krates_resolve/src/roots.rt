@@ -10,9 +10,9 @@ ghost use Rattle.krates_rules.specs.Resolved.{id_of};
 
 use krates_graph::agenda::Agenda;
 use krates_ids::{Error, Kid, Lost, laws};
+use krates_questions::Availability;
 use krates_questions::context::Context;
 use krates_questions::root_choice::RootChoice;
-use krates_questions::standing::{Standing, known_standing};
 use krates_search::enabling::{KeptNode, NamedFeature, enable};
 use krates_search::search_state::SearchState;
 use krates_search::tracing::put_krate;
@@ -35,23 +35,8 @@ pub(crate) fn put_roots<'a>(
     let mut places = Agenda::new(context.alloc, context.document.nodes().len())?;
     match context.document.root_choice(context.setting) {
         RootChoice::Root(root) => put_root(context, root, &mut places, found),
-        RootChoice::Members => {
-            put_members(
-                context,
-                true,
-                context.document.members(),
-                &mut places,
-                found,
-            )
-        }
-        RootChoice::Manifests => {
-            put_members(
-                context,
-                false,
-                context.document.members(),
-                &mut places,
-                found,
-            )
+        RootChoice::Members { all } => {
+            put_members(context, all, context.document.members(), &mut places, found)
         }
     }
 }
@@ -119,13 +104,15 @@ fn put_root<'a>(
     ensures each { OnOk result (HasRootedEach context.now found.new places.new) }
     ensures refused { IfErr result (Refuses context.now) }
 {
-    context.document.agrees();
     laws::one_reading();
-    match known_standing(context, &found.excluded, root) {
-        Standing::NoPackage => Err(Error::Lost(Lost::Package(root.clone()?))),
-        Standing::NoNode => Err(Error::Lost(Lost::Node(root.clone()?))),
-        Standing::Excluded => Ok(()),
-        Standing::Stands(place) => put_once(context, KeptNode { id: root, place }, places, found),
+    let number = context.document.crate_number(root);
+    match context.availability_at(&found.excluded, number) {
+        Availability::NoPackage => Err(Error::Lost(Lost::Package(root.clone()?))),
+        Availability::NoNode => Err(Error::Lost(Lost::Node(root.clone()?))),
+        Availability::Excluded => Ok(()),
+        Availability::Available(place) => {
+            put_once(context, KeptNode { id: root, place }, places, found)
+        }
     }
 }
 

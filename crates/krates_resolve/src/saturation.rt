@@ -1,7 +1,7 @@
 //! All that is kept of a document.
 
 ghost use Rattle.krates_resolve.specs.Progress.{HasCounted, HasDone, TakesOne};
-ghost use Rattle.krates_questions.specs.Context.{Refuses};
+ghost use Rattle.krates_questions.specs.Context.{Refuses, document_of};
 ghost use Rattle.std.specs.Prelude.{◌≡◌, IfErr, IfOk, OnOk};
 ghost use Rattle.krates_resolve.specs.Counting.{HasCountedAll};
 ghost use Rattle.krates_selection.specs.Work.{IsFresh};
@@ -19,7 +19,6 @@ use krates_graph::agenda::Agenda;
 use krates_ids::Error;
 use krates_questions::Document;
 use krates_questions::context::Context;
-use krates_questions::standing::exclusions_of;
 use krates_search::expansion::expand;
 use krates_search::links::links_of;
 use krates_search::search_state::SearchState;
@@ -46,32 +45,30 @@ pub(crate) fn saturate<'a>(
     ensures named { IfErr result (NamesIdsOf (resolved_view document.now)) }
 {
     document.agrees();
-    let mut found = nothing_found(alloc, document, setting)?;
     let context = Context {
         alloc,
         document,
         setting,
     };
+    let mut found = nothing_found(&context)?;
     put_roots(&context, &mut found)?;
     while take_next(&context, &mut found, work)? {}
     Ok(found)
 }
 
 /// Nothing is found yet. The agendas have a place for each node and each feature.
-fn nothing_found<'a>(
-    alloc: Global,
-    document: &Document<'a>,
-    setting: &Setting,
-) -> Result<SearchState<'a>, AllocError>
-    ensures sound { IfOk result (IsSound (resolved_view document.now) setting.now) }
+fn nothing_found<'a>(context: &Context<'a, '_>) -> Result<SearchState<'a>, AllocError>
+    ensures sound { IfOk result (IsSound (document_of context.now) context.now.setting.now) }
     ensures krates { IfOk result (λ found. found.krates.taken ≡ 0) }
     ensures features { IfOk result (λ found. found.features.taken ≡ 0) }
 {
+    let alloc = context.alloc;
+    let document = context.document;
     document.agrees();
     let krates = Agenda::new(alloc, document.nodes().len())?;
     let features = Agenda::new(alloc, document.listed_features().len())?;
     let links = links_of(alloc, document)?;
-    let excluded = exclusions_of(alloc, document.packages(), setting)?;
+    let excluded = context.exclusions()?;
     Ok(SearchState {
         krates,
         features,

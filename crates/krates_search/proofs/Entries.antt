@@ -7,13 +7,13 @@ use Rattle.krates_rules.specs.Derivation.{Derivable, follows, Among}
 use Rattle.krates_rules.specs.Facts.{Edge, Fact, LostPackage, LostNode, Undeclared, Crate, Kept, Lost}
 use Rattle.krates_search.specs.SearchState.{HasFound, IsTried, MayTry, IsRequired, TakenWhen}
 use Rattle.krates_questions.specs.NodeEntry.{child_of, declared_in, entry_of, IsEntry, edge_for}
-use Rattle.krates_rules.specs.Questions.{Stands, LacksNode, IsWanted, IsLoose, questions, IsLeftOut}
+use Rattle.krates_rules.specs.Questions.{Stands, LacksNode, IsWanted, IsLoose, questions}
 use Rattle.krates_rules.specs.Resolved.{Resolved, NoPackage}
 use Rattle.krates_rules.specs.Rules.{Questions, required, target, lost_undeclared, lost_required_package, lost_required_node}
 use Rattle.krates_search.specs.declared.search_state.SearchState.{SearchState}
 use Rattle.krates_questions.specs.declared.node_entry.NodeEntry.{NodeEntry}
 use Rattle.krates_rules.specs.Setting.{SettingModel, IsIgnored, Passes}
-use Rattle.krates_rules.proofs.Standings.{not_included}
+use Rattle.krates_questions.specs.Availability.{IsExcludedOnly}
 use Rattle.krates_questions.proofs.Entries.{not_loose, wanted_one}
 
 -- ---- the edge has been tried
@@ -42,12 +42,12 @@ barred_tried r s f x k taken place d none h first barred = record {
 }
 
 pub left_out_tried : (r : Resolved) (s : SettingModel) (f : SearchState) (x : NodeEntry) (k : DepKindInfoModel) (taken : DependencyModel → Type 0) (place : ℕ) (d : DependencyModel) → NoneDoubled r.metadata r.graph → IsEntry r x
-    → IsDeclared (declared_in x) (entry_of x) k place d → IsLeftOut r s (child_of x) → IsTried r s f (edge_for x k) taken
+    → IsDeclared (declared_in x) (entry_of x) k place d → IsExcludedOnly r s (child_of x) → IsTried r s f (edge_for x k) taken
 left_out_tried r s f x k taken place d none h first out = record {
-  kept = λ e w is_taken stands. absurd (not_included r s (child_of x) none out stands.included);
+  kept = λ e w is_taken stands. absurd (out.excluded stands.included);
   declared = not_loose r s x k place d none h first;
-  has_package = λ e w is_taken lost. lost out.pkg out.has_package;
-  has_node = λ e w is_taken lost. not_included r s (child_of x) none out lost.included;
+  has_package = λ e w is_taken lost. lost out.left_out.pkg out.left_out.has_package;
+  has_node = λ e w is_taken lost. out.excluded lost.included;
 }
 
 -- an optional dependency that isn't asked for

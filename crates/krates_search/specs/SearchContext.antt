@@ -9,8 +9,8 @@ use Rattle.krates_questions.specs.declared.context.Context.{Context}
 use Rattle.krates_search.specs.declared.enabling.KeptNode.{KeptNode}
 use Rattle.krates_search.specs.declared.search_state.SearchState.{SearchState}
 use Rattle.krates_questions.specs.declared.node_entry.NodeEntry.{NodeEntry}
-use Rattle.krates_questions.specs.declared.standing.Standing.{Standing}
-use Rattle.krates_questions.specs.Standing.{IsStanding}
+use Rattle.krates_questions.specs.declared.availability.Availability.{Availability}
+use Rattle.krates_questions.specs.Availability.{IsAvailability}
 use Rattle.krates_selection.specs.declared.trace.NumberedStep.{NumberedStep}
 use Rattle.krates_selection.specs.declared.trace.Reason.{Reason}
 use Rattle.krates_rules.specs.Facts.{Crate, Edge, Fact, Feature, Id, Kept, Toggled}
@@ -94,8 +94,8 @@ abbrev pub HasTriedEntry : Context → SearchState → NodeEntry → (Dependency
 HasTriedEntry b x entry = HasTriedEach b x (parent_of entry) (child_of entry) (node_dep_view entry.dep.now)
 
 -- the answer is true of the crate that the dependency leads to
-abbrev pub HasStanding : Context → NodeEntry → Standing → Type 0
-HasStanding b entry = IsStanding (document_of b) b.setting.now (child_of entry)
+abbrev pub HasAvailability : Context → NodeEntry → Availability → Type 0
+HasAvailability b entry = IsAvailability (document_of b) b.setting.now (child_of entry)
 
 -- the id is read of the document
 abbrev pub IsRead : Context → Identity → Type 0

@@ -10,7 +10,7 @@ use Rattle.krates_rules.specs.Features.{ListsFeature, LacksFeature, HasReference
 use Rattle.krates_rules.specs.Resolved.{DepAt, NodeAt, Resolved, NoPackage}
 use Rattle.krates_search.specs.Links.{HasLinks, IsMarked, IsMarkedBy, IsWaiter, Waits, WasAsked}
 use Rattle.krates_selection.specs.Trace.{HasSomeStep, HasStep, IsTrace}
-use Rattle.krates_questions.specs.Standing.{AreExclusions}
+use Rattle.krates_questions.specs.Availability.{AreExclusions}
 use Rattle.krates_rules.specs.Questions.{edge_between, Stands, LacksNode, IsWanted, IsLoose, questions}
 use Rattle.krates_questions.specs.ListedFeatures.{listed_features}
 use Rattle.krates_questions.specs.Numbering.{FeatureAt, IsOwn}

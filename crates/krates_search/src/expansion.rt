@@ -1,7 +1,7 @@
 //! What the rules give from each kept crate.
 
 ghost use Rattle.krates_questions.specs.Context.{HasEntry, Refuses};
-ghost use Rattle.krates_search.specs.SearchContext.{FindsEdge, HasExpandedTaken, HasKrateStep, HasStanding, HasTried, HasTriedEntry, IsRight, MayKeep, Moves};
+ghost use Rattle.krates_search.specs.SearchContext.{FindsEdge, HasAvailability, HasExpandedTaken, HasKrateStep, HasTried, HasTriedEntry, IsRight, MayKeep, Moves};
 ghost use Rattle.krates_questions.specs.NodeEntry.{HasItsPlaces, IsListedEdge, edge_for, edge_of};
 ghost use Rattle.std.specs.Prelude.{◌≡◌, ◌<◌, IfErr, IfOk, OnOk, Some, Contains, true};
 ghost use Rattle.krates_cm.specs.Document.{DepKindInfoModel};
@@ -14,9 +14,9 @@ use crate::search_state::SearchState;
 use krates_document::declared_dependency::{Sought, declared_of};
 use krates_graph::agenda::Taken;
 use krates_ids::{Error, Lost, laws};
+use krates_questions::Availability;
 use krates_questions::context::Context;
 use krates_questions::node_entry::{EntryEdge, NodeEntry, entry_at};
-use krates_questions::standing::{Standing, known_standing_of_child};
 use krates_selection::trace::Reason;
 
 /// Keeps what a kept crate needs: tries each edge of its node.
@@ -54,7 +54,7 @@ struct Trial {
     /// Why it is found, if it is kept.
     reason: Reason,
     /// What there is for the crate that it leads to.
-    standing: Standing,
+    availability: Availability,
     /// Whether it is tried also where it is optional.
     asked: bool,
 }
@@ -82,7 +82,8 @@ pub fn expand_entry<'a>(
     context.document.agrees();
     laws::one_reading();
     let places = context.document.places_for(entry);
-    let standing = known_standing_of_child(context, &found.excluded, entry);
+    let number = context.document.child_number(entry);
+    let availability = context.availability_at(&found.excluded, number);
     let infos = entry.dep.dep_kinds.as_slice();
     let kinds = first_kinds(context.alloc, infos)?;
     let mut whole = true;
@@ -95,7 +96,7 @@ pub fn expand_entry<'a>(
         let trial = Trial {
             kind: *kind,
             reason,
-            standing,
+            availability,
             asked,
         };
         let tried = expand_edge(context, &edge, &trial, found)?;
@@ -121,7 +122,7 @@ fn expand_edge<'a>(
     requires places { HasItsPlaces edge.now }
     requires listed { IsListedEdge edge.now }
     requires first { IsFirstOf edge.now trial.now.kind }
-    requires standing { HasStanding context.now edge.now.entry.now trial.now.standing }
+    requires availability { HasAvailability context.now edge.now.entry.now trial.now.availability }
     requires sound { IsRight context.now found.old }
     requires may { MayKeep context.now (edge_of edge.now) (TakenWhen trial.now.asked) }
     requires step { FindsEdge context.now found.old trial.now.reason (edge_of edge.now)
@@ -156,11 +157,11 @@ fn expand_edge<'a>(
     if !passes {
         return Ok(true);
     }
-    match trial.standing {
-        Standing::NoPackage => Err(Error::Lost(Lost::Package(entry.child.clone()?))),
-        Standing::NoNode => Err(Error::Lost(Lost::Node(entry.child.clone()?))),
-        Standing::Excluded => Ok(true),
-        Standing::Stands(node) => {
+    match trial.availability {
+        Availability::NoPackage => Err(Error::Lost(Lost::Package(entry.child.clone()?))),
+        Availability::NoNode => Err(Error::Lost(Lost::Node(entry.child.clone()?))),
+        Availability::Excluded => Ok(true),
+        Availability::Available(node) => {
             let keeping = Keeping {
                 kind: trial.kind,
                 declared,

@@ -6,7 +6,7 @@ use Rattle.std.specs.List.{slice_get}
 use Rattle.krates_rules.specs.StepViews.{fact_view, step_view, steps_view}
 use Rattle.krates_rules.specs.declared.derivation.Step.{Step}
 use Rattle.krates_selection.specs.Chosen.{AreChosen, IsChosenIn}
-use Rattle.krates_selection.specs.Explanation.{explained_steps}
+use Rattle.krates_selection.specs.Explanation.{explained_steps, kids_of}
 use Rattle.krates_selection.specs.KeptFacts.{fact_in, kept_view, step_in}
 use Rattle.krates_selection.specs.Keys.{key_view}
 use Rattle.krates_selection.specs.declared.kept.Explanation.{Explanation}
@@ -51,18 +51,18 @@ one_more P n xs y h here = record {
 abbrev pub IsPickedStep : Explanation → List ℕ → List Uses → ℕ → Step → Type 0
 IsPickedStep e chosen part k x = IsPicked (explained_steps e) chosen part k (step_view x)
 
-pub picked_here : (e : Explanation) (chosen items : List ℕ) (part : List Uses) (place : ℕ) (s : KeptStep) (u : Uses) (y : Step) → items ≡ chosen → place < length items → length part ≡ length chosen → All (λ n. n < length e.steps.items) chosen
-    → s ≡ get_or e.steps.items (get_or items place 0) s → u ≡ get_or part place u → y.rule ≡ s.rule → fact_view y.fact ≡ fact_in e.kids.items (kept_view s.fact) → y.uses.items ≡ numbers_used u → IsPickedStep e chosen part place y
+pub picked_here : (e : Explanation) (chosen items : List ℕ) (part : List Uses) (place : ℕ) (s : KeptStep) (u : Uses) (y : Step) → items ≡ chosen → place < length items → length part ≡ length chosen → All (λ n. n < length e.steps.now) chosen
+    → s ≡ get_or e.steps.now (get_or items place 0) s → u ≡ get_or part place u → y.rule ≡ s.rule → fact_view y.fact ≡ fact_in (kids_of e) (kept_view s.fact) → y.uses.items ≡ numbers_used u → IsPickedStep e chosen part place y
 picked_here e chosen items part place s u y same lt long within s_is u_is rule fact uses =
     let number = get_or items place 0 in
-    let steps = e.steps.items in
+    let steps = e.steps.now in
     let low : number < length steps = subst (λ (ns : List ℕ). All (λ n. n < length steps) ns) (sym same) within place 0 lt in
     let at = slice_get_read steps (length steps) number s refl low s_is in
     record {
       before = number;
       chosen_at = subst (λ (ns : List ℕ). slice_get ns place ≡ Some number) same (slice_get-get_or items place 0 lt);
-      old = step_in e.kids.items s;
-      at = slice_get-map (step_in e.kids.items) steps number ∙ ap (option_map (step_in e.kids.items)) at;
+      old = step_in (kids_of e) s;
+      at = slice_get-map (step_in (kids_of e)) steps number ∙ ap (option_map (step_in (kids_of e))) at;
       rule = rule;
       fact = fact;
       uses = u;

@@ -8,6 +8,7 @@ use Rattle.krates_selection.specs.KeptFacts.{IsBelow, KeptModel, kept_view, step
 use Rattle.krates_selection.specs.declared.kept.Explanation.{Explanation}
 use Rattle.krates_selection.specs.declared.kept.KeptStep.{KeptStep}
 use Rattle.krates_ids.specs.Identity.{Identity}
+use Rattle.krates_questions.specs.CrateTable.{lent_to}
 use Rattle.krates_rules.specs.Questions.{questions}
 use Rattle.krates_rules.specs.Resolved.{Resolved}
 use Rattle.krates_rules.specs.Setting.{SettingModel}
@@ -20,9 +21,13 @@ use Rattle.krates_selection.specs.PartOfSteps.{AreBackward}
 abbrev pub uses_in : List KeptStep → List Uses
 uses_in steps = map (λ (x : KeptStep). x.uses) steps
 
--- the steps of an explanation
+-- the ids of an explanation's crates, by number
+abbrev pub kids_of : Explanation → List Identity
+kids_of e = lent_to e.kids.now
+
+-- its steps
 abbrev pub explained_steps : Explanation → List StepModel
-explained_steps e = steps_in e.kids.items e.steps.items
+explained_steps e = steps_in (kids_of e) e.steps.now
 
 -- the crates of each fact are numbered
 abbrev pub AreBelow : ℕ → List KeptStep → Type 0
@@ -30,8 +35,8 @@ AreBelow n steps = All (λ (x : KeptStep). IsBelow n (kept_view x.fact)) steps
 
 -- The crates are numbered, and each step uses earlier ones.
 pub record IsExplanation (e : Explanation) : Type 0 where
-  pub below : AreBelow (length e.kids.items) e.steps.items
-  pub backward : AreBackward (uses_in e.steps.items)
+  pub below : AreBelow (length (kids_of e)) e.steps.now
+  pub backward : AreBackward (uses_in e.steps.now)
 
 -- the number of the step with this fact
 pub record IsStepOf (steps : List KeptStep) (f : KeptModel) (number : ℕ) : Type 0 where
@@ -58,4 +63,4 @@ pub record IsDerivationOf (e : Explanation) (number : ℕ) (steps : List Step) :
   pub own : HaveOwnFacts (explained_steps e) → HaveOwnFacts (steps_view steps)
   pub used : (k : ℕ) → k + 1 < length steps → IsUsedLater (steps_view steps) k
   pub accepted : (r : Resolved) (s : SettingModel) → EachFollows (questions r s) (explained_steps e) → IsAccepted (questions r s) (steps_view steps)
-  pub ids : All (λ (x : Step). HasTheseIds e.kids.items x.fact) steps
+  pub ids : All (λ (x : Step). HasTheseIds (kids_of e) x.fact) steps

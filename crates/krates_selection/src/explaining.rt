@@ -25,7 +25,7 @@ use std::alloc::{AllocError, Global};
 
 /// The steps of a selection, with its crates by number: of each fact the first step, which uses the first steps of its premises.
 ///
-/// The only error is want of memory. Time: O(n log n) for n steps.
+/// The only error is running out of memory. Time: O(n log n) for n steps.
 pub fn kept_steps<'a>(
     context: &Context<'a, '_>,
     krates: &[Kid],

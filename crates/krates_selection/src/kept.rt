@@ -55,13 +55,13 @@ pub struct KeptStep {
     pub uses: Uses,
 }
 
-/// The kept crates, and the steps by which they and all else is kept.
-#[derive(Debug, Drop)]
-pub struct Explanation {
+/// The kept crates, and the steps by which they and all else is kept, lent by whoever has them.
+#[derive(Clone, Copy, Debug)]
+pub struct Explanation<'a, 's> {
     /// The ids of the kept crates, by number.
-    pub kids: Vec<Kid>,
+    pub kids: &'s [&'a Kid],
     /// The steps, each behind those that it uses.
-    pub steps: Vec<KeptStep>,
+    pub steps: &'s [KeptStep],
 }
 
 /// What a step is looked for of.

@@ -26,7 +26,6 @@ mod telling;
 pub mod trace;
 pub mod work;
 
-pub use derivation::{derivation_of, facts_of};
 pub use explaining::kept_steps;
 pub use kept::{CrateOrFeature, Explanation, KeptFact, KeptStep, step_of};
 pub use selection::{EnabledFeature, KeptEdge, Selection, ToggledFeature};

@@ -3,6 +3,7 @@
 ghost use Rattle.std.specs.Prelude.{◌≡◌, ◌<◌, Contains, IfOk, length};
 ghost use Rattle.krates_selection.specs.Explanation.{HasTheseIds};
 ghost use Rattle.krates_selection.specs.KeptFacts.{IsBelow, fact_in, kept_view};
+ghost use Rattle.krates_questions.specs.CrateTable.{lent_to};
 ghost use Rattle.krates_selection.specs.CrateNumbers.{id_at};
 ghost use Rattle.krates_rules.specs.Resolved.{id_of};
 ghost use Rattle.krates_rules.specs.StepViews.{fact_view};
@@ -14,10 +15,10 @@ use krates_rules::{Fact, Uses};
 use std::alloc::{AllocError, Global};
 
 /// The fact, with the ids of its crates.
-pub(crate) fn told(kids: &[Kid], fact: &KeptFact) -> Result<Fact, AllocError>
-    requires { IsBelow (length kids.now) (kept_view fact.now) }
-    ensures fact { IfOk result (λ told. fact_view told ≡ fact_in kids.now (kept_view fact.now)) }
-    ensures ids { IfOk result (HasTheseIds kids.now) }
+pub(crate) fn told(kids: &[&Kid], fact: &KeptFact) -> Result<Fact, AllocError>
+    requires { IsBelow (length (lent_to kids.now)) (kept_view fact.now) }
+    ensures fact { IfOk result (λ told. fact_view told ≡ fact_in (lent_to kids.now) (kept_view fact.now)) }
+    ensures ids { IfOk result (HasTheseIds (lent_to kids.now)) }
 {
     match fact {
         KeptFact::Crate { krate } => Ok(Fact::Crate(kid_at(kids, *krate)?)),
@@ -51,10 +52,10 @@ pub(crate) fn told(kids: &[Kid], fact: &KeptFact) -> Result<Fact, AllocError>
 }
 
 /// A copy of the id of a crate.
-fn kid_at(kids: &[Kid], number: usize) -> Result<Kid, AllocError>
-    requires { number < length kids.now }
-    ensures id { IfOk result (λ kid. id_of kid ≡ id_at kids.now number) }
-    ensures among { IfOk result (Contains kids.now) }
+fn kid_at(kids: &[&Kid], number: usize) -> Result<Kid, AllocError>
+    requires { number < length (lent_to kids.now) }
+    ensures id { IfOk result (λ kid. id_of kid ≡ id_at (lent_to kids.now) number) }
+    ensures among { IfOk result (Contains (lent_to kids.now)) }
 {
     kids[number].clone()
 }

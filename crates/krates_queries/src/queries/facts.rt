@@ -9,8 +9,9 @@ ghost use Rattle.krates_queries.specs.Kept.{ids_of};
 ghost use Rattle.krates_rules.specs.StepViews.{facts_view};
 
 use crate::kept::Krates;
+use crate::numbers::lent_ids;
 use krates_rules::Fact;
-use krates_selection::facts_of;
+use krates_selection::Explanation;
 use std::alloc::AllocError;
 
 impl<N, E> Krates<N, E> {
@@ -29,6 +30,9 @@ impl<N, E> Krates<N, E> {
         ensures once { HaveOwnFacts (steps_of self.now) }
         ensures ids { IfOk result (λ facts. All (HasTheseIds (ids_of self.now)) facts.items) }
     {
-        facts_of(self.alloc(), self.explanation())
+        let steps = self.steps();
+        let kids = lent_ids(self.alloc(), self.nodes())?;
+        let explanation = Explanation { kids: &kids, steps };
+        explanation.facts(self.alloc())
     }
 }

@@ -6,11 +6,11 @@ ghost use Rattle.krates_queries.specs.KeptSteps.{node_says};
 ghost use Rattle.krates_queries.specs.Why.{TellsWhy};
 
 use crate::kept::Krates;
-use crate::numbers::node_at;
+use crate::numbers::{lent_ids, node_at};
 use krates_drawing::node::Node;
 use krates_graph::graph::NodeId;
 use krates_rules::Derivation;
-use krates_selection::{CrateOrFeature, derivation_of, step_of};
+use krates_selection::{CrateOrFeature, Explanation, step_of};
 use std::alloc::AllocError;
 
 impl<N, E> Krates<N, E> {
@@ -35,10 +35,13 @@ impl<N, E> Krates<N, E> {
             return Ok(None);
         };
         let subject = subject_of(node.index(), there);
-        let Some(number) = step_of(&self.explanation().steps, &subject) else {
+        let steps = self.steps();
+        let Some(number) = step_of(steps, &subject) else {
             unreachable!()
         };
-        let derivation = derivation_of(self.alloc(), self.explanation(), number)?;
+        let kids = lent_ids(self.alloc(), self.nodes())?;
+        let explanation = Explanation { kids: &kids, steps };
+        let derivation = explanation.derivation_of(self.alloc(), number)?;
         Ok(Some(derivation))
     }
 }

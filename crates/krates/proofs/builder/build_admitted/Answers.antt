@@ -21,7 +21,7 @@ use Rattle.krates_drawing.specs.Node.{crate_ids}
 use Rattle.krates.proofs.BuildLemmas.{package_ids, ids_distinct, resolvable}
 use Rattle.krates.proofs.ConnectedLemmas.{agrees, connects}
 use Rattle.krates.proofs.DrawnLemmas.{builds_outline, is_built, kept_ids, outline_stands}
-use Rattle.krates.proofs.ExplainedLemmas.{explained_by, explains}
+use Rattle.krates.proofs.ExplainedLemmas.{explains, kept_steps}
 use Rattle.krates.proofs.Numbered.{numbered, numbered_graph, undrawn, undrawn_names}
 use Rattle.krates.proofs.MemberLemmas.{crate_numbers, kept_members}
 use Rattle.krates_rules.proofs.OrderedIds.{Compares}
@@ -105,9 +105,9 @@ new-requires-clause-members g c =
     let those = c.in_ok-members.members in
     let numbers = those.items in
     let ascending = handed (λ (v : Vec ℕ). IsStrictlyIncreasing v.items) c.members_of-found.result those c.in_ok-members.ensures.same c.members_of-found.ensures.ascending in
-    let exactly = handed (λ (v : Vec ℕ). AreNumbersOf (crate_ids c.raw_nodes.result.now) c.deref-3.result.now v.items) c.members_of-found.result those c.in_ok-members.ensures.same c.members_of-found.ensures.exactly in
-    let there = subst (λ ns. AreNumbersOf (crate_ids ns) c.deref-3.result.now numbers) c.raw_nodes.ensures.nodes exactly in
-    crate_numbers c.in_ok-graph.graph.nodes c.deref-3.result.now numbers ascending there
+    let exactly = handed (λ (v : Vec ℕ). AreNumbersOf (crate_ids c.raw_nodes.result.now) c.deref-2.result.now v.items) c.members_of-found.result those c.in_ok-members.ensures.same c.members_of-found.ensures.exactly in
+    let there = subst (λ ns. AreNumbersOf (crate_ids ns) c.deref-2.result.now numbers) c.raw_nodes.ensures.nodes exactly in
+    crate_numbers c.in_ok-graph.graph.nodes c.deref-2.result.now numbers ascending there
 
 pub new-requires-clause-connected : goal.new-requires-clause-connected
 new-requires-clause-connected g c =
@@ -126,9 +126,8 @@ new-requires-clause-explained g c =
     let n = numbered g.E.FromEdge.made_from_edge (outline_view c.in_ok-sketch.sketch.outline) c.in_ok-graph.graph graph.drawing c.in_ok-graph.ensures.within c.in_ok-graph.ensures.limits in
     let nodes = numbered_graph o g.N.FromPackage.made_from g.E.FromEdge.made_from_edge c.args.metadata c.args.setting.now c.in_ok-sketch.sketch.outline division c.in_ok-graph.graph outline_is
     b graph n in
-    let kids = c.in_ok-explanation.ensures.ids ∙ ap krate_ids c.deref-2.ensures.value in
-    explains o g.N.FromPackage.made_from g.E.FromEdge.made_from_edge c.args.metadata c.args.setting.now c.in_ok-sketch.sketch.outline division c.in_ok-graph.graph c.in_ok-sketch.ensures.sketched.selection c.in_ok-explanation.explanation
-    c.in_ok-sketch.sketch.steps.items outline_is b graph nodes c.in_ok-sketch.ensures.sketched.selected kids (ap (λ (v : Vec KeptStep). v.items) c.in_ok-explanation.ensures.steps) c.in_ok-sketch.ensures.sketched.steps
+    explains o g.N.FromPackage.made_from g.E.FromEdge.made_from_edge c.args.metadata c.args.setting.now c.in_ok-sketch.sketch.outline division c.in_ok-graph.graph c.in_ok-sketch.ensures.sketched.selection
+    c.in_ok-sketch.sketch.steps.items outline_is b graph nodes c.in_ok-sketch.ensures.sketched.selected c.in_ok-sketch.ensures.sketched.steps
 
 pub returns-clause-built : goal.returns-clause-built
 returns-clause-built g c =
@@ -138,17 +137,17 @@ returns-clause-built g c =
     let those = c.in_ok-members.members in
     let numbers = those.items in
     let ascending = handed (λ (v : Vec ℕ). IsStrictlyIncreasing v.items) c.members_of-found.result those c.in_ok-members.ensures.same c.members_of-found.ensures.ascending in
-    let exactly = handed (λ (v : Vec ℕ). AreNumbersOf (crate_ids c.raw_nodes.result.now) c.deref-3.result.now v.items) c.members_of-found.result those c.in_ok-members.ensures.same c.members_of-found.ensures.exactly in
-    let there = subst (λ ns. AreNumbersOf (crate_ids ns) c.deref-3.result.now numbers) c.raw_nodes.ensures.nodes exactly in
-    let listed = subst (λ (is : List Identity). AreNumbersOf (crate_ids c.in_ok-graph.graph.nodes) is numbers) (c.deref-3.ensures.value ∙ ap (λ (p : Rest). p.members.items) c.rest_of-rest.ensures) there in
+    let exactly = handed (λ (v : Vec ℕ). AreNumbersOf (crate_ids c.raw_nodes.result.now) c.deref-2.result.now v.items) c.members_of-found.result those c.in_ok-members.ensures.same c.members_of-found.ensures.exactly in
+    let there = subst (λ ns. AreNumbersOf (crate_ids ns) c.deref-2.result.now numbers) c.raw_nodes.ensures.nodes exactly in
+    let listed = subst (λ (is : List Identity). AreNumbersOf (crate_ids c.in_ok-graph.graph.nodes) is numbers) (c.deref-2.ensures.value ∙ ap (λ (p : Rest). p.members.items) c.rest_of-rest.ensures) there in
     let members = kept_members c.one_reading.ensures.once (metadata_view c.args.metadata) (ids_view c.args.ids) (crate_ids c.in_ok-graph.graph.nodes) numbers c.requires.admitted ascending listed in
     let agree = agrees g.E.FromEdge.made_from_edge (metadata_view c.args.metadata) c.args.setting.now (outline_view c.in_ok-sketch.sketch.outline) c.in_ok-graph.graph (ids_view c.args.ids) c.connected.ensures c.dependencies_agree.ensures c.requires.admitted
     c.in_ok-sketch.ensures.sketched.outline c.in_ok-graph.ensures.graph.drawing c.in_ok-graph.ensures.graph.first in
     let o : Compares = record { total = c.comparison.ensures.total; tells = c.comparison.ensures.order } in
-    let kids = c.in_ok-explanation.ensures.ids ∙ ap krate_ids c.deref-2.ensures.value in
-    let explained = explained_by o c.args.metadata c.args.setting.now division c.in_ok-sketch.ensures.sketched.selection c.in_ok-explanation.explanation c.in_ok-sketch.sketch.steps.items b c.in_ok-sketch.ensures.sketched.selected kids
-    (ap (λ (v : Vec KeptStep). v.items) c.in_ok-explanation.ensures.steps) c.in_ok-sketch.ensures.sketched.steps in
+    let steps = c.in_ok-sketch.sketch.steps.items in
+    let explained = (kept_steps o g.N.FromPackage.made_from g.E.FromEdge.made_from_edge c.args.metadata c.args.setting.now c.in_ok-sketch.sketch.outline division c.in_ok-graph.graph c.in_ok-sketch.ensures.sketched.selection steps b c.in_ok-graph.ensures.graph
+    c.in_ok-sketch.ensures.sketched.selected c.in_ok-sketch.ensures.sketched.steps).explained in
     let run = handed (λ _. FoldsTo g.F.OnFilter.filters c.args.filter.now (krate_packages division.others.items) c.handed_over.new.filter) c.members_of-found.result those c.in_ok-members.ensures.same c.in_ok-members.ensures.run in
     rw (c.new.ensures, c.in_ok-sketch.ensures.sketched.work, c.rest_of-rest.ensures) (is_built g.F.OnFilter.filters g.N.FromPackage.made_from g.E.FromEdge.made_from_edge c.args.metadata c.args.setting.now c.in_ok-sketch.sketch.outline division c.in_ok-graph.graph numbers c.args.filter.now c.handed_over.new.filter c.in_ok-sketch.ensures.sketched.selection
     c.in_ok-sketch.ensures.sketched.outline b c.in_ok-graph.ensures.graph run c.in_ok-sketch.ensures.sketched.selected
-    (resolvable (metadata_view c.args.metadata) (ids_view c.args.ids) c.requires.admitted) (numbered g.E.FromEdge.made_from_edge (outline_view c.in_ok-sketch.sketch.outline) c.in_ok-graph.graph c.in_ok-graph.ensures.graph.drawing c.in_ok-graph.ensures.within c.in_ok-graph.ensures.limits) members agree c.in_ok-explanation.explanation explained)
+    (resolvable (metadata_view c.args.metadata) (ids_view c.args.ids) c.requires.admitted) (numbered g.E.FromEdge.made_from_edge (outline_view c.in_ok-sketch.sketch.outline) c.in_ok-graph.graph c.in_ok-graph.ensures.graph.drawing c.in_ok-graph.ensures.within c.in_ok-graph.ensures.limits) members agree steps explained)

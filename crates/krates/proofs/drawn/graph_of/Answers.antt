@@ -12,7 +12,7 @@ use Rattle.krates_drawing.specs.Krate.{krate_ids}
 use Rattle.krates.specs.MadeNodes.{nodes_in}
 use Rattle.krates.proofs.DrawnLemmas.{as_many_crates, facts_in, if_graph, stand_there}
 use Rattle.krates.proofs.FeaturesDrawn.{viewed_ids}
-use Rattle.krates.proofs.MadeLemmas.{count_of, drawn_from}
+use Rattle.krates.proofs.MadeLemmas.{count_of, drawn_nodes}
 use Rattle.krates.proofs.Numbered.{if_memory, if_within}
 use Rattle.krates.proofs.drawn.graph_of.Goals as goal
 
@@ -26,7 +26,7 @@ enabled_of-requires g c =
 pub stored-requires-clause-nodes : goal.stored-requires-clause-nodes
 stored-requires-clause-nodes g c =
     let matched = c.in_ok-sets.ensures.matched ∙ (c.len.ensures ∙ c.args.krates.ok.0) in
-    let d = drawn_from (outline_view c.args.outline) c.args.krates.items c.in_ok-sets.sets.items c.in_ok-plan.plan.planned_nodes.items c.in_ok-parts.parts.mappings.items c.in_ok-parts.parts.features.items (nodes_in c.in_ok-nodes.nodes) matched c.in_ok-plan.ensures.nodes c.requires.ids c.in_ok-parts.ensures.mappings c.in_ok-parts.ensures.features c.in_ok-nodes.ensures in
+    let d = drawn_nodes (outline_view c.args.outline) c.args.krates.items c.in_ok-sets.sets.items c.in_ok-plan.plan.planned_nodes (nodes_in c.in_ok-nodes.nodes) matched c.in_ok-plan.ensures.nodes c.requires.ids c.in_ok-nodes.ensures in
     let count = count_of planned_node (nodes_in c.in_ok-nodes.nodes) (planned_nodes (outline_view c.args.outline)) d.planned_are in
     subst (λ n. n ≤ c.args.limits.nodes) (sym count) c.in_ok-plan.ensures.within.nodes
 
@@ -39,7 +39,7 @@ stored-requires-clause-edges g c =
 pub stored-requires-clause-stand : goal.stored-requires-clause-stand
 stored-requires-clause-stand g c =
     let matched = c.in_ok-sets.ensures.matched ∙ (c.len.ensures ∙ c.args.krates.ok.0) in
-    let d = drawn_from (outline_view c.args.outline) c.args.krates.items c.in_ok-sets.sets.items c.in_ok-plan.plan.planned_nodes.items c.in_ok-parts.parts.mappings.items c.in_ok-parts.parts.features.items (nodes_in c.in_ok-nodes.nodes) matched c.in_ok-plan.ensures.nodes c.requires.ids c.in_ok-parts.ensures.mappings c.in_ok-parts.ensures.features c.in_ok-nodes.ensures in
+    let d = drawn_nodes (outline_view c.args.outline) c.args.krates.items c.in_ok-sets.sets.items c.in_ok-plan.plan.planned_nodes (nodes_in c.in_ok-nodes.nodes) matched c.in_ok-plan.ensures.nodes c.requires.ids c.in_ok-nodes.ensures in
     let count = count_of planned_node (nodes_in c.in_ok-nodes.nodes) (planned_nodes (outline_view c.args.outline)) d.planned_are in
     let same : map planned_edge_view c.deref.result.now ≡ planned_edges (outline_view c.args.outline) = ap (λ (xs : List PlannedEdge). map planned_edge_view xs) c.deref.ensures.value ∙ c.in_ok-plan.ensures.edges in
     stand_there _ _ _ _ c.requires.stand (sym count) (sym same)
@@ -47,7 +47,7 @@ stored-requires-clause-stand g c =
 pub returns-clause-graph : goal.returns-clause-graph
 returns-clause-graph g c =
     let matched = c.in_ok-sets.ensures.matched ∙ (c.len.ensures ∙ c.args.krates.ok.0) in
-    let d = drawn_from (outline_view c.args.outline) c.args.krates.items c.in_ok-sets.sets.items c.in_ok-plan.plan.planned_nodes.items c.in_ok-parts.parts.mappings.items c.in_ok-parts.parts.features.items (nodes_in c.in_ok-nodes.nodes) matched c.in_ok-plan.ensures.nodes c.requires.ids c.in_ok-parts.ensures.mappings c.in_ok-parts.ensures.features c.in_ok-nodes.ensures in
+    let d = drawn_nodes (outline_view c.args.outline) c.args.krates.items c.in_ok-sets.sets.items c.in_ok-plan.plan.planned_nodes (nodes_in c.in_ok-nodes.nodes) matched c.in_ok-plan.ensures.nodes c.requires.ids c.in_ok-nodes.ensures in
     let same : map planned_edge_view c.deref.result.now ≡ planned_edges (outline_view c.args.outline) = ap (λ (xs : List PlannedEdge). map planned_edge_view xs) c.deref.ensures.value ∙ c.in_ok-plan.ensures.edges in
     let kids = kids_in c.args.outline in
     let ids = krate_ids c.args.krates.items in

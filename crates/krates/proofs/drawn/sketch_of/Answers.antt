@@ -1,10 +1,11 @@
-use Rattle.std.proofs.Common.{refl, subst}
+use Rattle.std.proofs.Common.{List, refl, sym, subst}
+use Rattle.krates_ids.specs.Identity.{Identity}
+use Rattle.krates_selection.specs.KeptTables.{AreStepsOf, IsKeptIn}
+use Rattle.krates_selection.specs.declared.trace.NumberedStep.{NumberedStep}
 use Rattle.std.proofs.lemmas.Result.{err_from_is_err_and}
 use Rattle.krates_cm.specs.Document.{metadata_view}
-use Rattle.krates_document.specs.Ids.{ids_view}
 use Rattle.krates_drawing.specs.Views.{outline_view}
 use Rattle.krates_questions.specs.Lookup.{resolved_view}
-use Rattle.krates_drawing.proofs.DocumentOutlines.{none_doubled_in}
 use Rattle.krates_selection.specs.Explained.{IsExplained, IsExplainedOf}
 use Rattle.krates_selection.specs.Selection.{IsSelection, IsSelectionOf, RefusesSelection}
 use Rattle.krates_questions.proofs.ReadIds.{each_read}
@@ -13,7 +14,7 @@ use Rattle.krates_rules.specs.Questions.{questions}
 use Rattle.krates_rules.specs.Resolved.{Resolved}
 use Rattle.krates_rules.specs.SelectionRefusals.{SelectionRefusal}
 use Rattle.krates.proofs.DrawnLemmas.{outline_told}
-use Rattle.krates.proofs.ExplainedLemmas.{steps_for}
+use Rattle.krates.proofs.ExplainedLemmas.{crates_in, steps_for}
 use Rattle.krates.proofs.drawn.sketch_of.Goals as goal
 
 pub returns-in_err-selection-clause-refused : goal.returns-in_err-selection-clause-refused
@@ -35,11 +36,12 @@ returns-in_err-selection-clause-named c =
     let p = err_from_is_err_and c.from_residual-in_err-selection.result c.from_residual-in_err-selection.ensures.1 in
     rw (p.1, p.2) named
 
+pub kept_steps-requires-clause-crates : goal.kept_steps-requires-clause-crates
+kept_steps-requires-clause-crates c = λ i derived.
+    subst (λ (ks : List Identity). IsKeptIn ks i) (sym c.deref.ensures.value) (crates_in (resolved_view c.in_ok-document.document) c.args.setting.now c.in_ok-selection.selection c.in_ok-selection.ensures.selected i derived)
+
 pub outline_of-requires : goal.outline_of-requires
-outline_of-requires c = record {
-  distinct = none_doubled_in (metadata_view c.args.metadata.now) (ids_view c.args.ids.now) (resolved_view c.in_ok-document.document) c.requires.admitted c.in_ok-document.ensures;
-  selected = c.in_ok-selection.ensures.selected;
-}
+outline_of-requires c = record { selected = c.in_ok-selection.ensures.selected }
 
 pub returns-clause-sketched : goal.returns-clause-sketched
 returns-clause-sketched c =
@@ -52,10 +54,13 @@ returns-clause-sketched c =
     let explained = c.in_ok-selection.ensures.explained in
     let of : IsSelectionOf m s x = record { graph = d.graph; has_graph = d.has_graph; holds = subst (λ (z : Resolved). IsSelection z s x) d.holds selected } in
     let shown : IsExplainedOf m s x = record { graph = d.graph; has_graph = d.has_graph; holds = subst (λ (z : Resolved). IsExplained z s x) d.holds explained } in
+    let steps = c.in_ok-steps.steps.items in
+    let of_krates = subst (λ (ks : List Identity). AreStepsOf r s ks c.deref-2.result.now steps) c.deref.ensures.value c.in_ok-steps.ensures in
+    let of_steps = subst (λ (ts : List NumberedStep). AreStepsOf r s x.krates.items ts steps) c.deref-2.ensures.value of_krates in
     record {
       selection = x;
       selected = of;
       outline = outline_told m s x r (outline_view c.in_ok-outline.outline) of d c.in_ok-outline.ensures;
-      steps = steps_for m s x r c.in_ok-steps.steps.items of shown d c.in_ok-steps.ensures;
+      steps = steps_for m s x r steps of shown d of_steps;
       work = refl;
     }

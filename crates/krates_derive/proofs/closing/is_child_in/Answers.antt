@@ -5,16 +5,16 @@ use Rattle.krates_rules.specs.Facts.{Edge, Kept}
 use Rattle.krates_derive.proofs.Givings.{child_here}
 use Rattle.krates_derive.proofs.closing.is_child_in.Goals as goal
 
-pub returns-in-Stands : goal.returns-in-Stands
-returns-in-Stands c =
+pub returns-in-Available : goal.returns-in-Available
+returns-in-Available c =
     let fs = facts_in c.args.check.now in
     let has = subst (λ (e : Edge). IsTrue c.has.result ↔ Contains fs (Kept e)) c.edge_key.ensures c.has.ensures in
-    child_here (document_in c.args.check.now) c.args.check.now.setting.now fs (edge_of_ref c.args.edge.now) c.has.result c.in-Stands.ensures has
+    child_here (document_in c.args.check.now) c.args.check.now.setting.now fs (edge_of_ref c.args.edge.now) c.has.result c.in-Available.ensures.0 has
 
 pub returns-in-Excluded : goal.returns-in-Excluded
 returns-in-Excluded c =
     let h = c.in-Excluded.ensures in
-    (λ t. record { kept = λ s. absurd (h.excluded s.included); has_package = h.has_package; has_node = λ lost. h.excluded lost.included }, λ x. refl)
+    (λ t. record { kept = λ s. absurd (h.excluded s.included); has_package = λ none. none h.left_out.pkg h.left_out.has_package; has_node = λ lost. h.excluded lost.included }, λ x. refl)
 
 pub returns-in-NoPackage : goal.returns-in-NoPackage
 returns-in-NoPackage c = (λ t. absurd cc, λ h. absurd (h.has_package c.in-NoPackage.ensures))

@@ -1,4 +1,4 @@
-use Rattle.std.proofs.Common.{List, All, true, false, length, sym, ap, ◌∙◌, subst}
+use Rattle.std.proofs.Common.{List, All, length, sym, ap, ◌∙◌, subst}
 use Rattle.std.proofs.lemmas.List.{length-map}
 use Rattle.std.proofs.lemmas.Result.{on_ok_weaker}
 use Rattle.krates_cm.specs.Document.{node_view}
@@ -25,39 +25,20 @@ put_members-requires-clause-each c =
     let nodes = c.args.context.now.document.now.resolve.now.nodes in
     none_rooted c.args.context.now c.args.found.now c.in_ok-places.places (length c.nodes.result.now) c.in_ok-places.ensures (ap length c.nodes.ensures ∙ sym (length-map nodes.items node_view))
 
-pub put_members-requires-in-Manifests-clause-each : goal.put_members-requires-in-Manifests-clause-each
-put_members-requires-in-Manifests-clause-each c =
-    let nodes = c.args.context.now.document.now.resolve.now.nodes in
-    none_rooted c.args.context.now c.args.found.now c.in_ok-places.places (length c.nodes.result.now) c.in_ok-places.ensures (ap length c.nodes.ensures ∙ sym (length-map nodes.items node_view))
-
 pub put_members-requires-clause-members : goal.put_members-requires-clause-members
 put_members-requires-clause-members c =
     let r = resolved_view c.args.context.now.document.now in
     subst (λ (ms : List Identity). All (λ m. IsMember r (id_of m) × IsReadOf r m) ms) (sym c.members.ensures) (are_read_members r c.args.context.now.document.now.ids.now.members.items c.agrees.ensures.ids.members)
 
-pub put_members-requires-in-Manifests-clause-members : goal.put_members-requires-in-Manifests-clause-members
-put_members-requires-in-Manifests-clause-members c =
-    let r = resolved_view c.args.context.now.document.now in
-    subst (λ (ms : List Identity). All (λ m. IsMember r (id_of m) × IsReadOf r m) ms) (sym c.members-in-Manifests.ensures) (are_read_members r c.args.context.now.document.now.ids.now.members.items c.agrees.ensures.ids.members)
-
 pub returns-in-Root-clause-roots : goal.returns-in-Root-clause-roots
 returns-in-Root-clause-roots c =
     on_ok_weaker c.put_root.result (λ h i is. subst (IsRooted (resolved_view c.args.context.now.document.now) c.args.context.now.setting.now c.put_root.new.found) (sym (c.in-Root.ensures.1 i is)) h) c.put_root.ensures.rooted
-
-pub returns-in-Members-clause-roots : goal.returns-in-Members-clause-roots
-returns-in-Members-clause-roots c =
-    let r = resolved_view c.args.context.now.document.now in
-    let s = c.args.context.now.setting.now in
-    let x = c.put_members.new.found in
-    on_ok_weaker c.put_members.result (λ h.
-    members_rooted c.one_reading.ensures.once r s x true c.args.context.now.document.now.ids.now.members.items c.in-Members.ensures c.agrees.ensures.ids.members
-    (subst (λ (ms : List Identity). All (λ m. IsRoot r s (id_of m) → IsRooted r s x (id_of m)) ms) c.members.ensures h)) c.put_members.ensures.rooted
 
 pub returns-clause-roots : goal.returns-clause-roots
 returns-clause-roots c =
     let r = resolved_view c.args.context.now.document.now in
     let s = c.args.context.now.setting.now in
-    let x = c.put_members-in-Manifests.new.found in
-    on_ok_weaker c.put_members-in-Manifests.result (λ h.
-    members_rooted c.one_reading.ensures.once r s x false c.args.context.now.document.now.ids.now.members.items c.in-Manifests.ensures c.agrees.ensures.ids.members
-    (subst (λ (ms : List Identity). All (λ m. IsRoot r s (id_of m) → IsRooted r s x (id_of m)) ms) c.members-in-Manifests.ensures h)) c.put_members-in-Manifests.ensures.rooted
+    let x = c.put_members.new.found in
+    on_ok_weaker c.put_members.result (λ h.
+    members_rooted c.one_reading.ensures.once r s x c.in-Members.all c.args.context.now.document.now.ids.now.members.items c.in-Members.ensures c.agrees.ensures.ids.members
+    (subst (λ (ms : List Identity). All (λ m. IsRoot r s (id_of m) → IsRooted r s x (id_of m)) ms) c.members.ensures h)) c.put_members.ensures.rooted

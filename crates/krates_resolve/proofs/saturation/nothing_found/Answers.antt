@@ -1,9 +1,6 @@
-use Rattle.std.proofs.Common.{ℕ, List, length, map, sym, ap, subst, ◌∙◌}
+use Rattle.std.proofs.Common.{ℕ, List, length, sym, ap, ◌∙◌}
 use Rattle.std.proofs.lemmas.List.{length-map}
-use Rattle.std.specs.List.{AllZip}
-use Rattle.krates_cm.specs.Document.{Text, node_view, package_view}
-use Rattle.krates_cm.specs.declared.package.Package.{Package}
-use Rattle.krates_questions.specs.Standing.{TellsExcluded}
+use Rattle.krates_cm.specs.Document.{Text, node_view}
 use Rattle.krates_graph.specs.Agenda.{PutNumbers}
 use Rattle.krates_questions.specs.FeatureTable.{listed_view}
 use Rattle.krates_questions.specs.Lookup.{resolved_view}
@@ -12,16 +9,15 @@ use Rattle.krates_resolve.proofs.saturation.nothing_found.Goals as goal
 
 pub returns-clause-sound : goal.returns-clause-sound
 returns-clause-sound c =
-    let look = c.args.document.now in
+    let look = c.args.context.now.document.now in
+    let s = c.args.context.now.setting.now in
     let nodes = look.resolve.now.nodes in
     let listed = look.features.listed in
     let krates = c.in_ok-krates.ensures in
     let features = c.in_ok-features.ensures in
     let krates_size = ap (λ (a : PutNumbers). a.size) krates ∙ ap length c.nodes.ensures ∙ sym (length-map nodes.items node_view) in
     let features_size = ap (λ (a : PutNumbers). a.size) features ∙ ap length c.listed_features.ensures ∙ sym (length-map listed.items listed_view) ∙ ap (λ (fs : List (ℕ × Text)). length fs) c.agrees.ensures.features in
-    let told : List Package → Type 0 = λ ps. AllZip (TellsExcluded c.args.setting.now) (map package_view ps) c.in_ok-excluded.excluded.items in
-    let excluded = subst told c.packages.ensures c.in_ok-excluded.ensures in
-    sound_start (resolved_view look) c.args.setting.now _ excluded krates_size features_size c.in_ok-links.ensures.has c.in_ok-links.ensures.new
+    sound_start (resolved_view look) s _ c.in_ok-excluded.ensures krates_size features_size c.in_ok-links.ensures.has c.in_ok-links.ensures.new
     (record { krates = ap (λ (a : PutNumbers). a.put) krates; features = ap (λ (a : PutNumbers). a.put) features; edges = c.new-3.ensures.items; toggled = c.new-4.ensures.items; trace = c.new-5.ensures.items; krate_steps = c.new-6.ensures.items; feature_steps = c.new-7.ensures.items })
 
 pub returns-clause-krates : goal.returns-clause-krates

@@ -1,6 +1,6 @@
 use Rattle.std.proofs.Common.{sym, ◌∙◌, subst, true, false, inl, inr}
 use Rattle.krates_cm.specs.Document.{dep_kind_info_view}
-use Rattle.krates_search.specs.SearchContext.{HasStanding}
+use Rattle.krates_search.specs.SearchContext.{HasAvailability}
 use Rattle.krates_search.specs.SearchState.{IsAny, TakenWhen}
 use Rattle.krates_questions.specs.Lookup.{resolved_view}
 use Rattle.krates_questions.specs.NodeEntry.{edge_for}
@@ -57,13 +57,13 @@ pub returns-in-Excluded-clause-tried : goal.returns-in-Excluded-clause-tried
 returns-in-Excluded-clause-tried c =
     let k = dep_kind_info_view c.args.edge.now.info.now in
     let d = c.in-Some.ensures.first in
-    left_out_tried (resolved_view c.args.context.now.document.now) c.args.context.now.setting.now c.args.found.now c.args.edge.now.entry.now k (TakenWhen c.args.trial.now.asked) c.in-Some.declared d.0 c.agrees.ensures.distinct c.requires.entry d.1 (subst (HasStanding c.args.context.now c.args.edge.now.entry.now) c.in-Excluded.is c.requires.standing)
+    left_out_tried (resolved_view c.args.context.now.document.now) c.args.context.now.setting.now c.args.found.now c.args.edge.now.entry.now k (TakenWhen c.args.trial.now.asked) c.in-Some.declared d.0 c.agrees.ensures.distinct c.requires.entry d.1 (subst (HasAvailability c.args.context.now c.args.edge.now.entry.now) c.in-Excluded.is c.requires.availability)
 
 pub returns-in-Excluded-clause-whole : goal.returns-in-Excluded-clause-whole
 returns-in-Excluded-clause-whole c so =
     let k = dep_kind_info_view c.args.edge.now.info.now in
     let d = c.in-Some.ensures.first in
-    left_out_tried (resolved_view c.args.context.now.document.now) c.args.context.now.setting.now c.args.found.now c.args.edge.now.entry.now k IsAny c.in-Some.declared d.0 c.agrees.ensures.distinct c.requires.entry d.1 (subst (HasStanding c.args.context.now c.args.edge.now.entry.now) c.in-Excluded.is c.requires.standing)
+    left_out_tried (resolved_view c.args.context.now.document.now) c.args.context.now.setting.now c.args.found.now c.args.edge.now.entry.now k IsAny c.in-Some.declared d.0 c.agrees.ensures.distinct c.requires.entry d.1 (subst (HasAvailability c.args.context.now c.args.edge.now.entry.now) c.in-Excluded.is c.requires.availability)
 
 pub keep-requires-clause-wanted : goal.keep-requires-clause-wanted
 keep-requires-clause-wanted c =
@@ -85,7 +85,7 @@ keep-requires-clause-may c =
       | else-not-trial-via-else-not-trial w ↦ inl w.if-not-trial.false
     ]) in
     let h = heeds r s c.args.edge.now.entry.now k c.requires.entry c.requires.listed c.ignores.result c.ignores.ensures c.if-ignores.false in
-    c.requires.may.kept d.0 (wanted r s c.args.edge.now.entry.now k c.in-Some.declared d.0 h d.1 (c.in_ok-passes.ensures.0 c.if-not-passes.false)) taken (subst (HasStanding c.args.context.now c.args.edge.now.entry.now) c.in-Stands.is c.requires.standing).0
+    c.requires.may.kept d.0 (wanted r s c.args.edge.now.entry.now k c.in-Some.declared d.0 h d.1 (c.in_ok-passes.ensures.0 c.if-not-passes.false)) taken (subst (HasAvailability c.args.context.now c.args.edge.now.entry.now) c.in-Available.is c.requires.availability).0
 
 pub keep-requires-clause-step : goal.keep-requires-clause-step
 keep-requires-clause-step c =
@@ -98,7 +98,7 @@ keep-requires-clause-step c =
       | else-not-trial-via-else-not-trial w ↦ inl w.if-not-trial.false
     ]) in
     let h = heeds r s c.args.edge.now.entry.now k c.requires.entry c.requires.listed c.ignores.result c.ignores.ensures c.if-ignores.false in
-    c.requires.step d.0 (wanted r s c.args.edge.now.entry.now k c.in-Some.declared d.0 h d.1 (c.in_ok-passes.ensures.0 c.if-not-passes.false)) taken (subst (HasStanding c.args.context.now c.args.edge.now.entry.now) c.in-Stands.is c.requires.standing).0
+    c.requires.step d.0 (wanted r s c.args.edge.now.entry.now k c.in-Some.declared d.0 h d.1 (c.in_ok-passes.ensures.0 c.if-not-passes.false)) taken (subst (HasAvailability c.args.context.now c.args.edge.now.entry.now) c.in-Available.is c.requires.availability).0
 
 pub returns-in_ok-clone-in-NoPackage-clause-refused : goal.returns-in_ok-clone-in-NoPackage-clause-refused
 returns-in_ok-clone-in-NoPackage-clause-refused c =
@@ -112,7 +112,7 @@ returns-in_ok-clone-in-NoPackage-clause-refused c =
     ]) in
     let h = heeds r s c.args.edge.now.entry.now k c.requires.entry c.requires.listed c.ignores.result c.ignores.ensures c.if-ignores.false in
     let w = wanted r s c.args.edge.now.entry.now k c.in-Some.declared d.0 h d.1 (c.in_ok-passes.ensures.0 c.if-not-passes.false) in
-    rw c.in_ok-clone-in-NoPackage.ensures.cases (c.requires.may.has_package d.0 w taken (subst (HasStanding c.args.context.now c.args.edge.now.entry.now) c.in-NoPackage.is c.requires.standing), (c.requires.entry.child_read, tt))
+    rw c.in_ok-clone-in-NoPackage.ensures.cases (c.requires.may.has_package d.0 w taken (subst (HasAvailability c.args.context.now c.args.edge.now.entry.now) c.in-NoPackage.is c.requires.availability), (c.requires.entry.child_read, tt))
 
 pub returns-in_ok-clone-in-NoNode-clause-refused : goal.returns-in_ok-clone-in-NoNode-clause-refused
 returns-in_ok-clone-in-NoNode-clause-refused c =
@@ -126,22 +126,22 @@ returns-in_ok-clone-in-NoNode-clause-refused c =
     ]) in
     let h = heeds r s c.args.edge.now.entry.now k c.requires.entry c.requires.listed c.ignores.result c.ignores.ensures c.if-ignores.false in
     let w = wanted r s c.args.edge.now.entry.now k c.in-Some.declared d.0 h d.1 (c.in_ok-passes.ensures.0 c.if-not-passes.false) in
-    rw c.in_ok-clone-in-NoNode.ensures.cases (c.requires.may.has_node d.0 w taken (subst (HasStanding c.args.context.now c.args.edge.now.entry.now) c.in-NoNode.is c.requires.standing), (c.requires.entry.child_read, tt))
+    rw c.in_ok-clone-in-NoNode.ensures.cases (c.requires.may.has_node d.0 w taken (subst (HasAvailability c.args.context.now c.args.edge.now.entry.now) c.in-NoNode.is c.requires.availability), (c.requires.entry.child_read, tt))
 
-pub returns-in_ok-keep-in-Stands-clause-tried : goal.returns-in_ok-keep-in-Stands-clause-tried
-returns-in_ok-keep-in-Stands-clause-tried c =
+pub returns-in_ok-keep-in-Available-clause-tried : goal.returns-in_ok-keep-in-Available-clause-tried
+returns-in_ok-keep-in-Available-clause-tried c =
     let r = resolved_view c.args.context.now.document.now in
     let s = c.args.context.now.setting.now in
     let k = dep_kind_info_view c.args.edge.now.info.now in
     let d = c.in-Some.ensures.first in
-    let there = subst (HasStanding c.args.context.now c.args.edge.now.entry.now) c.in-Stands.is c.requires.standing in
-    kept_tried r s c.keep.new.found c.args.edge.now.entry.now k (TakenWhen c.args.trial.now.asked) c.in-Some.declared d.0 c.agrees.ensures.distinct c.requires.entry d.1 there.0 c.in_ok-keep-in-Stands.ensures.kept
+    let there = subst (HasAvailability c.args.context.now c.args.edge.now.entry.now) c.in-Available.is c.requires.availability in
+    kept_tried r s c.keep.new.found c.args.edge.now.entry.now k (TakenWhen c.args.trial.now.asked) c.in-Some.declared d.0 c.agrees.ensures.distinct c.requires.entry d.1 there.0 c.in_ok-keep-in-Available.ensures.kept
 
-pub returns-in_ok-keep-in-Stands-clause-whole : goal.returns-in_ok-keep-in-Stands-clause-whole
-returns-in_ok-keep-in-Stands-clause-whole c so =
+pub returns-in_ok-keep-in-Available-clause-whole : goal.returns-in_ok-keep-in-Available-clause-whole
+returns-in_ok-keep-in-Available-clause-whole c so =
     let r = resolved_view c.args.context.now.document.now in
     let s = c.args.context.now.setting.now in
     let k = dep_kind_info_view c.args.edge.now.info.now in
     let d = c.in-Some.ensures.first in
-    let there = subst (HasStanding c.args.context.now c.args.edge.now.entry.now) c.in-Stands.is c.requires.standing in
-    kept_tried r s c.keep.new.found c.args.edge.now.entry.now k IsAny c.in-Some.declared d.0 c.agrees.ensures.distinct c.requires.entry d.1 there.0 c.in_ok-keep-in-Stands.ensures.kept
+    let there = subst (HasAvailability c.args.context.now c.args.edge.now.entry.now) c.in-Available.is c.requires.availability in
+    kept_tried r s c.keep.new.found c.args.edge.now.entry.now k IsAny c.in-Some.declared d.0 c.agrees.ensures.distinct c.requires.entry d.1 there.0 c.in_ok-keep-in-Available.ensures.kept

@@ -1,4 +1,4 @@
-use Rattle.std.proofs.Common.{List, All, map, true, false, sym, subst}
+use Rattle.std.proofs.Common.{List, All, map, sym, subst}
 use Rattle.std.proofs.lemmas.Result.{IfOk-weaker}
 use Rattle.krates_ids.specs.Identity.{Identity}
 use Rattle.krates_questions.specs.Lookup.{resolved_view}
@@ -14,11 +14,6 @@ root_members-requires-clause-members c =
     rw (← c.self.view_is) (let r = resolved_view c.self.inside.lookup in
     subst (λ (ms : List Identity). All (λ m. IsMember r (id_of m)) ms) (sym c.deref.ensures.value) (are_members r c.self.inside.lookup.ids.now.members.items c.self.invariant.ids.members))
 
-pub root_members-requires-in-Manifests-clause-members : goal.root_members-requires-in-Manifests-clause-members
-root_members-requires-in-Manifests-clause-members c =
-    rw (← c.self.view_is) (let r = resolved_view c.self.inside.lookup in
-    subst (λ (ms : List Identity). All (λ m. IsMember r (id_of m)) ms) (sym c.deref-in-Manifests.ensures.value) (are_members r c.self.inside.lookup.ids.now.members.items c.self.invariant.ids.members))
-
 pub returns-in-Root-clause-each : goal.returns-in-Root-clause-each
 returns-in-Root-clause-each c =
     let root = c.in-Root.ensures in
@@ -33,7 +28,7 @@ returns-in-Members-clause-each c =
     let s = c.args.setting.now in
     IfOk-weaker c.root_members.result _ _ (λ v h.
     let there = subst (λ (ms : List Identity). ArePicked (IsRoot r s) (map id_of ms) (ids_in v.items)) c.deref.ensures.value h in
-    roots_told c.one_reading.ensures.once r s true c.self.inside.lookup.ids.now.members.items (ids_in v.items) (rw (← c.self.view_is) at c.in-Members.ensures) c.self.invariant.ids.members there) (rw (← c.self.view_is) at c.root_members.ensures))
+    roots_told c.one_reading.ensures.once r s c.in-Members.all c.self.inside.lookup.ids.now.members.items (ids_in v.items) (rw (← c.self.view_is) at c.in-Members.ensures) c.self.invariant.ids.members there) (rw (← c.self.view_is) at c.root_members.ensures))
 
 pub returns-in-Members-clause-order : goal.returns-in-Members-clause-order
 returns-in-Members-clause-order c =
@@ -42,19 +37,3 @@ returns-in-Members-clause-order c =
     IfOk-weaker c.root_members.result _ _ (λ v h.
     let there = subst (λ (ms : List Identity). ArePicked (IsRoot r s) (map id_of ms) (ids_in v.items)) c.deref.ensures.value h in
     members_in_order r s c.self.inside.lookup.ids.now.members.items (ids_in v.items) c.self.invariant.ids.members there) (rw (← c.self.view_is) at c.root_members.ensures))
-
-pub returns-in-Manifests-clause-each : goal.returns-in-Manifests-clause-each
-returns-in-Manifests-clause-each c =
-    rw (← c.self.view_is) (let r = resolved_view c.self.inside.lookup in
-    let s = c.args.setting.now in
-    IfOk-weaker c.root_members-in-Manifests.result _ _ (λ v h.
-    let there = subst (λ (ms : List Identity). ArePicked (IsRoot r s) (map id_of ms) (ids_in v.items)) c.deref-in-Manifests.ensures.value h in
-    roots_told c.one_reading.ensures.once r s false c.self.inside.lookup.ids.now.members.items (ids_in v.items) (rw (← c.self.view_is) at c.in-Manifests.ensures) c.self.invariant.ids.members there) (rw (← c.self.view_is) at c.root_members-in-Manifests.ensures))
-
-pub returns-in-Manifests-clause-order : goal.returns-in-Manifests-clause-order
-returns-in-Manifests-clause-order c =
-    rw (← c.self.view_is) (let r = resolved_view c.self.inside.lookup in
-    let s = c.args.setting.now in
-    IfOk-weaker c.root_members-in-Manifests.result _ _ (λ v h.
-    let there = subst (λ (ms : List Identity). ArePicked (IsRoot r s) (map id_of ms) (ids_in v.items)) c.deref-in-Manifests.ensures.value h in
-    members_in_order r s c.self.inside.lookup.ids.now.members.items (ids_in v.items) c.self.invariant.ids.members there) (rw (← c.self.view_is) at c.root_members-in-Manifests.ensures))
