@@ -39,8 +39,8 @@ SHOWN_BY = {
     "check": ("from_nothing", "from_one", "from_two"),
     # as what an edge is declared: by name, version and source
     "Document::declared": (
-        "version_of declared_of is_name_of folded_order named_places places_under declared_at"
-        " Document::places_for entry_at Document::parts_of is_same_info"
+        "version_of declared_of is_name_of folded_order named_places places_under NodeEntry::declared_at"
+        " Document::places_for NodeParts::entry_at Document::parts_of is_same_info"
     ).split(),
     # a document that is asked looks its crates, features and names up
     "Document::new": ("lookup_of", "at_number"),
@@ -59,7 +59,7 @@ SHOWN_BY = {
         " Work::count_feature Reason::by_nothing Reason::by_one Reason::by_two put_krate enable toggle"
         " Document::packages Document::nodes Document::node_ids Document::crate_ids Document::listed_features Document::agrees"
         " expand expand_entry links_of Links::kept Links::is_asked Links::let_wait kept_edges kept_features"
-        " kept_toggled"
+        " kept_toggled KeptTables::crate_at"
     ).split(),
     # the graph of a build: its outline, nodes and edges, and how they are stored
     "build_with_metadata": (

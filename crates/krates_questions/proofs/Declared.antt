@@ -1,31 +1,14 @@
 -- Declared dependencies: as the code finds them at their places, and as the definitions see them.
-use Rattle.std.proofs.Common.{◌≡◌, ℕ, List, [], get_or, map, Bool, Some, sym, ap, ◌∙◌, subst, arith}
-use Rattle.std.proofs.lemmas.List.{get_or_default}
-use Rattle.std.specs.List.{slice_get}
-use Rattle.krates_cm.specs.Document.{DependencyModel, DepKindInfoModel, PackageModel, dependency_view}
-use Rattle.krates_cm.specs.declared.dependency.Dependency.{Dependency}
+use Rattle.std.proofs.Common.{◌≡◌, ℕ, List, [], ap, ◌∙◌, subst, arith}
+use Rattle.krates_cm.specs.Document.{DependencyModel, PackageModel}
 use Rattle.krates_rules.specs.Admission.{NoneDoubled}
 use Rattle.krates_rules.specs.Facts.{Id}
-use Rattle.krates_rules.specs.DeclaredDependency.{IsDeclared}
-use Rattle.krates_questions.specs.NodeEntry.{AreDeclaredBy, declared_in, entry_of}
-use Rattle.krates_questions.specs.declared.node_entry.NodeEntry.{NodeEntry}
-use Rattle.krates_document.proofs.DeclaredOnce.{declared_stands}
+use Rattle.krates_questions.specs.NodeEntry.{AreDeclaredBy}
 use Rattle.krates_document.specs.DeclaredPlaces.{AreDeclaredPlaces}
 use Rattle.krates_document.specs.declared.named_places.NamedPlace.{NamedPlace}
 use Rattle.krates_rules.specs.Resolved.{Resolved, HasPackage, NoPackage, PackageAt}
-use Rattle.krates_rules.proofs.FirstPlaces.{seen_at}
 use Rattle.krates_rules.proofs.OnlyOne.{one_package}
 use Rattle.krates_rules.proofs.Standings.{contains_at}
-
--- a dependency is optional if the element at its place is
-optional_here : (ds : List Dependency) (k : ℕ) (d : DependencyModel) (x : Dependency) → slice_get (map dependency_view ds) k ≡ Some d → (b : Bool) → (get_or ds k x).optional ≡ b → d.optional ≡ b
-optional_here ds k d x here b is =
-    let s = seen_at dependency_view ds k d here in
-    sym (ap (λ (m : DependencyModel). m.optional) s.2) ∙ ap (λ (y : Dependency). y.optional) (get_or_default ds k s.0 x s.1) ∙ is
-
--- so is the declared dependency of an entry
-pub optional_declared : (x : NodeEntry) (k : DepKindInfoModel) (place : ℕ) (d : DependencyModel) (y : Dependency) → IsDeclared (declared_in x) (entry_of x) k place d → (b : Bool) → (get_or x.declared.now place y).optional ≡ b → d.optional ≡ b
-optional_declared x k place d y first b is = optional_here x.declared.now place d y (declared_stands (declared_in x) (entry_of x) k place d first) b is
 
 -- the declared dependencies of the package with the id
 pub declared_here : (r : Resolved) (i : Id) (p : PackageModel) (ds : List DependencyModel) → NoneDoubled r.metadata r.graph → HasPackage r i p → p.dependencies ≡ ds → AreDeclaredBy r i ds

@@ -1,6 +1,6 @@
 -- The node of a kept crate, and each of its dependencies together with what its package declares.
 use Rattle.std.specs.List.{AllZip}
-use Rattle.std.specs.Prelude.{◌≡◌, ℕ, Contains, List, Some, map, slice_get}
+use Rattle.std.specs.Prelude.{◌≡◌, ℕ, Contains, List, MatchOption, Option, Some, map, slice_get}
 use Rattle.semver.specs.Identifiers.{parts_of}
 use Rattle.krates_cm.specs.Document.{DependencyModel, DepKindInfoModel, NodeModel, PackageModel, dep_kind_info_view, node_dep_view, dependency_view}
 use Rattle.krates_cm.specs.declared.resolve.DepKindInfo.{DepKindInfo}
@@ -11,7 +11,7 @@ use Rattle.krates_rules.specs.Facts.{Id, Edge}
 use Rattle.krates_rules.specs.NamedIds.{IsReadOf}
 use Rattle.krates_rules.specs.Resolved.{DepAt, NodeAt, Resolved, id_of, HasPackage, HasNode, HasDep}
 use Rattle.krates_questions.specs.Lookup.{TellsMember}
-use Rattle.krates_rules.specs.DeclaredDependency.{DependencyEntry, FirstAt, dependency_entry}
+use Rattle.krates_rules.specs.DeclaredDependency.{DependencyEntry, FirstAt, IsDeclared, IsUndeclared, dependency_entry}
 use Rattle.krates_questions.specs.declared.node_entry.EntryEdge.{EntryEdge}
 use Rattle.krates_questions.specs.declared.node_entry.NodeEntry.{NodeEntry}
 use Rattle.krates_questions.specs.declared.node_entry.NodeParts.{NodeParts}
@@ -91,6 +91,14 @@ TellsDeclaredPlaces r i places = (ds : List DependencyModel) → AreDeclaredBy r
 -- the places are those of what the package of the kept crate declares
 abbrev pub HasItsPlaces : EntryEdge → Type 0
 HasItsPlaces x = AreDeclaredPlaces (declared_in x.entry.now) x.places.now
+
+-- the place of the declared dependency that the edge comes from; or none is it
+abbrev pub TellsItsDeclared : EntryEdge → Option ℕ → Type 0
+TellsItsDeclared x answer =
+    let declared = declared_in x.entry.now in
+    let entry = entry_of x.entry.now in
+    let k = dep_kind_info_view x.info.now in
+    MatchOption answer (IsUndeclared declared entry k) (λ place. (d : DependencyModel) × IsDeclared declared entry k place d)
 
 -- the dependency lists this kind and target
 abbrev pub ListsInfo : NodeEntry → DepKindInfo → Type 0

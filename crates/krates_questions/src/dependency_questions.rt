@@ -11,7 +11,7 @@ ghost use Rattle.krates_rules.specs.Referent.{IsReferent};
 ghost use Rattle.krates_rules.specs.Resolved.{id_of};
 
 use crate::lookup::Lookup;
-use crate::node_entry::{NodeEntry, declared_at};
+use crate::node_entry::NodeEntry;
 use crate::questions::{Document, is_same, lists};
 use krates_cm::{DepKindInfo, Dependency};
 use krates_document::setting::Setting;
@@ -119,7 +119,7 @@ impl<'a> Document<'a> {
         let Some(place) = self.declared_for(&entry, info) else {
             return None;
         };
-        Some(declared_at(&entry, place))
+        Some(entry.declared_at(place))
     }
 }
 
@@ -150,6 +150,6 @@ impl<'a> Document<'a> {
         if !passes {
             return Ok(Need::Nothing);
         }
-        Ok(Need::Wanted(declared_at(entry, place)))
+        Ok(Need::Wanted(entry.declared_at(place)))
     }
 }

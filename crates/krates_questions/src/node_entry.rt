@@ -1,14 +1,15 @@
 //! The node of a kept crate, and each dependency of it.
 
-ghost use Rattle.std.specs.Prelude.{◌≡◌, ◌<◌, ◌↔◌, IsTrue, length, map, Some, slice_get};
+ghost use Rattle.std.specs.Prelude.{◌≡◌, ◌<◌, ◌↔◌, IfSome, IsTrue, length, map, Some, slice_get};
 ghost use Rattle.krates_cm.specs.Document.{dependency_view, dep_kind_info_view};
 ghost use Rattle.krates_questions.specs.Lookup.{IsLookup, IsNodePlace, IsNumber, IsNumberIn, resolved_view};
-ghost use Rattle.krates_questions.specs.NodeEntry.{AreDeclaredBy, AreParts, IsEntry, IsEntryOf, TellsDeclaredPlaces, child_of, parent_of};
+ghost use Rattle.krates_questions.specs.NodeEntry.{AreDeclaredBy, AreParts, HasItsPlaces, HasItsVersion, IsEntry, IsEntryOf, TellsDeclaredPlaces, TellsItsDeclared, child_of, parent_of};
 ghost use Rattle.krates_rules.specs.Facts.{Id};
 ghost use Rattle.krates_rules.specs.Resolved.{DepAt, NodeAt, id_of};
 
 use crate::questions::Document;
 use krates_cm::{DepKindInfo, Dependency, NodeDep};
+use krates_document::declared_dependency::{Sought, declared_of};
 use krates_document::named_places::NamedPlace;
 use krates_ids::{Kid, laws};
 use semver::Version;
@@ -84,31 +85,56 @@ impl<'a> Document<'a> {
     }
 }
 
-/// The dependency of a node at a place. Time O(1).
-pub fn entry_at<'a>(parts: &NodeParts<'a>, index: usize) -> NodeEntry<'a>
-    requires lengths { length parts.now.deps.now ≡ length parts.now.children.now }
-    requires versions { length parts.now.versions.now ≡ length parts.now.children.now }
-    requires within { index < length parts.now.children.now }
-    ensures { IsEntryOf parts.now index result }
-{
-    NodeEntry {
-        parent: parts.parent,
-        declared: parts.declared,
-        dep: &parts.deps[index],
-        child: &parts.children[index],
-        version: &parts.versions[index],
-        place: parts.place,
-        index,
-        is_member: parts.is_member,
+impl<'a> NodeParts<'a> {
+    /// The dependency of a node at a place. Time O(1).
+    pub fn entry_at(&self, index: usize) -> NodeEntry<'a>
+        requires lengths { length self.now.deps.now ≡ length self.now.children.now }
+        requires versions { length self.now.versions.now ≡ length self.now.children.now }
+        requires within { index < length self.now.children.now }
+        ensures { IsEntryOf self.now index result }
+    {
+        NodeEntry {
+            parent: self.parent,
+            declared: self.declared,
+            dep: &self.deps[index],
+            child: &self.children[index],
+            version: &self.versions[index],
+            place: self.place,
+            index,
+            is_member: self.is_member,
+        }
     }
 }
 
-/// The declared dependency of an entry at a place. Time O(1).
-pub fn declared_at<'a>(entry: &NodeEntry<'a>, place: usize) -> &'a Dependency
-    requires { place < length entry.now.declared.now }
-    ensures { slice_get entry.now.declared.now place ≡ Some result.now }
-{
-    &entry.declared[place]
+impl EntryEdge<'_, '_> {
+    /// The place of the declared dependency that the edge comes from, among those that the package of the kept crate
+    /// declares. None where none fits, and where several fit and none has the source of the crate that is depended on.
+    ///
+    /// Time: O(log n + k) for k of them under one of the dependency's two names.
+    pub fn declared(&self) -> Option<usize>
+        requires version { HasItsVersion self.now.entry.now }
+        requires places { HasItsPlaces self.now }
+        ensures within { IfSome result (λ place. place < length self.now.entry.now.declared.now) }
+        ensures declared { TellsItsDeclared self.now result }
+    {
+        let sought = Sought {
+            dep: self.entry.dep,
+            kid: self.entry.child,
+            version: self.entry.version,
+            info: self.info,
+        };
+        declared_of(self.entry.declared, self.places, &sought)
+    }
+}
+
+impl<'a> NodeEntry<'a> {
+    /// The declared dependency of an entry at a place. Time O(1).
+    pub fn declared_at(&self, place: usize) -> &'a Dependency
+        requires { place < length self.now.declared.now }
+        ensures { slice_get self.now.declared.now place ≡ Some result.now }
+    {
+        &self.declared[place]
+    }
 }
 
 impl<'a> Document<'a> {

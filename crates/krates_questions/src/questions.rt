@@ -17,11 +17,10 @@ mod contents;
 
 use crate::dependency_questions::Need;
 use crate::lookup::{Lookup, lookup_of};
-use crate::node_entry::{NodeEntry, NodeParts, entry_at, is_same_info};
+use crate::node_entry::{EntryEdge, NodeEntry, NodeParts, is_same_info};
 use crate::referent::Referent;
 use crate::root_choice::RootChoice;
 use krates_cm::{DepKindInfo, Metadata, NodeDep};
-use krates_document::declared_dependency::{Sought, declared_of};
 use krates_document::ids::Ids;
 use krates_document::named_places::{NamedPlace, places_under};
 use krates_document::setting::Setting;
@@ -94,7 +93,7 @@ impl<'a> Document<'a> {
         let Some(index) = self.referent_of(&parts, name) else {
             return None;
         };
-        Some(entry_at(&parts, index).child)
+        Some(parts.entry_at(index).child)
     }
 
     /// All that a name means in a feature reference of a crate under a setting, in the order of ids: all dependencies of its node
@@ -282,7 +281,7 @@ impl<'a> Document<'a> {
         let Some(index) = self.place_of_child(&parts, child) else {
             return None;
         };
-        Some(entry_at(&parts, index))
+        Some(parts.entry_at(index))
     }
 
     /// The place of the declared dependency of an entry, of a kind and for a target that it lists.
@@ -293,13 +292,12 @@ impl<'a> Document<'a> {
         if !lists(entry.dep, info) {
             return None;
         }
-        let sought = Sought {
-            dep: entry.dep,
-            kid: entry.child,
-            version: entry.version,
+        let edge = EntryEdge {
+            entry,
             info,
+            places: self.places_for(entry),
         };
-        declared_of(entry.declared, self.places_for(entry), &sought)
+        edge.declared()
     }
 }
 

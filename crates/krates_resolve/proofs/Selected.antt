@@ -19,7 +19,7 @@ use Rattle.krates_search.specs.FoundEdge.{IsFoundEdge, found_view}
 use Rattle.krates_search.specs.FoundToggle.{IsFoundToggle, found_toggled}
 use Rattle.krates_search.specs.KeptEdges.{AreInOrder, HasKeptNodes}
 use Rattle.krates_search.specs.KeptFeatures.{AreSorted, HasKeptHome}
-use Rattle.krates_search.specs.KeptNumbers.{IsKept}
+use Rattle.krates_selection.specs.KeptTables.{IsKeptIn}
 use Rattle.krates_search.specs.KeptToggled.{AreToggled, HasKeptCrates}
 use Rattle.krates_selection.specs.Selection.{edge_view, crate_fact, edge_fact, feature_fact, toggled_fact, facts_of, IsSelection}
 use Rattle.krates_selection.specs.Work.{CountsEach}
@@ -41,6 +41,7 @@ use Rattle.krates_rules.proofs.Elements.{contains_image, contains_or, contains_s
 use Rattle.krates_search.proofs.LinkLemmas.{there_is}
 use Rattle.krates_selection.proofs.KeptEnds.{child_kept, crate_of_feature, parent_kept, toggled_kept}
 use Rattle.krates_rules.proofs.OnlyOne.{place_in}
+use Rattle.krates_rules.proofs.Standings.{contains_at}
 
 -- ---- the ids at places
 
@@ -107,13 +108,14 @@ whole_of look s found nodes places put kids h exact read taken at some ordered r
 }
 
 -- a derivable crate is kept
-crate_kept : ReadsOnce → EqualityTellsSame → (r : Resolved) (s : SettingModel) (ids : List Identity) (found : SearchState) (put kids : List Identity) → IsWhole r s ids found put kids → (i : Id) → Derivable (questions r s) (Crate i) → IsKept kids i
+crate_kept : ReadsOnce → EqualityTellsSame → (r : Resolved) (s : SettingModel) (ids : List Identity) (found : SearchState) (put kids : List Identity) → IsWhole r s ids found put kids → (i : Id) → Derivable (questions r s) (Crate i) → IsKeptIn kids i
 crate_kept once tells r s ids found put kids whole i d =
     let there = (whole.exact (Crate i)).0 d in
     let k = kid_at ids found.krates.put put there.place whole.krates there.among in
     let y = whole.ordered.kept k.0 k.1 in
     let id : id_of y.0 ≡ i = sym (id_of_same k.0 y.0 ((tells k.0 y.0).0 y.2)) ∙ one_id once r (id_of k.0) i there.place (node_here r ids there.place k.0 whole.reads k.2) there.node in
-    subst (Contains (map id_of kids)) id (contains_image id_of kids y.0 y.1)
+    let at = place_in kids y.0 y.1 in
+    (at.0, record { there = y.0; at = at.1; same = id })
 
 -- and so are the crates of what was found
 ends_kept : ReadsOnce → EqualityTellsSame → (r : Resolved) (s : SettingModel) (ids : List Identity) (found : SearchState) (put kids : List Identity) → IsWhole r s ids found put kids → (e : FoundEdge) → Contains found.edges.items e → IsFoundEdge r s e
@@ -218,8 +220,9 @@ selected once tells r s ids found put x whole order counts = record {
 
     forth : (f : Fact) → Derivable (questions r s) f → Contains (facts_of x) f
     forth (Crate i) d =
-        let k = contains_source id_of kids i (crate_kept once tells r s ids found put kids whole i d) in
-        Contains-append_left crates _ (Crate i) (subst (λ (j : Id). Contains crates (Crate j)) k.2 (contains_image crate_fact kids k.0 k.1))
+        let k = crate_kept once tells r s ids found put kids whole i d in
+        let among = contains_at kids k.0 k.1.there k.1.at in
+        Contains-append_left crates _ (Crate i) (subst (λ (j : Id). Contains crates (Crate j)) k.1.same (contains_image crate_fact kids k.1.there among))
     forth (Kept e) d =
         let a = contains_source (edge_view kids) x.edges.items e ((order.edges.same e).0 ((whole.exact (Kept e)).0 d)) in
         let there = subst (λ (g : Edge). Contains edges (Kept g)) a.2 (contains_image (edge_fact kids) x.edges.items a.0 a.1) in

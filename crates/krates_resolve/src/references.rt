@@ -12,7 +12,7 @@ ghost use Rattle.krates_search.specs.Links.{IsMarked};
 use krates_graph::agenda::Taken;
 use krates_ids::{Error, laws};
 use krates_questions::context::Context;
-use krates_questions::node_entry::{NodeParts, entry_at};
+use krates_questions::node_entry::NodeParts;
 use krates_search::enabling::{KeptNode, NamedFeature, enable, toggle};
 use krates_search::expansion::expand_entry;
 use krates_search::links::Waiting;
@@ -163,7 +163,7 @@ fn ask_once<'a>(
     if found.links.is_asked(parts.place, index) {
         return Ok(());
     }
-    let entry = entry_at(parts, index);
+    let entry = parts.entry_at(index);
     expand_entry(context, &entry, true, reason, found)
 }
 
@@ -316,7 +316,7 @@ fn toggle_child<'a>(
     ensures refused { IfErr result (Refuses context.now) }
 {
     laws::one_reading();
-    let entry = entry_at(parts, index);
+    let entry = parts.entry_at(index);
     let Some(place) = context.document.child_place(&entry) else {
         unreachable!()
     };

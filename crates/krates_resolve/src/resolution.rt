@@ -27,9 +27,9 @@ use krates_questions::crate_table::numbers_of;
 use krates_questions::sorted::in_order;
 use krates_search::kept_edges::kept_edges;
 use krates_search::kept_features::kept_features;
-use krates_search::kept_numbers::KeptNumbers;
 use krates_search::kept_toggled::kept_toggled;
 use krates_search::search_state::SearchState;
+use krates_selection::keys::KeptTables;
 use krates_selection::selection::Selection;
 use krates_selection::trace::NumberedStep;
 use krates_selection::work::Work;
@@ -105,14 +105,15 @@ fn selection_of<'a>(
     let alloc = context.alloc;
     let document = context.document;
     let krates = in_order(kids_at(alloc, document.node_ids(), found.krates.numbers())?)?;
-    let of_nodes = numbers_of(alloc, &krates, document.node_ids())?;
-    let numbers = KeptNumbers {
+    let numbers = numbers_of(alloc, &krates, document.crate_ids())?;
+    let tables = KeptTables {
+        document,
         krates: &krates,
-        of_nodes: &of_nodes,
+        numbers: &numbers,
     };
-    let edges = kept_edges(context, &numbers, &found.edges)?;
-    let features = kept_features(alloc, document, &numbers, found.features.numbers())?;
-    let toggled = kept_toggled(alloc, document, &numbers, &found.toggled)?;
+    let edges = kept_edges(context, &tables, &found.edges)?;
+    let features = kept_features(alloc, &tables, found.features.numbers())?;
+    let toggled = kept_toggled(alloc, &tables, &found.toggled)?;
     Ok(Selection {
         krates,
         edges,

@@ -1,5 +1,5 @@
 -- What was found grows by an edge.
-use Rattle.std.proofs.Common.{◌≡◌, ℕ, ◌<◌, List, [], ◌∷◌, ◌++◌, length, map, All, Some, Contains, refl, sym, ap, ◌∙◌, subst, inl, inr}
+use Rattle.std.proofs.Common.{◌≡◌, ℕ, ◌<◌, Bool, List, [], ◌∷◌, ◌++◌, length, map, All, Some, Contains, refl, sym, ap, ◌∙◌, subst, inl, inr}
 use Rattle.std.proofs.lemmas.List.Elements.{All-push}
 use Rattle.std.specs.Global.{Vec}
 use Rattle.std.proofs.lemmas.Option.{same_Some, slice_get-map}
@@ -23,7 +23,7 @@ use Rattle.krates_search.specs.declared.search_state.SearchState.{SearchState}
 use Rattle.krates_search.specs.declared.links.Links.{Links}
 use Rattle.krates_questions.specs.declared.node_entry.NodeEntry.{NodeEntry}
 use Rattle.krates_search.specs.declared.found_edge.FoundEdge.{FoundEdge}
-use Rattle.krates_document.proofs.DeclaredOnce.{declared_once}
+use Rattle.krates_document.proofs.DeclaredOnce.{declared_once, declared_stands}
 use Rattle.krates_rules.proofs.FirstPlaces.{seen_at}
 use Rattle.krates_search.proofs.Growing.{used_grows, tried_grows}
 use Rattle.krates_search.proofs.Growth.{seen_from, seen_still, seen_there}
@@ -138,6 +138,11 @@ placed_here r s x k e place d none h first w is at first_of_kind parent_there ch
 -- the declared dependency at a place, as the code reads it
 pub declared_seen : (ds : List Dependency) (place : ℕ) (d : DependencyModel) (x : Dependency) → slice_get (map dependency_view ds) place ≡ Some d → slice_get ds place ≡ Some x → dependency_view x ≡ d
 declared_seen ds place d x at here = same_Some (dependency_view x) d (sym (slice_get-map dependency_view ds place ∙ ap (option_map dependency_view) here) ∙ at)
+
+-- so it is optional where the element at its place is
+pub optional_declared : (x : NodeEntry) (k : DepKindInfoModel) (place : ℕ) (d : DependencyModel) (y : Dependency) → IsDeclared (declared_in x) (entry_of x) k place d → slice_get x.declared.now place ≡ Some y → (b : Bool) → y.optional ≡ b → d.optional ≡ b
+optional_declared x k place d y first at b is =
+    ap (λ (m : DependencyModel). m.optional) (sym (declared_seen x.declared.now place d y (declared_stands (declared_in x) (entry_of x) k place d first) at)) ∙ is
 
 -- it stands within the list
 pub declared_within : (ds : List Dependency) (place : ℕ) (d : DependencyModel) → slice_get (map dependency_view ds) place ≡ Some d → place < length ds

@@ -14,7 +14,8 @@ use Rattle.krates_questions.specs.Lookup.{IsLookup, resolved_view}
 use Rattle.krates_questions.specs.Numbering.{FeatureAt}
 use Rattle.krates_selection.specs.CrateNumbers.{id_at}
 use Rattle.krates_search.specs.KeptFeatures.{HasKeptHome, IsFeatureOf}
-use Rattle.krates_search.specs.KeptNumbers.{IsKeptNode, IsNumberAt}
+use Rattle.krates_selection.specs.KeptTables.{IsKeptNode, IsNumberAt, document_in, kids_in}
+use Rattle.krates_selection.specs.declared.keys.KeptTables.{KeptTables}
 use Rattle.krates_selection.specs.Selection.{feature_fact}
 use Rattle.krates_questions.specs.declared.feature_table.ListedFeature.{ListedFeature}
 use Rattle.krates_questions.specs.declared.lookup.Lookup.{Lookup}
@@ -73,18 +74,19 @@ listed_here d number x h lt is =
     ap (λ l. slice_get l number) (sym h.features) ∙ slice_get-map listed_view xs number ∙ ap (option_map listed_view) (slice_get_read xs (length xs) number x refl lt is)
 
 -- the crate of a listed feature is kept where that of its number is
-pub home_kept : (d : Lookup) (kids : List Identity) (number : ℕ) (x : ListedFeature) → IsLookup d → number < length d.features.listed.items → x ≡ get_or d.features.listed.items number x → HasKeptHome (resolved_view d) kids number
-    → IsKeptNode (resolved_view d) kids x.place
-home_kept d kids number x h lt is k =
-    let r = resolved_view d in
-    let same : (k.at.place, k.name) ≡ (x.place, x.name.now) = same_Some (k.at.place, k.name) (x.place, x.name.now) (sym k.at.at ∙ listed_here d number x h lt is) in
+pub home_kept : (t : KeptTables) (number : ℕ) (x : ListedFeature) → IsLookup t.document.now → number < length t.document.now.features.listed.items → x ≡ get_or t.document.now.features.listed.items number x → HasKeptHome (document_in t) (kids_in t) number
+    → IsKeptNode t x.place
+home_kept t number x h lt is k =
+    let r = document_in t in
+    let same : (k.at.place, k.name) ≡ (x.place, x.name.now) = same_Some (k.at.place, k.name) (x.place, x.name.now) (sym k.at.at ∙ listed_here t.document.now number x h lt is) in
     record { krate = k.krate; node = subst (NodeAt r k.krate) (ap (λ (p : ℕ × Text). p.0) same) k.at.node; kept = k.kept }
 
 -- the feature with the crate's number and the listed name is that of the number
-pub feature_here : (d : Lookup) (kids : List Identity) (number : ℕ) (x : ListedFeature) (y : EnabledFeature) → IsLookup d → number < length d.features.listed.items → x ≡ get_or d.features.listed.items number x → IsKeptNode (resolved_view d) kids x.place
-    → IsNumberAt (resolved_view d) kids x.place y.krate → text_view y.name ≡ x.name.now → IsFeatureOf (resolved_view d) kids number y
-feature_here d kids number x y h lt is k n name =
-    let r = resolved_view d in
+pub feature_here : (t : KeptTables) (number : ℕ) (x : ListedFeature) (y : EnabledFeature) → IsLookup t.document.now → number < length t.document.now.features.listed.items → x ≡ get_or t.document.now.features.listed.items number x → IsKeptNode t x.place
+    → IsNumberAt t x.place y.krate → text_view y.name ≡ x.name.now → IsFeatureOf (document_in t) (kids_in t) number y
+feature_here t number x y h lt is k n name =
+    let r = document_in t in
+    let kids = kids_in t in
     let node = subst (λ (i : Id). NodeAt r i x.place) (sym (n.is k.krate k.node)) k.node in
-    let at : FeatureAt r (id_at kids y.krate) x.name.now number = record { place = x.place; at = listed_here d number x h lt is; node = node } in
+    let at : FeatureAt r (id_at kids y.krate) x.name.now number = record { place = x.place; at = listed_here t.document.now number x h lt is; node = node } in
     record { at = subst (λ (f : Text). FeatureAt r (id_at kids y.krate) f number) (sym name) at; home = n.below }

@@ -9,7 +9,6 @@ pub mod Growing
 pub mod Growth
 pub mod KeptEdges
 pub mod KeptFeatures
-pub mod KeptNumbers
 pub mod KeptSteps
 pub mod KeptToggled
 pub mod KindOrder

@@ -7,7 +7,7 @@ use Rattle.krates_rules.specs.Resolved.{NodeAt, Resolved, id_of}
 use Rattle.krates_rules.specs.Setting.{SettingModel}
 use Rattle.krates_selection.specs.CrateNumbers.{HasEnds}
 use Rattle.krates_search.specs.FoundEdge.{found_view}
-use Rattle.krates_search.specs.KeptNumbers.{IsKept}
+use Rattle.krates_selection.specs.KeptTables.{IsKeptIn}
 use Rattle.krates_selection.specs.Selection.{IsPlaced, edge_view}
 use Rattle.krates_selection.specs.SelectionOrder.{place_cmp}
 use Rattle.krates_search.specs.declared.found_edge.FoundEdge.{FoundEdge}
@@ -17,8 +17,8 @@ use Rattle.krates_selection.specs.declared.selection.KeptEdge.{KeptEdge}
 pub record HasKeptNodes (r : Resolved) (kids : List Identity) (e : FoundEdge) : Type 0 where
   pub parent : NodeAt r (id_of e.parent.now) e.parent_node
   pub child : NodeAt r (id_of e.child.now) e.child_node
-  pub parent_kept : IsKept kids (id_of e.parent.now)
-  pub child_kept : IsKept kids (id_of e.child.now)
+  pub parent_kept : IsKeptIn kids (id_of e.parent.now)
+  pub child_kept : IsKeptIn kids (id_of e.child.now)
 
 -- the kept edge says what the found one does
 pub record IsCopyOf (kids : List Identity) (e : FoundEdge) (k : KeptEdge) : Type 0 where

@@ -7,7 +7,7 @@ use Rattle.krates_ids.specs.Identity.{Identity}
 use Rattle.krates_questions.specs.Numbering.{FeatureAt}
 use Rattle.krates_selection.specs.CrateNumbers.{HasHome, id_at}
 use Rattle.krates_search.specs.SearchState.{IsEnabled}
-use Rattle.krates_search.specs.KeptNumbers.{IsKept}
+use Rattle.krates_selection.specs.KeptTables.{IsKeptIn}
 use Rattle.krates_selection.specs.Selection.{feature_fact}
 use Rattle.krates_selection.specs.SelectionOrder.{feature_cmp, same_feature}
 use Rattle.krates_selection.specs.declared.selection.EnabledFeature.{EnabledFeature}
@@ -19,7 +19,7 @@ pub record HasKeptHome (r : Resolved) (kids : List Identity) (number : ℕ) : Ty
   pub krate : Id
   pub name : Text
   pub at : FeatureAt r krate name number
-  pub kept : IsKept kids krate
+  pub kept : IsKeptIn kids krate
 
 -- the feature is that of the number
 pub record IsFeatureOf (r : Resolved) (kids : List Identity) (number : ℕ) (f : EnabledFeature) : Type 0 where

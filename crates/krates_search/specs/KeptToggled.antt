@@ -6,7 +6,7 @@ use Rattle.krates_rules.specs.Facts.{Fact}
 use Rattle.krates_rules.specs.Resolved.{NodeAt, Resolved, id_of}
 use Rattle.krates_selection.specs.CrateNumbers.{HasCrates}
 use Rattle.krates_search.specs.FoundToggle.{found_toggled}
-use Rattle.krates_search.specs.KeptNumbers.{IsKept}
+use Rattle.krates_selection.specs.KeptTables.{IsKeptIn}
 use Rattle.krates_selection.specs.Selection.{toggled_fact}
 use Rattle.krates_selection.specs.SelectionOrder.{toggled_cmp}
 use Rattle.krates_search.specs.declared.found_toggle.FoundToggle.{FoundToggle}
@@ -16,8 +16,8 @@ use Rattle.krates_selection.specs.declared.selection.ToggledFeature.{ToggledFeat
 pub record HasKeptCrates (r : Resolved) (kids : List Identity) (t : FoundToggle) : Type 0 where
   pub by : NodeAt r (id_of t.by.now) t.by_node
   pub krate : NodeAt r (id_of t.krate.now) t.krate_node
-  pub by_kept : IsKept kids (id_of t.by.now)
-  pub krate_kept : IsKept kids (id_of t.krate.now)
+  pub by_kept : IsKeptIn kids (id_of t.by.now)
+  pub krate_kept : IsKeptIn kids (id_of t.krate.now)
 
 -- the kept one says what the found one does
 pub record IsToggleCopy (kids : List Identity) (t : FoundToggle) (k : ToggledFeature) : Type 0 where

@@ -3,7 +3,6 @@ pub mod FoundEdge
 pub mod FoundToggle
 pub mod KeptEdges
 pub mod KeptFeatures
-pub mod KeptNumbers
 pub mod KeptToggled
 pub mod Kinds
 pub mod Links

@@ -18,7 +18,7 @@ use crate::tracing::{put_feature, put_krate, put_step};
 use krates_cm::Dependency;
 use krates_ids::{Error, Kid, Lost, laws};
 use krates_questions::context::Context;
-use krates_questions::node_entry::{EntryEdge, NodeEntry, declared_at};
+use krates_questions::node_entry::{EntryEdge, NodeEntry};
 use krates_selection::trace::{NumberedFact, NumberedStep, Reason};
 
 /// The node of a kept crate.
@@ -274,7 +274,7 @@ pub(crate) fn keep<'a>(
         id: entry.child,
         place: keeping.node,
     };
-    let dependency = declared_at(entry, keeping.declared);
+    let dependency = entry.declared_at(keeping.declared);
     enable_declared(context, dependency, node, Reason::by_one(6, number), found)?;
     wake(context, entry, node, number, found)?;
     found.edges.push(kept)?;

@@ -11,12 +11,11 @@ ghost use Rattle.krates_search.specs.Kinds.{IsFirstOf};
 use crate::enabling::{Keeping, keep};
 use crate::kinds::{first_kinds, info_at};
 use crate::search_state::SearchState;
-use krates_document::declared_dependency::{Sought, declared_of};
 use krates_graph::agenda::Taken;
 use krates_ids::{Error, Lost, laws};
 use krates_questions::Availability;
 use krates_questions::context::Context;
-use krates_questions::node_entry::{EntryEdge, NodeEntry, entry_at};
+use krates_questions::node_entry::{EntryEdge, NodeEntry};
 use krates_selection::trace::Reason;
 
 /// Keeps what a kept crate needs: tries each edge of its node.
@@ -40,7 +39,7 @@ pub fn expand<'a>(
     laws::one_reading();
     let parts = context.document.parts_of(taken.number());
     for index in 0..parts.children.len() {
-        let entry = entry_at(&parts, index);
+        let entry = parts.entry_at(index);
         expand_entry(context, &entry, false, Reason::by_one(5, step), found)?;
     }
     Ok(())
@@ -138,19 +137,13 @@ fn expand_edge<'a>(
     if context.setting.ignores(info.kind, entry.is_member) {
         return Ok(true);
     }
-    let sought = Sought {
-        dep: entry.dep,
-        kid: entry.child,
-        version: entry.version,
-        info,
-    };
-    let Some(declared) = declared_of(entry.declared, edge.places, &sought) else {
+    let Some(declared) = edge.declared() else {
         return Err(Error::Lost(Lost::Undeclared {
             krate: entry.parent.clone()?,
             dep: entry.child.clone()?,
         }));
     };
-    if !trial.asked && entry.declared[declared].optional {
+    if !trial.asked && entry.declared_at(declared).optional {
         return Ok(false);
     }
     let passes = context.setting.passes(context.alloc, &info.target)?;

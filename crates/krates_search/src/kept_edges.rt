@@ -2,18 +2,16 @@
 
 ghost use Rattle.std.specs.Prelude.{All, IfOk};
 ghost use Rattle.std.specs.List.{AllZip};
-ghost use Rattle.krates_questions.specs.Lookup.{resolved_view};
 ghost use Rattle.krates_questions.specs.Context.{document_of};
 ghost use Rattle.krates_search.specs.FoundEdge.{IsFoundEdge};
 ghost use Rattle.krates_search.specs.KeptEdges.{AreInOrder, HasKeptNodes, IsCopyOf};
-ghost use Rattle.krates_search.specs.KeptNumbers.{AreKeptNumbers, kids_in};
+ghost use Rattle.krates_selection.specs.KeptTables.{IsTables, document_in, kids_in};
 
 use crate::found_edge::FoundEdge;
-use crate::kept_numbers::{KeptNumbers, kept_number};
 use krates_ids::laws;
-use krates_questions::Document;
 use krates_questions::context::Context;
 use krates_questions::sorted::in_order;
+use krates_selection::keys::KeptTables;
 use krates_selection::selection::KeptEdge;
 use std::alloc::{AllocError, Global};
 
@@ -22,18 +20,18 @@ use std::alloc::{AllocError, Global};
 /// Time: O(n log n).
 pub fn kept_edges(
     context: &Context<'_, '_>,
-    numbers: &KeptNumbers<'_>,
+    tables: &KeptTables<'_, '_>,
     found: &[FoundEdge<'_>],
 ) -> Result<Vec<KeptEdge>, AllocError>
-    requires numbers { AreKeptNumbers context.now.document.now numbers.now }
+    requires tables { IsTables tables.now }
     requires found { All (IsFoundEdge (document_of context.now) context.now.setting.now) found.now }
-    requires kept { All (HasKeptNodes (document_of context.now) (kids_in numbers.now)) found.now }
+    requires kept { All (HasKeptNodes (document_in tables.now) (kids_in tables.now)) found.now }
     ensures { IfOk result (λ kept. AreInOrder (document_of context.now) context.now.setting.now
-        (kids_in numbers.now) found.now kept.items) }
+        (kids_in tables.now) found.now kept.items) }
 {
     context.document.agrees();
     laws::comparison();
-    let kept = edge_copies(context.alloc, context.document, numbers, found)?;
+    let kept = edge_copies(context.alloc, tables, found)?;
     let sorted = in_order(kept)?;
     Ok(sorted)
 }
@@ -41,33 +39,28 @@ pub fn kept_edges(
 /// Copies of the edges, with the numbers of their crates.
 fn edge_copies(
     alloc: Global,
-    document: &Document<'_>,
-    numbers: &KeptNumbers<'_>,
+    tables: &KeptTables<'_, '_>,
     edges: &[FoundEdge<'_>],
 ) -> Result<Vec<KeptEdge>, AllocError>
-    requires numbers { AreKeptNumbers document.now numbers.now }
-    requires kept { All (HasKeptNodes (resolved_view document.now) (kids_in numbers.now)) edges.now }
-    ensures { IfOk result (λ kept. AllZip (IsCopyOf (kids_in numbers.now)) edges.now kept.items) }
+    requires tables { IsTables tables.now }
+    requires kept { All (HasKeptNodes (document_in tables.now) (kids_in tables.now)) edges.now }
+    ensures { IfOk result (λ kept. AllZip (IsCopyOf (kids_in tables.now)) edges.now kept.items) }
 {
     let mut kept = Vec::with_capacity(alloc, edges.len())?;
     for edge in edges {
-        kept.push(edge_copy(document, numbers, edge)?)?;
+        kept.push(edge_copy(tables, edge)?)?;
     }
     Ok(kept)
 }
 
 /// A copy of what an edge says, with the numbers of its crates.
-fn edge_copy(
-    document: &Document<'_>,
-    numbers: &KeptNumbers<'_>,
-    edge: &FoundEdge<'_>,
-) -> Result<KeptEdge, AllocError>
-    requires numbers { AreKeptNumbers document.now numbers.now }
-    requires kept { HasKeptNodes (resolved_view document.now) (kids_in numbers.now) edge.now }
-    ensures { IfOk result (IsCopyOf (kids_in numbers.now) edge.now) }
+fn edge_copy(tables: &KeptTables<'_, '_>, edge: &FoundEdge<'_>) -> Result<KeptEdge, AllocError>
+    requires tables { IsTables tables.now }
+    requires kept { HasKeptNodes (document_in tables.now) (kids_in tables.now) edge.now }
+    ensures { IfOk result (IsCopyOf (kids_in tables.now) edge.now) }
 {
-    let parent = kept_number(document, numbers, edge.parent_node);
-    let child = kept_number(document, numbers, edge.child_node);
+    let parent = tables.crate_at(edge.parent_node);
+    let child = tables.crate_at(edge.child_node);
     let cfg = edge.info.target.clone()?;
     Ok(KeptEdge {
         parent,

@@ -10,7 +10,6 @@ pub mod found_edge;
 pub mod found_toggle;
 pub mod kept_edges;
 pub mod kept_features;
-pub mod kept_numbers;
 pub mod kept_toggled;
 mod kinds;
 pub mod links;

@@ -3,14 +3,15 @@ use Rattle.std.proofs.Common.{◌≡◌, ℕ, ◌<◌, List, length, get_or, map
 use Rattle.std.proofs.lemmas.List.{length-map}
 use Rattle.std.proofs.lemmas.Option.{slice_get-map, slice_get_read, slice_get_within, get_or_from_slice_get, same_Some}
 use Rattle.std.specs.List.{slice_get}
+use Rattle.std.specs.List.Sorted.{IsStrictlySortedBy}
 use Rattle.krates_cm.specs.Document.{NodeModel, NodeDepModel, Text}
 use Rattle.krates_selection.specs.CrateNumbers.{id_at, no_id}
 use Rattle.krates_selection.specs.KeptTables.{IsChildAt, IsKeptChild, IsKeptIn, IsKeptNode, IsKeptWithNode, IsNumberAt, IsTables, document_in, kids_in}
 use Rattle.krates_selection.specs.declared.keys.KeptTables.{KeptTables}
 use Rattle.krates_selection.proofs.FactPlaces.{zip_long}
-use Rattle.krates_ids.specs.Identity.{Identity, Reads}
+use Rattle.krates_ids.specs.Identity.{Identity, Reads, id_cmp}
 use Rattle.krates_questions.proofs.Lookups.{one_id}
-use Rattle.krates_questions.specs.CrateTable.{IsNumberOf, at_number}
+use Rattle.krates_questions.specs.CrateTable.{AreNumbered, AreNumbersOf, IsNumberOf, at_number}
 use Rattle.krates_questions.specs.FeatureTable.{listed_view}
 use Rattle.krates_questions.specs.ListedFeatures.{listed_features}
 use Rattle.krates_questions.specs.Lookup.{IsLookup, IsNumberIn, resolved_view}
@@ -18,10 +19,26 @@ use Rattle.krates_questions.specs.declared.feature_table.ListedFeature.{ListedFe
 use Rattle.krates_questions.specs.declared.lookup.Lookup.{Lookup}
 use Rattle.krates_rules.proofs.OnlyOne.{place_in}
 use Rattle.krates_rules.proofs.Readings.{ReadsOnce, right_of}
+use Rattle.krates_rules.proofs.SeenInOrder.{sorted_same}
 use Rattle.krates_rules.proofs.Standings.{contains_at}
 use Rattle.krates_rules.specs.Admission.{node_texts}
 use Rattle.krates_rules.specs.Facts.{Id}
+use Rattle.krates_rules.specs.Referent.{id_order}
 use Rattle.krates_rules.specs.Resolved.{DepAt, HasNode, ReadsAs, Resolved, id_of}
+
+-- ---- the tables
+
+-- kept crates that are in order, with the numbers among them of the crates of the document
+pub are_tables : (t : KeptTables) (ids ks kids : List Identity) (numbers : List (Option ℕ)) → IsLookup t.document.now → IsStrictlySortedBy id_cmp kids → t.krates.now ≡ kids → ks ≡ kids → ids ≡ t.document.now.table.ids.items → t.numbers.now ≡ numbers
+    → AreNumbersOf (map id_of ks) ids numbers → IsTables t
+are_tables t ids ks kids numbers lookup rise krates same read is h =
+    let those = subst (λ (l : List Identity). AreNumbersOf (map id_of ks) l numbers) read h in
+    let theirs = subst (λ (l : List Identity). AreNumbersOf (map id_of l) t.document.now.table.ids.items numbers) (same ∙ sym krates) those in
+    record {
+      lookup = lookup;
+      ascending = subst (λ (l : List Identity). AreNumbered (map id_of l)) (sym krates) (sorted_same id_cmp id_order id_of (λ a b. refl) kids rise);
+      numbers = subst (AreNumbersOf (map id_of t.krates.now) t.document.now.table.ids.items) (sym is) theirs;
+    }
 
 -- ---- what a search answers
 

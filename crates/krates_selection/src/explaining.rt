@@ -12,7 +12,7 @@ ghost use Rattle.krates_rules.specs.Facts.{Crate, Id};
 use crate::firsts::first_steps;
 use crate::kept::KeptStep;
 use crate::key::{KeptFactKey, fact_of};
-use crate::keys::{KeptTables, keys_of};
+use crate::keys::KeptTables;
 use crate::laws as step_laws;
 use crate::numbering::fact_numbers;
 use crate::part_of_steps::PartOfSteps;
@@ -47,7 +47,7 @@ pub fn kept_steps<'a>(
         krates,
         numbers: &krate_numbers,
     };
-    let keys = keys_of(context.alloc, &tables, steps)?;
+    let keys = tables.keys_of(context.alloc, steps)?;
     let numbers = fact_numbers(context.alloc, krates.len(), &keys)?;
     let uses = uses_of(context.alloc, steps)?;
     let part = first_steps(context.alloc, &uses, &numbers, keys.len())?;

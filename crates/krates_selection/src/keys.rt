@@ -1,4 +1,4 @@
-//! Numbered facts by the numbers of the kept crates.
+//! The numbers of the kept crates, and numbered facts by them.
 
 ghost use Rattle.std.specs.Prelude.{◌≡◌, IfOk};
 ghost use Rattle.std.specs.List.{AllZip};
@@ -20,7 +20,7 @@ use std::alloc::{AllocError, Global};
 
 /// A document, and the kept crates of it in the order of their ids.
 #[derive(Clone, Copy)]
-pub(crate) struct KeptTables<'a, 's> {
+pub struct KeptTables<'a, 's> {
     /// The document.
     pub document: &'s Document<'a>,
     /// The kept crates.
@@ -29,102 +29,99 @@ pub(crate) struct KeptTables<'a, 's> {
     pub numbers: &'s [Option<usize>],
 }
 
-/// The key of the fact of each step.
-pub(crate) fn keys_of<'a>(
-    alloc: Global,
-    tables: &KeptTables<'a, '_>,
-    steps: &[NumberedStep],
-) -> Result<Vec<KeptFactKey<'a>>, AllocError>
-    requires tables { IsTables tables.now }
-    requires kept { AreKeptFacts tables.now steps.now }
-    ensures { IfOk result (λ keys. AllZip (IsKeyOf tables.now) (numbered_facts steps.now) keys.items) }
-{
-    let mut keys = Vec::with_capacity(alloc, steps.len())?;
-    for step in steps {
-        keys.push(key_at(tables, step.fact))?;
-    }
-    Ok(keys)
-}
-
-/// The key of a fact.
-fn key_at<'a>(tables: &KeptTables<'a, '_>, fact: NumberedFact) -> KeptFactKey<'a>
-    requires tables { IsTables tables.now }
-    requires kept { IsKeptFact tables.now fact }
-    ensures { IsKeyOf tables.now fact result }
-{
-    match fact {
-        NumberedFact::Crate { place } => KeptFactKey::Crate(crate_at(tables, place)),
-        NumberedFact::Feature { number } => KeptFactKey::Feature(feature_at(tables, number)),
-        NumberedFact::Kept { place, index, kind } => {
-            KeptFactKey::Kept(kept_edge_key(tables, place, index, kind))
+impl<'a> KeptTables<'a, '_> {
+    /// The key of the fact of each step.
+    pub(crate) fn keys_of(
+        &self,
+        alloc: Global,
+        steps: &[NumberedStep],
+    ) -> Result<Vec<KeptFactKey<'a>>, AllocError>
+        requires tables { IsTables self.now }
+        requires kept { AreKeptFacts self.now steps.now }
+        ensures { IfOk result (λ keys. AllZip (IsKeyOf self.now) (numbered_facts steps.now) keys.items) }
+    {
+        let mut keys = Vec::with_capacity(alloc, steps.len())?;
+        for step in steps {
+            keys.push(self.key_at(step.fact))?;
         }
-        NumberedFact::Toggled { place, number } => {
-            KeptFactKey::Toggled(ToggleKey {
-                by: crate_at(tables, place),
-                feature: feature_at(tables, number),
-            })
+        Ok(keys)
+    }
+
+    /// The key of a fact.
+    fn key_at(&self, fact: NumberedFact) -> KeptFactKey<'a>
+        requires tables { IsTables self.now }
+        requires kept { IsKeptFact self.now fact }
+        ensures { IsKeyOf self.now fact result }
+    {
+        match fact {
+            NumberedFact::Crate { place } => KeptFactKey::Crate(self.crate_at(place)),
+            NumberedFact::Feature { number } => KeptFactKey::Feature(self.feature_at(number)),
+            NumberedFact::Kept { place, index, kind } => {
+                KeptFactKey::Kept(self.kept_edge_key(place, index, kind))
+            }
+            NumberedFact::Toggled { place, number } => {
+                KeptFactKey::Toggled(ToggleKey {
+                    by: self.crate_at(place),
+                    feature: self.feature_at(number),
+                })
+            }
         }
     }
-}
 
-/// The number of the crate whose node stands at a place.
-fn crate_at(tables: &KeptTables<'_, '_>, place: usize) -> usize
-    requires tables { IsTables tables.now }
-    requires kept { IsKeptNode tables.now place }
-    ensures { IsNumberAt tables.now place result }
-{
-    laws::one_reading();
-    let number = tables.document.node_number(place);
-    let Some(kept) = at_number(tables.numbers, number) else {
-        unreachable!()
-    };
-    kept
-}
-
-/// The number of the crate that a dependency leads to.
-fn child_at(tables: &KeptTables<'_, '_>, place: usize, index: usize) -> usize
-    requires tables { IsTables tables.now }
-    requires kept { IsKeptChild tables.now place index }
-    ensures { IsChildAt tables.now place index result }
-{
-    laws::one_reading();
-    let number = tables.document.child_number_at(place, index);
-    let Some(kept) = at_number(tables.numbers, number) else {
-        unreachable!()
-    };
-    kept
-}
-
-/// The key of the feature of a number.
-fn feature_at<'a>(tables: &KeptTables<'a, '_>, number: usize) -> FeatureKey<'a>
-    requires tables { IsTables tables.now }
-    requires kept { IsKeptFeature tables.now number }
-    ensures { IsFeatureIn tables.now number result }
-{
-    let feature = tables.document.listed_features()[number];
-    FeatureKey {
-        krate: crate_at(tables, feature.place),
-        name: feature.name,
+    /// The number of the kept crate whose node stands at a place. Time O(1).
+    pub fn crate_at(&self, place: usize) -> usize
+        requires tables { IsTables self.now }
+        requires kept { IsKeptNode self.now place }
+        ensures { IsNumberAt self.now place result }
+    {
+        laws::one_reading();
+        let number = self.document.node_number(place);
+        let Some(kept) = at_number(self.numbers, number) else {
+            unreachable!()
+        };
+        kept
     }
-}
 
-/// The key of the edge at these places.
-fn kept_edge_key<'a>(
-    tables: &KeptTables<'a, '_>,
-    place: usize,
-    index: usize,
-    kind: usize,
-) -> KeptEdgeKey<'a>
-    requires tables { IsTables tables.now }
-    requires kept { IsKeptEdge tables.now place index kind }
-    ensures { IsEdgeIn tables.now place index kind result }
-{
-    let info = edge_info(tables.document, place, index, kind);
-    KeptEdgeKey {
-        parent: crate_at(tables, place),
-        child: child_at(tables, place, index),
-        kind: DepKind::from(info.kind),
-        cfg: &info.target,
+    /// The number of the crate that a dependency leads to.
+    fn child_at(&self, place: usize, index: usize) -> usize
+        requires tables { IsTables self.now }
+        requires kept { IsKeptChild self.now place index }
+        ensures { IsChildAt self.now place index result }
+    {
+        laws::one_reading();
+        let number = self.document.child_number_at(place, index);
+        let Some(kept) = at_number(self.numbers, number) else {
+            unreachable!()
+        };
+        kept
+    }
+
+    /// The key of the feature of a number.
+    fn feature_at(&self, number: usize) -> FeatureKey<'a>
+        requires tables { IsTables self.now }
+        requires kept { IsKeptFeature self.now number }
+        ensures { IsFeatureIn self.now number result }
+    {
+        let feature = self.document.listed_features()[number];
+        FeatureKey {
+            krate: self.crate_at(feature.place),
+            name: feature.name,
+        }
+    }
+
+    /// The key of the edge at these places.
+    fn kept_edge_key(&self, place: usize, index: usize, kind: usize) -> KeptEdgeKey<'a>
+        requires tables { IsTables self.now }
+        requires kept { IsKeptEdge self.now place index kind }
+        ensures { IsEdgeIn self.now place index kind result }
+    {
+        let info = edge_info(self.document, place, index, kind);
+        KeptEdgeKey {
+            parent: self.crate_at(place),
+            child: self.child_at(place, index),
+            kind: DepKind::from(info.kind),
+            cfg: &info.target,
+        }
     }
 }
 

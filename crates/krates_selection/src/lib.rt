@@ -15,7 +15,7 @@ mod explaining;
 mod firsts;
 pub mod kept;
 mod key;
-mod keys;
+pub mod keys;
 mod laws;
 mod marking;
 mod numbering;

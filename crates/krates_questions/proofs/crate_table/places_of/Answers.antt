@@ -1,4 +1,4 @@
-use Rattle.krates_questions.proofs.NumberedPlaces.{places_more, places_same, places_whole}
+use Rattle.krates_questions.proofs.NumberedPlaces.{places_whole}
 use Rattle.krates_questions.proofs.crate_table.places_of.Goals as goal
 use Rattle.std.proofs.Common.{arith}
 

@@ -10,7 +10,9 @@ use Rattle.krates_search.specs.KeptFeatures.{AreSorted}
 use Rattle.krates_search.specs.KeptToggled.{AreToggled}
 use Rattle.krates_search.specs.declared.found_edge.FoundEdge.{FoundEdge}
 use Rattle.krates_search.specs.declared.found_toggle.FoundToggle.{FoundToggle}
+use Rattle.krates_selection.specs.declared.keys.KeptTables.{KeptTables}
 use Rattle.krates_selection.specs.declared.selection.Selection.{Selection}
+use Rattle.krates_selection.proofs.KeptNumbers.{are_tables}
 use Rattle.krates_resolve.proofs.CountedSelection.{IsCountedWhole, counts_each}
 use Rattle.krates_questions.proofs.NodeParts.{nodes_long}
 use Rattle.krates_resolve.proofs.Selected.{IsInOrder, edges_kept, features_kept, selected, toggles_kept, whole_of}
@@ -27,11 +29,21 @@ kids_at-requires c =
 pub numbers_of-requires : goal.numbers_of-requires
 numbers_of-requires c = subst (λ (kids : List Identity). AreNumbered (map id_of kids)) (sym c.deref.ensures.value) (sorted_same id_cmp id_order id_of (λ a b. refl) c.in_ok-krates.krates.items c.in_ok-krates.ensures.ascending)
 
+pub kept_edges-requires-clause-tables : goal.kept_edges-requires-clause-tables
+kept_edges-requires-clause-tables c =
+    let t : KeptTables = record { document = c.args.context.now.document; krates = c.deref-2.result; numbers = c.deref-3.result } in
+    are_tables t c.crate_ids.result.now c.deref.result.now c.in_ok-krates.krates.items c.in_ok-numbers.numbers.items c.agrees.ensures c.in_ok-krates.ensures.ascending c.deref-2.ensures.value c.deref.ensures.value c.crate_ids.ensures c.deref-3.ensures.value c.in_ok-numbers.ensures
+
 pub kept_edges-requires-clause-kept : goal.kept_edges-requires-clause-kept
 kept_edges-requires-clause-kept c =
     let whole = whole_of c.args.context.now.document.now c.args.context.now.setting.now c.args.found.now c.node_ids.result.now c.numbers.result.now c.in_ok-kids_at.field-0.items c.in_ok-krates.krates.items c.agrees.ensures c.requires.exact c.node_ids.ensures c.numbers.ensures.put
     c.in_ok-kids_at.ensures c.requires.some (record { from = c.in_ok-krates.ensures.from; kept = c.in_ok-krates.ensures.kept }) c.in_ok-krates.ensures.ascending in
     edges_kept c.one_reading.ensures.once c.comparison.ensures.equality (resolved_view c.args.context.now.document.now) c.args.context.now.setting.now c.args.context.now.document.now.ids.now.nodes.items c.args.found.now c.in_ok-kids_at.field-0.items c.in_ok-krates.krates.items whole c.requires.sound.placed c.deref-2.result.now c.deref-4.result.now c.deref-2.ensures.value c.deref-4.ensures.value
+
+pub kept_features-requires-clause-tables : goal.kept_features-requires-clause-tables
+kept_features-requires-clause-tables c =
+    let t : KeptTables = record { document = c.args.context.now.document; krates = c.deref-2.result; numbers = c.deref-3.result } in
+    are_tables t c.crate_ids.result.now c.deref.result.now c.in_ok-krates.krates.items c.in_ok-numbers.numbers.items c.agrees.ensures c.in_ok-krates.ensures.ascending c.deref-2.ensures.value c.deref.ensures.value c.crate_ids.ensures c.deref-3.ensures.value c.in_ok-numbers.ensures
 
 pub kept_features-requires-clause-kept : goal.kept_features-requires-clause-kept
 kept_features-requires-clause-kept c =
@@ -40,6 +52,11 @@ kept_features-requires-clause-kept c =
     let sound = c.requires.sound in
     let below = subst (λ (n : ℕ). All (λ p. p < n) c.args.found.now.features.put) sound.features_size c.numbers-2.ensures.orderly.below in
     features_kept c.one_reading.ensures.once c.comparison.ensures.equality (resolved_view c.args.context.now.document.now) c.args.context.now.setting.now c.args.context.now.document.now.ids.now.nodes.items c.args.found.now c.in_ok-kids_at.field-0.items c.in_ok-krates.krates.items whole below c.deref-2.result.now c.numbers-2.result.now c.deref-2.ensures.value c.numbers-2.ensures.put
+
+pub kept_toggled-requires-clause-tables : goal.kept_toggled-requires-clause-tables
+kept_toggled-requires-clause-tables c =
+    let t : KeptTables = record { document = c.args.context.now.document; krates = c.deref-2.result; numbers = c.deref-3.result } in
+    are_tables t c.crate_ids.result.now c.deref.result.now c.in_ok-krates.krates.items c.in_ok-numbers.numbers.items c.agrees.ensures c.in_ok-krates.ensures.ascending c.deref-2.ensures.value c.deref.ensures.value c.crate_ids.ensures c.deref-3.ensures.value c.in_ok-numbers.ensures
 
 pub kept_toggled-requires-clause-kept : goal.kept_toggled-requires-clause-kept
 kept_toggled-requires-clause-kept c =

@@ -1,16 +1,12 @@
-use Rattle.std.proofs.Common.{refl, ℕ, ◌<◌, Contains, String, Global, map, sym, subst, arith, string_bytes}
-use Rattle.std.proofs.lemmas.List.{length-map}
-use Rattle.std.proofs.lemmas.Option.{slice_get_within}
-use Rattle.krates_cm.specs.Document.{Text, node_view, text_view}
+use Rattle.std.proofs.Common.{refl, String, Global, sym, subst, arith, string_bytes}
+use Rattle.krates_cm.specs.Document.{Text, text_view}
 use Rattle.krates_rules.specs.Facts.{Crate, Feature}
 use Rattle.krates_search.specs.SearchState.{HasFound, IsEnabledBySome, MayName}
 use Rattle.krates_questions.specs.Lookup.{resolved_view}
 use Rattle.krates_rules.specs.Resolved.{id_of}
-use Rattle.krates_questions.proofs.NodeParts.{within_vec}
 use Rattle.krates_search.proofs.Finding.{finds_root_feature, for_reason}
 use Rattle.krates_search.proofs.Growing.{advances_refl, advances_trans}
 use Rattle.krates_selection.proofs.ListedFeatures.{value_at}
-use Rattle.krates_questions.proofs.RootLemmas.{listed_names}
 use Rattle.krates_resolve.proofs.Rooted.{listed_may}
 use Rattle.krates_rules.proofs.Seen.{seen_more, each_seen}
 use Rattle.krates_resolve.proofs.roots.enable_listed.Goals as goal

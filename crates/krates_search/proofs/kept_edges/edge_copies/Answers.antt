@@ -1,17 +1,16 @@
 use Rattle.std.proofs.Common.{◌+◌, sym, subst, take, arith}
 use Rattle.std.specs.List.{AllZip}
-use Rattle.krates_questions.specs.Lookup.{resolved_view}
 use Rattle.krates_search.specs.KeptEdges.{HasKeptNodes, IsCopyOf}
-use Rattle.krates_search.specs.KeptNumbers.{kids_in}
+use Rattle.krates_selection.specs.KeptTables.{document_in, kids_in}
 use Rattle.krates_selection.proofs.ByNumber.{all_item, zip_more, zip_whole}
 use Rattle.krates_search.proofs.kept_edges.edge_copies.Goals as goal
 
 pub edge_copy-requires-clause-kept : goal.edge_copy-requires-clause-kept
-edge_copy-requires-clause-kept c = all_item (HasKeptNodes (resolved_view c.args.document.now) (kids_in c.args.numbers.now)) c.args.edges.now c.loop-edge.edge-index c.edge-item.result c.requires.kept c.loop-edge-test.true c.edge-item.is
+edge_copy-requires-clause-kept c = all_item (HasKeptNodes (document_in c.args.tables.now) (kids_in c.args.tables.now)) c.args.edges.now c.loop-edge.edge-index c.edge-item.result c.requires.kept c.loop-edge-test.true c.edge-item.is
 
 pub loop-edge-preserved : goal.loop-edge-preserved
 loop-edge-preserved c =
-    let edge_copies = IsCopyOf (kids_in c.args.numbers.now) in
+    let edge_copies = IsCopyOf (kids_in c.args.tables.now) in
     let i = c.loop-edge.edge-index in
     let edges = c.args.edges.now in
     let old = c.loop-edge.kept.items in
@@ -19,4 +18,4 @@ loop-edge-preserved c =
     subst (AllZip edge_copies (take (i + 1) edges)) (sym c.in_ok-push.ensures.items) more
 
 pub returns : goal.returns
-returns c = zip_whole (IsCopyOf (kids_in c.args.numbers.now)) c.args.edges.now c.loop-edge.edge-index c.loop-edge.kept.items (omega arith) c.loop-edge.invariant
+returns c = zip_whole (IsCopyOf (kids_in c.args.tables.now)) c.args.edges.now c.loop-edge.edge-index c.loop-edge.kept.items (omega arith) c.loop-edge.invariant

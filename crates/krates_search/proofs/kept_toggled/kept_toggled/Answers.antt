@@ -1,9 +1,9 @@
-use Rattle.krates_search.specs.KeptNumbers.{kids_in}
+use Rattle.krates_selection.specs.KeptTables.{kids_in}
 use Rattle.krates_search.proofs.KeptToggled.{toggled_in_order}
 use Rattle.krates_search.proofs.kept_toggled.kept_toggled.Goals as goal
 
 pub returns : goal.returns
-returns c = toggled_in_order (kids_in c.args.numbers.now) c.args.found.now c.in_ok-kept.kept.items c.in_ok-sorted.sorted.items record {
+returns c = toggled_in_order (kids_in c.args.tables.now) c.args.found.now c.in_ok-kept.kept.items c.in_ok-sorted.sorted.items record {
   copied = c.in_ok-kept.ensures;
   ascending = c.in_ok-sorted.ensures.ascending;
   from = c.in_ok-sorted.ensures.from;

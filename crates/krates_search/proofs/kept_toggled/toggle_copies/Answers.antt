@@ -1,17 +1,16 @@
 use Rattle.std.proofs.Common.{◌+◌, sym, subst, take, arith}
 use Rattle.std.specs.List.{AllZip}
-use Rattle.krates_questions.specs.Lookup.{resolved_view}
-use Rattle.krates_search.specs.KeptNumbers.{kids_in}
+use Rattle.krates_selection.specs.KeptTables.{document_in, kids_in}
 use Rattle.krates_search.specs.KeptToggled.{HasKeptCrates, IsToggleCopy}
 use Rattle.krates_selection.proofs.ByNumber.{all_item, zip_more, zip_whole}
 use Rattle.krates_search.proofs.kept_toggled.toggle_copies.Goals as goal
 
 pub toggle_copy-requires-clause-kept : goal.toggle_copy-requires-clause-kept
-toggle_copy-requires-clause-kept c = all_item (HasKeptCrates (resolved_view c.args.document.now) (kids_in c.args.numbers.now)) c.args.toggled.now c.loop-toggle.toggle-index c.toggle-item.result c.requires.kept c.loop-toggle-test.true c.toggle-item.is
+toggle_copy-requires-clause-kept c = all_item (HasKeptCrates (document_in c.args.tables.now) (kids_in c.args.tables.now)) c.args.toggled.now c.loop-toggle.toggle-index c.toggle-item.result c.requires.kept c.loop-toggle-test.true c.toggle-item.is
 
 pub loop-toggle-preserved : goal.loop-toggle-preserved
 loop-toggle-preserved c =
-    let toggle_copies = IsToggleCopy (kids_in c.args.numbers.now) in
+    let toggle_copies = IsToggleCopy (kids_in c.args.tables.now) in
     let i = c.loop-toggle.toggle-index in
     let toggled = c.args.toggled.now in
     let old = c.loop-toggle.kept.items in
@@ -19,4 +18,4 @@ loop-toggle-preserved c =
     subst (AllZip toggle_copies (take (i + 1) toggled)) (sym c.in_ok-push.ensures.items) more
 
 pub returns : goal.returns
-returns c = zip_whole (IsToggleCopy (kids_in c.args.numbers.now)) c.args.toggled.now c.loop-toggle.toggle-index c.loop-toggle.kept.items (omega arith) c.loop-toggle.invariant
+returns c = zip_whole (IsToggleCopy (kids_in c.args.tables.now)) c.args.toggled.now c.loop-toggle.toggle-index c.loop-toggle.kept.items (omega arith) c.loop-toggle.invariant

@@ -5,6 +5,7 @@ use Rattle.std.specs.Global.{Vec}
 use Rattle.std.specs.List.{AllZip}
 use Rattle.krates_selection.proofs.FirstSteps.{follow_backward, homes_low, kept_facts, shown_uses, steps_are, uses_of}
 use Rattle.krates_selection.proofs.FactPlaces.{zip_long}
+use Rattle.krates_selection.proofs.KeptNumbers.{are_tables}
 use Rattle.krates_selection.proofs.ToldParts.{chosen_low}
 use Rattle.krates_selection.specs.Chosen.{AreChosen}
 use Rattle.krates_selection.specs.Keys.{AreFactNumbers, home, key_view}
@@ -12,10 +13,9 @@ use Rattle.krates_selection.specs.KeptTables.{AreStepsOf, IsKeyOf, numbered_fact
 use Rattle.krates_selection.specs.declared.kept.KeptStep.{KeptStep}
 use Rattle.krates_selection.specs.declared.key.KeptFactKey.{KeptFactKey}
 use Rattle.krates_selection.specs.declared.keys.KeptTables.{KeptTables}
-use Rattle.krates_questions.specs.CrateTable.{AreNumbersOf}
 use Rattle.krates_rules.proofs.SeenInOrder.{sorted_same}
 use Rattle.krates_questions.specs.Context.{document_of, rules_of}
-use Rattle.krates_ids.specs.Identity.{Identity, id_cmp}
+use Rattle.krates_ids.specs.Identity.{id_cmp}
 use Rattle.krates_selection.specs.declared.trace.NumberedStep.{NumberedStep}
 use Rattle.krates_rules.specs.Referent.{id_order}
 use Rattle.krates_rules.specs.Resolved.{id_of}
@@ -27,14 +27,8 @@ numbers_of-requires c = sorted_same id_cmp id_order id_of (λ a b. refl) c.args.
 
 pub keys_of-requires-clause-tables : goal.keys_of-requires-clause-tables
 keys_of-requires-clause-tables c =
-    let kids = c.args.krates.now in
-    let numbers = c.in_ok-krate_numbers.krate_numbers.items in
-    let among = subst (λ (ids : List Identity). AreNumbersOf (map id_of kids) ids numbers) c.crate_ids.ensures c.in_ok-krate_numbers.ensures in
-    record {
-      lookup = c.agrees.ensures;
-      ascending = sorted_same id_cmp id_order id_of (λ a b. refl) kids c.requires.ascending;
-      numbers = subst (AreNumbersOf (map id_of kids) c.args.context.now.document.now.table.ids.items) (sym c.deref.ensures.value) among;
-    }
+    let t : KeptTables = record { document = c.args.context.now.document; krates = c.args.krates; numbers = c.deref.result } in
+    are_tables t c.crate_ids.result.now t.krates.now t.krates.now c.in_ok-krate_numbers.krate_numbers.items c.agrees.ensures c.requires.ascending refl refl c.crate_ids.ensures c.deref.ensures.value c.in_ok-krate_numbers.ensures
 
 pub keys_of-requires-clause-kept : goal.keys_of-requires-clause-kept
 keys_of-requires-clause-kept c =

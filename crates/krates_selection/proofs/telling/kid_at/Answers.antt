@@ -1,4 +1,4 @@
-use Rattle.std.proofs.Common.{◌≡◌, ◌<◌, ℕ, Bor, List, Contains, length, get_or, map, sym, ap, subst, ◌∙◌, arith, Result, Ok, Err, IfOk, MatchResult}
+use Rattle.std.proofs.Common.{◌≡◌, ◌<◌, ℕ, Bor, List, Contains, length, get_or, sym, ap, subst, ◌∙◌, arith, Result, Ok, Err, IfOk, MatchResult}
 use Rattle.std.proofs.lemmas.List.{get_or-map, length-map}
 use Rattle.krates_ids.specs.Identity.{Identity}
 use Rattle.krates_questions.specs.CrateTable.{lent_to}

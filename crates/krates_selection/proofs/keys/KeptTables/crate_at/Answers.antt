@@ -2,21 +2,21 @@ use Rattle.std.proofs.Common.{◌∙◌, subst, sym}
 use Rattle.std.proofs.lemmas.Option.{same_Some, slice_get_within}
 use Rattle.krates_selection.proofs.KeptNumbers.{number_at, number_within}
 use Rattle.krates_selection.specs.KeptTables.{IsNumberAt, document_in}
-use Rattle.krates_selection.proofs.keys.crate_at.Goals as goal
+use Rattle.krates_selection.proofs.keys.KeptTables.crate_at.Goals as goal
 
 pub node_number-number-requires : goal.node_number-number-requires
 node_number-number-requires c =
     let k = c.requires.kept in
-    record { within = slice_get_within (document_in c.args.tables.now).graph.nodes c.args.place k.node.node k.node.at }
+    record { within = slice_get_within (document_in c.args.self.now).graph.nodes c.args.place k.node.node k.node.at }
 
 pub at_number-requires : goal.at_number-requires
 at_number-requires c =
     let k = c.requires.kept in
-    number_within c.args.tables.now k.krate c.node_number-number.result c.requires.tables (c.node_number-number.ensures k.krate k.node)
+    number_within c.args.self.now k.krate c.node_number-number.result c.requires.tables (c.node_number-number.ensures k.krate k.node)
 
 pub unreachable-requires : goal.unreachable-requires
 unreachable-requires c =
-    let t = c.args.tables.now in
+    let t = c.args.self.now in
     let k = c.requires.kept in
     let n = c.node_number-number.ensures k.krate k.node in
     let h = number_at c.one_reading.ensures.once t c.args.place c.node_number-number.result c.at_number.result c.requires.tables k n c.at_number.ensures in
@@ -24,7 +24,7 @@ unreachable-requires c =
 
 pub returns : goal.returns
 returns c =
-    let t = c.args.tables.now in
+    let t = c.args.self.now in
     let k = c.requires.kept in
     let n = c.node_number-number.ensures k.krate k.node in
     let h = number_at c.one_reading.ensures.once t c.args.place c.node_number-number.result c.at_number.result c.requires.tables k n c.at_number.ensures in

@@ -3,7 +3,7 @@ use Rattle.krates_cm.specs.Document.{DepKindInfoModel}
 use Rattle.krates_selection.proofs.KeyedFacts.{edge_same}
 use Rattle.krates_rules.proofs.KeyOrder.{written_back}
 use Rattle.krates_rules.specs.Kind.{written_of}
-use Rattle.krates_selection.proofs.keys.kept_edge_key.Goals as goal
+use Rattle.krates_selection.proofs.keys.KeptTables.kept_edge_key.Goals as goal
 
 pub child_at-requires-clause-kept : goal.child_at-requires-clause-kept
 child_at-requires-clause-kept c =
@@ -14,7 +14,7 @@ pub returns : goal.returns
 returns c = record {
   is = λ e at. (
       let info = c.edge_info-info.ensures e at in
-      edge_same c.args.tables.now.krates.now c.crate_at.result c.child_at.result (written_of c.from.result) _ e (c.crate_at.ensures.is e.parent at.dep.node) (c.child_at.ensures.is e.parent e.child at.dep)
+      edge_same c.args.self.now.krates.now c.crate_at.result c.child_at.result (written_of c.from.result) _ e (c.crate_at.ensures.is e.parent at.dep.node) (c.child_at.ensures.is e.parent e.child at.dep)
       (ap written_of c.from.ensures ∙ written_back c.edge_info-info.result.now.kind ∙ ap (λ (k : DepKindInfoModel). k.kind) info) (ap (λ (k : DepKindInfoModel). k.target) info));
   below = (c.crate_at.ensures.below, c.child_at.ensures.below);
 }

@@ -6,11 +6,11 @@ use Rattle.krates_selection.proofs.KeyedFacts.{feature_is}
 use Rattle.krates_selection.specs.KeptTables.{document_in}
 use Rattle.krates_questions.proofs.FeatureNumbers.{number_within}
 use Rattle.krates_selection.proofs.ListedFeatures.{listed_long}
-use Rattle.krates_selection.proofs.keys.feature_at.Goals as goal
+use Rattle.krates_selection.proofs.keys.KeptTables.feature_at.Goals as goal
 
 pub returns : goal.returns
 returns c =
-    let t = c.args.tables.now in
+    let t = c.args.self.now in
     let d = t.document.now in
     let n = c.args.number in
     let none : ListedFeature = record { place = 0; name = record { ref_ptr = (0, 0); now = [] } } in
