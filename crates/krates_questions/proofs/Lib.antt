@@ -9,10 +9,12 @@ pub mod FeatureNumbers
 pub mod LeastReferents
 pub mod LibraryNames
 pub mod ListPlaces
+pub mod ListedFeatures
 pub mod Lookups
 pub mod Needs
 pub mod NodeNumbers
 pub mod NodeParts
+pub mod NumberedOnce
 pub mod NumberedPlaces
 pub mod OneReferent
 pub mod ReadIds

@@ -1,8 +1,9 @@
 -- The numbers of the crates of nodes and of their dependencies.
-use Rattle.std.proofs.Common.{◌≡◌, ℕ, ◌<◌, List, Option, Some, get_or, length, map, option_map, sym, ap, ◌∙◌, arith, subst}
+use Rattle.std.proofs.Common.{◌≡◌, ℕ, ◌<◌, List, Option, None, Some, get_or, length, map, option_map, refl, sym, ap, ◌∙◌, arith, subst}
 use Rattle.std.proofs.lemmas.List.{length-map}
 use Rattle.std.proofs.lemmas.Option.{get_or_from_slice_get, slice_get-map, slice_get_within}
 use Rattle.std.specs.Global.{Vec}
+use Rattle.std.specs.Option.{IsSome}
 use Rattle.std.specs.List.{AllZip, slice_get}
 use Rattle.std.specs.Vec.{vec_len}
 use Rattle.krates_cm.specs.Document.{NodeDepModel, NodeModel, Text}
@@ -13,8 +14,10 @@ use Rattle.krates_questions.specs.Lookup.{IsLookup, IsNumberIn, resolved_view}
 use Rattle.krates_questions.specs.declared.lookup.Lookup.{Lookup}
 use Rattle.krates_rules.specs.Admission.{AreDepIds, dep_texts, node_texts}
 use Rattle.krates_rules.specs.Facts.{Id}
-use Rattle.krates_rules.specs.Resolved.{DepAt, NodeAt, ReadsAs, id_of}
+use Rattle.krates_rules.specs.Resolved.{DepAt, HasNode, NodeAt, ReadsAs, id_of}
+use Rattle.krates_rules.proofs.OnlyOne.{place_in}
 use Rattle.krates_rules.proofs.Readings.{ReadsOnce, right_of}
+use Rattle.krates_rules.proofs.Standings.{contains_at}
 use Rattle.krates_questions.proofs.ListPlaces.{names_at, names_within}
 use Rattle.krates_questions.proofs.NodeParts.{id_seen, long_zip, node_here, nodes_long, within_vec}
 
@@ -57,6 +60,20 @@ node_number_within d place h lt =
     let below : place < length nodes = subst (λ (m : ℕ). place < m) (nodes_long d h).0 lt in
     let long = long_zip (IsNumberOf (map id_of d.table.ids.items)) (map id_of nodes) d.table.node_numbers.items h.table.node_numbers in
     within_vec d.table.node_numbers place (omega (arith, below, long, length-map nodes id_of))
+
+-- a crate that has a node has a number
+pub node_has_number : ReadsOnce → (d : Lookup) (i : Id) (number : Option ℕ) → IsLookup d → (n : NodeModel) × HasNode (resolved_view d) i n → IsNumberIn d i number → IsSome number
+node_has_number once d i (Some n) h has is = refl
+node_has_number once d i None h (n, has) none = absurd (
+    let g = (resolved_view d).graph in
+    let nodes = d.ids.now.nodes.items in
+    let at = place_in g.nodes n has.among in
+    let id : NodeModel → Text = λ x. x.id in
+    let text : slice_get (node_texts g) at.0 ≡ Some n.id = slice_get-map id g.nodes at.0 ∙ ap (option_map id) at.1 in
+    let kid = right_of Reads (node_texts g) nodes at.0 n.id h.ids.nodes text in
+    let same : id_of kid.0 ≡ i = ap id_of (once n.id kid.0 has.id.read kid.2 has.id.reads) ∙ has.id.same in
+    let there = place_in (map id_of d.table.ids.items) (id_of kid.0) (h.table.nodes.among kid.0 (contains_at nodes at.0 kid.0 kid.1)) in
+    none there.0 (there.1 ∙ ap (λ (x : Id). Some x) same))
 
 -- of its id
 pub parent_numbered : (d : Lookup) (place : ℕ) (parent : Identity) (number : Option ℕ) → IsLookup d → place < length (resolved_view d).graph.nodes → parent ≡ get_or d.ids.now.nodes.items place parent

@@ -1,11 +1,12 @@
 //! The node of a kept crate, and each dependency of it.
 
 ghost use Rattle.std.specs.Prelude.{◌≡◌, ◌<◌, ◌↔◌, IfSome, IsTrue, length, map, Some, slice_get};
-ghost use Rattle.krates_cm.specs.Document.{dependency_view, dep_kind_info_view};
+ghost use Rattle.std.specs.Option.{IsSome};
+ghost use Rattle.krates_cm.specs.Document.{NodeModel, dependency_view, dep_kind_info_view};
 ghost use Rattle.krates_questions.specs.Lookup.{IsLookup, IsNodePlace, IsNumber, IsNumberIn, resolved_view};
 ghost use Rattle.krates_questions.specs.NodeEntry.{AreDeclaredBy, AreParts, HasItsPlaces, HasItsVersion, IsEntry, IsEntryOf, TellsDeclaredPlaces, TellsItsDeclared, child_of, parent_of};
 ghost use Rattle.krates_rules.specs.Facts.{Id};
-ghost use Rattle.krates_rules.specs.Resolved.{DepAt, NodeAt, id_of};
+ghost use Rattle.krates_rules.specs.Resolved.{DepAt, HasNode, NodeAt, id_of};
 
 use crate::questions::Document;
 use krates_cm::{DepKindInfo, Dependency, NodeDep};
@@ -151,10 +152,11 @@ impl<'a> Document<'a> {
         }
     }
 
-    /// The number of the crate whose node stands at the place.
+    /// The number of the crate whose node stands at the place; it has one. Time O(1).
     pub fn node_number(&self, place: usize) -> Option<usize>
         requires within { place < length (resolved_view self.now).graph.nodes }
-        ensures { (i : Id) → NodeAt (resolved_view self.now) i place → IsNumberIn self.now i result }
+        ensures number { (i : Id) → NodeAt (resolved_view self.now) i place → IsNumberIn self.now i result }
+        ensures has_one { (i : Id) → NodeAt (resolved_view self.now) i place → IsSome result }
     {
         laws::one_reading();
         self.lookup.table.node_numbers[place]
@@ -164,8 +166,10 @@ impl<'a> Document<'a> {
     /// package nor node and is no member. Time O(1).
     pub fn child_number_at(&self, place: usize, index: usize) -> Option<usize>
         requires there { (parent : Id) × (child : Id) × DepAt (resolved_view self.now) parent child place index }
-        ensures { (parent : Id) (child : Id) → DepAt (resolved_view self.now) parent child place index
+        ensures number { (parent : Id) (child : Id) → DepAt (resolved_view self.now) parent child place index
             → IsNumberIn self.now child result }
+        ensures has_one { (parent : Id) (child : Id) → DepAt (resolved_view self.now) parent child place index
+            → (n : NodeModel) × HasNode (resolved_view self.now) child n → IsSome result }
     {
         laws::one_reading();
         self.lookup.table.dep_numbers[place][index]

@@ -34,8 +34,6 @@ use Rattle.krates_rules.proofs.Readings.{ReadsOnce}
 use Rattle.krates_rules.proofs.Zips.{zip_next}
 use Rattle.krates_resolve.proofs.Counted.{counted_more}
 use Rattle.krates_search.proofs.EntriesTried.{entry_tried}
-use Rattle.krates_selection.proofs.ListedFeatures.{listed_at, listed_long}
-use Rattle.krates_search.proofs.FeaturesAt.{listed_in_place, no_feature}
 use Rattle.krates_search.proofs.Entries.{one, undeclared_lost}
 use Rattle.krates_search.proofs.Growth.{waiter_advances, with_links}
 use Rattle.krates_selection.proofs.Steps.{StepsStay}
@@ -193,19 +191,7 @@ value_of_enabled r s p f values text enabled are among = record { feature = f; e
 
 -- ---- listed features
 
--- the feature of a number that was taken
-pub listed_here : (d : Lookup) (s : SettingModel) (x : SearchState) (taken number : ℕ) (feature : ListedFeature) → IsLookup d → IsSound (resolved_view d) s x → taken < x.features.size → number ≡ taken
-    → feature ≡ get_or d.features.listed.items number feature → slice_get (listed_features (resolved_view d)) number ≡ Some (feature.place, feature.name.now)
-listed_here d s x taken number feature h sound lt same is = listed_at d number feature h (omega (arith, lt, same, sound.features_size)) is
-
--- as it is read of the list
-pub feature_read : (d : Lookup) (s : SettingModel) (x : SearchState) (taken number : ℕ) (listed : List ListedFeature) → IsLookup d → IsSound (resolved_view d) s x → taken < x.features.size → number ≡ taken → listed ≡ d.features.listed.items
-    → slice_get (listed_features (resolved_view d)) number ≡ Some ((get_or listed number no_feature).place, (get_or listed number no_feature).name.now)
-feature_read d s x taken number listed h sound lt same is =
-    let below : number < length d.features.listed.items = omega (arith, lt, same, sound.features_size, listed_long d h) in
-    listed_here d s x taken number (get_or listed number no_feature) h sound lt same (listed_in_place d listed number below is)
-
--- and that feature was found
+-- the feature of a number that was taken was found
 pub listed_found : (r : Resolved) (x : SearchState) (taken number : ℕ) (i : Id) (place : ℕ) (f : Text) → Contains x.features.put taken → number ≡ taken → slice_get (listed_features r) number ≡ Some (place, f) → NodeAt r i place
     → HasFound r x (Feature i f)
 listed_found r x taken number i place f put same at node = record { number = number; among = subst (λ (n : ℕ). Contains x.features.put n) (sym same) put; at = record { place = place; at = at; node = node } }

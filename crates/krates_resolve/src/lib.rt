@@ -14,4 +14,4 @@ pub use krates_questions::{
 pub use krates_selection::{
     EnabledFeature, KeptEdge, NumberedFact, NumberedStep, Reason, Selection, ToggledFeature, Work,
 };
-pub use resolution::{select, select_in};
+pub use resolution::{NumberedSelection, select, select_in};

@@ -39,9 +39,8 @@ pub(crate) fn follow_references<'a>(
     ensures counted { IfOk result (TakenHasReferences context.now taken) }
     ensures refused { IfErr result (Refuses context.now) }
 {
-    context.document.agrees();
     laws::one_reading();
-    let feature = context.document.listed_features()[taken.number()];
+    let feature = context.document.listed_feature(taken.number());
     let parts = context.document.parts_of(feature.place);
     let values = context.document.values(parts.parent, feature.name);
     let mut references: u64 = 0;

@@ -8,12 +8,14 @@ ghost use Rattle.krates_selection.specs.Explained.{IsExplained, IsExplainedOf};
 ghost use Rattle.krates_document.specs.Ids.{ids_view};
 ghost use Rattle.krates_questions.specs.Lookup.{resolved_view};
 ghost use Rattle.krates_questions.specs.Context.{document_of};
+ghost use Rattle.krates_questions.specs.CrateTable.{AreNumbersOf};
 ghost use Rattle.krates_resolve.specs.Counting.{HasCountedAll};
 ghost use Rattle.krates_search.specs.SearchState.{IsSound};
 ghost use Rattle.krates_resolve.specs.Saturation.{HasExactly};
 ghost use Rattle.krates_selection.specs.Selection.{IsSelection, IsSelectionOf, RefusesSelection};
 ghost use Rattle.krates_rules.specs.NamedIds.{NamesIdsOf, NamesReadIds};
 ghost use Rattle.krates_rules.specs.Questions.{questions};
+ghost use Rattle.krates_rules.specs.Resolved.{id_of};
 ghost use Rattle.krates_rules.specs.SelectionRefusals.{SelectionRefusal};
 
 use crate::saturation::saturate;
@@ -29,7 +31,7 @@ use krates_search::kept_edges::kept_edges;
 use krates_search::kept_features::kept_features;
 use krates_search::kept_toggled::kept_toggled;
 use krates_search::search_state::SearchState;
-use krates_selection::keys::KeptTables;
+use krates_selection::kept_tables::KeptTables;
 use krates_selection::selection::Selection;
 use krates_selection::trace::NumberedStep;
 use krates_selection::work::Work;
@@ -56,7 +58,17 @@ pub fn select(
     ensures named { IfErr result (NamesReadIds (metadata_view metadata.now)) }
 {
     let document = Document::new(alloc, metadata, ids)?;
-    select_in(alloc, &document, setting)
+    let NumberedSelection { selection, .. } = select_in(alloc, &document, setting)?;
+    Ok(selection)
+}
+
+/// What is kept of a document, with the numbers among the kept crates of all crates of the document, by their numbers in it.
+#[derive(Drop)]
+pub struct NumberedSelection {
+    /// What is kept.
+    pub selection: Selection,
+    /// By the number of a crate in the document, its number among the kept ones, where it is kept.
+    pub numbers: Vec<Option<usize>>,
 }
 
 /// What is kept of a document, found in look-ups that were made of it: as [`select`], for a caller that goes on to use them.
@@ -66,9 +78,11 @@ pub fn select_in<'a>(
     alloc: Global,
     document: &Document<'a>,
     setting: &Setting,
-) -> Result<Selection, Error>
-    ensures selected { IfOk result (IsSelection (resolved_view document.now) setting.now) }
-    ensures explained { IfOk result (IsExplained (resolved_view document.now) setting.now) }
+) -> Result<NumberedSelection, Error>
+    ensures selected { IfOk result (λ x. IsSelection (resolved_view document.now) setting.now x.selection) }
+    ensures explained { IfOk result (λ x. IsExplained (resolved_view document.now) setting.now x.selection) }
+    ensures numbered { IfOk result (λ x. AreNumbersOf (map id_of x.selection.krates.items)
+        document.now.table.ids.items x.numbers.items) }
     ensures refused { IfErr result (SelectionRefusal (questions (resolved_view document.now) setting.now)) }
     ensures named { IfErr result (NamesIdsOf (resolved_view document.now)) }
 {
@@ -82,9 +96,9 @@ pub fn select_in<'a>(
         document,
         setting,
     };
-    let mut selection = selection_of(&context, &found, work)?;
-    selection.steps = trace_of(found);
-    Ok(selection)
+    let mut numbered = selection_of(&context, &found, work)?;
+    numbered.selection.steps = trace_of(found);
+    Ok(numbered)
 }
 
 /// What was found, with the work that it was, in the order of the ids: a selection that has no steps yet.
@@ -92,12 +106,14 @@ fn selection_of<'a>(
     context: &Context<'a, '_>,
     found: &SearchState<'a>,
     work: Work,
-) -> Result<Selection, AllocError>
+) -> Result<NumberedSelection, AllocError>
     requires exact { HasExactly (document_of context.now) context.now.setting.now found.now }
     requires sound { IsSound (document_of context.now) context.now.setting.now found.now }
     requires counted { HasCountedAll (document_of context.now) context.now.setting.now found.now work }
     requires some { 0 < length found.now.krates.put }
-    ensures { IfOk result (IsSelection (document_of context.now) context.now.setting.now) }
+    ensures selected { IfOk result (λ x. IsSelection (document_of context.now) context.now.setting.now x.selection) }
+    ensures numbered { IfOk result (λ x. AreNumbersOf (map id_of x.selection.krates.items)
+        context.now.document.now.table.ids.items x.numbers.items) }
 {
     context.document.agrees();
     laws::one_reading();
@@ -106,22 +122,19 @@ fn selection_of<'a>(
     let document = context.document;
     let krates = in_order(kids_at(alloc, document.node_ids(), found.krates.numbers())?)?;
     let numbers = numbers_of(alloc, &krates, document.crate_ids())?;
-    let tables = KeptTables {
-        document,
-        krates: &krates,
-        numbers: &numbers,
-    };
-    let edges = kept_edges(context, &tables, &found.edges)?;
-    let features = kept_features(alloc, &tables, found.features.numbers())?;
-    let toggled = kept_toggled(alloc, &tables, &found.toggled)?;
-    Ok(Selection {
+    let tables = KeptTables::new(*context, &krates, &numbers);
+    let edges = kept_edges(&tables, &found.edges)?;
+    let features = kept_features(&tables, found.features.numbers())?;
+    let toggled = kept_toggled(&tables, &found.toggled)?;
+    let selection = Selection {
         krates,
         edges,
         features,
         toggled,
         steps: Vec::new(alloc),
         work,
-    })
+    };
+    Ok(NumberedSelection { selection, numbers })
 }
 
 /// The steps by which all was found, in no more room than they need, since they are kept as long as the graph.

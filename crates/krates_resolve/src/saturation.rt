@@ -64,9 +64,8 @@ fn nothing_found<'a>(context: &Context<'a, '_>) -> Result<SearchState<'a>, Alloc
 {
     let alloc = context.alloc;
     let document = context.document;
-    document.agrees();
     let krates = Agenda::new(alloc, document.nodes().len())?;
-    let features = Agenda::new(alloc, document.listed_features().len())?;
+    let features = Agenda::new(alloc, document.feature_count())?;
     let links = links_of(alloc, document)?;
     let excluded = context.exclusions()?;
     Ok(SearchState {

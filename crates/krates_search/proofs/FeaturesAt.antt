@@ -15,7 +15,7 @@ use Rattle.krates_questions.specs.Numbering.{FeatureAt}
 use Rattle.krates_selection.specs.CrateNumbers.{id_at}
 use Rattle.krates_search.specs.KeptFeatures.{HasKeptHome, IsFeatureOf}
 use Rattle.krates_selection.specs.KeptTables.{IsKeptNode, IsNumberAt, document_in, kids_in}
-use Rattle.krates_selection.specs.declared.keys.KeptTables.{KeptTables}
+use Rattle.krates_selection.specs.declared.kept_tables.KeptTables.{KeptTables}
 use Rattle.krates_selection.specs.Selection.{feature_fact}
 use Rattle.krates_questions.specs.declared.feature_table.ListedFeature.{ListedFeature}
 use Rattle.krates_questions.specs.declared.lookup.Lookup.{Lookup}
@@ -25,16 +25,6 @@ use Rattle.krates_questions.proofs.FeatureNumbers.{one_feature}
 use Rattle.krates_rules.proofs.FirstPlaces.{seen_at}
 use Rattle.krates_rules.proofs.OnlyOne.{place_in}
 use Rattle.krates_rules.proofs.Standings.{contains_at}
-
--- what stands where no feature is listed
-abbrev pub no_feature : ListedFeature
-no_feature = record { place = 0; name = record { ref_ptr = (0, 0); now = [] } }
-
--- the listed feature of a number, as it is read of the list
-pub listed_in_place : (d : Lookup) (listed : List ListedFeature) (number : ℕ) → number < length d.features.listed.items → listed ≡ d.features.listed.items
-    → get_or listed number no_feature ≡ get_or d.features.listed.items number (get_or listed number no_feature)
-listed_in_place d listed number lt same =
-    ap (λ (xs : List ListedFeature). get_or xs number no_feature) same ∙ get_or_default d.features.listed.items number no_feature (get_or listed number no_feature) lt
 
 -- a node has only one id
 same_id_at : ReadsOnce → (r : Resolved) (i j : Id) (place other : ℕ) → NodeAt r i place → NodeAt r j other → place ≡ other → i ≡ j
@@ -65,28 +55,21 @@ enabled_told once r kids numbers list z i f = (
       record { number = n.0; among = contains_at numbers at.0 n.0 n.1; at = subst (λ j. FeatureAt r j f n.0) krate (subst (λ g. FeatureAt r (id_at kids x.krate) g n.0) name n.2.at) }),
 )
 
--- ---- the feature of a number, as the code finds it
-
-listed_here : (d : Lookup) (number : ℕ) (x : ListedFeature) → IsLookup d → number < length d.features.listed.items → x ≡ get_or d.features.listed.items number x
-    → slice_get (listed_features (resolved_view d)) number ≡ Some (listed_view x)
-listed_here d number x h lt is =
-    let xs = d.features.listed.items in
-    ap (λ l. slice_get l number) (sym h.features) ∙ slice_get-map listed_view xs number ∙ ap (option_map listed_view) (slice_get_read xs (length xs) number x refl lt is)
+-- ---- the feature of a number
 
 -- the crate of a listed feature is kept where that of its number is
-pub home_kept : (t : KeptTables) (number : ℕ) (x : ListedFeature) → IsLookup t.document.now → number < length t.document.now.features.listed.items → x ≡ get_or t.document.now.features.listed.items number x → HasKeptHome (document_in t) (kids_in t) number
-    → IsKeptNode t x.place
-home_kept t number x h lt is k =
+pub home_kept : (t : KeptTables) (number : ℕ) (x : ListedFeature) → slice_get (listed_features (document_in t)) number ≡ Some (listed_view x) → HasKeptHome (document_in t) (kids_in t) number → IsKeptNode t x.place
+home_kept t number x there k =
     let r = document_in t in
-    let same : (k.at.place, k.name) ≡ (x.place, x.name.now) = same_Some (k.at.place, k.name) (x.place, x.name.now) (sym k.at.at ∙ listed_here t.document.now number x h lt is) in
+    let same : (k.at.place, k.name) ≡ (x.place, x.name.now) = same_Some (k.at.place, k.name) (x.place, x.name.now) (sym k.at.at ∙ there) in
     record { krate = k.krate; node = subst (NodeAt r k.krate) (ap (λ (p : ℕ × Text). p.0) same) k.at.node; kept = k.kept }
 
 -- the feature with the crate's number and the listed name is that of the number
-pub feature_here : (t : KeptTables) (number : ℕ) (x : ListedFeature) (y : EnabledFeature) → IsLookup t.document.now → number < length t.document.now.features.listed.items → x ≡ get_or t.document.now.features.listed.items number x → IsKeptNode t x.place
+pub feature_here : (t : KeptTables) (number : ℕ) (x : ListedFeature) (y : EnabledFeature) → slice_get (listed_features (document_in t)) number ≡ Some (listed_view x) → (k : IsKeptNode t x.place)
     → IsNumberAt t x.place y.krate → text_view y.name ≡ x.name.now → IsFeatureOf (document_in t) (kids_in t) number y
-feature_here t number x y h lt is k n name =
+feature_here t number x y there k n name =
     let r = document_in t in
     let kids = kids_in t in
     let node = subst (λ (i : Id). NodeAt r i x.place) (sym (n.is k.krate k.node)) k.node in
-    let at : FeatureAt r (id_at kids y.krate) x.name.now number = record { place = x.place; at = listed_here t.document.now number x h lt is; node = node } in
+    let at : FeatureAt r (id_at kids y.krate) x.name.now number = record { place = x.place; at = there; node = node } in
     record { at = subst (λ (f : Text). FeatureAt r (id_at kids y.krate) f number) (sym name) at; home = n.below }

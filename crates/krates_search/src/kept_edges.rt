@@ -2,51 +2,45 @@
 
 ghost use Rattle.std.specs.Prelude.{All, IfOk};
 ghost use Rattle.std.specs.List.{AllZip};
-ghost use Rattle.krates_questions.specs.Context.{document_of};
 ghost use Rattle.krates_search.specs.FoundEdge.{IsFoundEdge};
 ghost use Rattle.krates_search.specs.KeptEdges.{AreInOrder, HasKeptNodes, IsCopyOf};
-ghost use Rattle.krates_selection.specs.KeptTables.{IsTables, document_in, kids_in};
+ghost use Rattle.krates_selection.specs.KeptTables.{document_in, kids_in};
 
 use crate::found_edge::FoundEdge;
 use krates_ids::laws;
-use krates_questions::context::Context;
 use krates_questions::sorted::in_order;
-use krates_selection::keys::KeptTables;
+use krates_selection::kept_tables::KeptTables;
 use krates_selection::selection::KeptEdge;
-use std::alloc::{AllocError, Global};
+use std::alloc::AllocError;
 
 /// The found edges in order, each once. The only error is running out of memory.
 ///
 /// Time: O(n log n).
 pub fn kept_edges(
-    context: &Context<'_, '_>,
     tables: &KeptTables<'_, '_>,
     found: &[FoundEdge<'_>],
 ) -> Result<Vec<KeptEdge>, AllocError>
-    requires tables { IsTables tables.now }
-    requires found { All (IsFoundEdge (document_of context.now) context.now.setting.now) found.now }
+    requires found { All (IsFoundEdge (document_in tables.now) tables.now.context.setting.now) found.now }
     requires kept { All (HasKeptNodes (document_in tables.now) (kids_in tables.now)) found.now }
-    ensures { IfOk result (λ kept. AreInOrder (document_of context.now) context.now.setting.now
+    ensures { IfOk result (λ kept. AreInOrder (document_in tables.now) tables.now.context.setting.now
         (kids_in tables.now) found.now kept.items) }
 {
-    context.document.agrees();
+    tables.context.document.agrees();
     laws::comparison();
-    let kept = edge_copies(context.alloc, tables, found)?;
+    let kept = edge_copies(tables, found)?;
     let sorted = in_order(kept)?;
     Ok(sorted)
 }
 
 /// Copies of the edges, with the numbers of their crates.
 fn edge_copies(
-    alloc: Global,
     tables: &KeptTables<'_, '_>,
     edges: &[FoundEdge<'_>],
 ) -> Result<Vec<KeptEdge>, AllocError>
-    requires tables { IsTables tables.now }
     requires kept { All (HasKeptNodes (document_in tables.now) (kids_in tables.now)) edges.now }
     ensures { IfOk result (λ kept. AllZip (IsCopyOf (kids_in tables.now)) edges.now kept.items) }
 {
-    let mut kept = Vec::with_capacity(alloc, edges.len())?;
+    let mut kept = Vec::with_capacity(tables.context.alloc, edges.len())?;
     for edge in edges {
         kept.push(edge_copy(tables, edge)?)?;
     }
@@ -55,7 +49,6 @@ fn edge_copies(
 
 /// A copy of what an edge says, with the numbers of its crates.
 fn edge_copy(tables: &KeptTables<'_, '_>, edge: &FoundEdge<'_>) -> Result<KeptEdge, AllocError>
-    requires tables { IsTables tables.now }
     requires kept { HasKeptNodes (document_in tables.now) (kids_in tables.now) edge.now }
     ensures { IfOk result (IsCopyOf (kids_in tables.now) edge.now) }
 {

@@ -12,7 +12,7 @@ use Rattle.krates_selection.specs.Keys.{AreFactNumbers, home, key_view}
 use Rattle.krates_selection.specs.KeptTables.{AreKeptFacts, AreStepsOf, IsKeptIn, IsKeyOf, document_in, kids_in, numbered_facts}
 use Rattle.krates_selection.specs.declared.kept.KeptStep.{KeptStep}
 use Rattle.krates_selection.specs.declared.key.KeptFactKey.{KeptFactKey}
-use Rattle.krates_selection.specs.declared.keys.KeptTables.{KeptTables}
+use Rattle.krates_selection.specs.declared.kept_tables.KeptTables.{KeptTables}
 use Rattle.krates_selection.proofs.KeptCrates.{kept_crates, same_in}
 use Rattle.krates_selection.proofs.PickedSteps.{seen_back}
 use Rattle.krates_selection.proofs.ToldParts.{use_these}

@@ -10,7 +10,7 @@ use Rattle.krates_selection.specs.KeptTables.{IsEdgeIn, IsFeatureIn, IsKeyOf, Is
 use Rattle.krates_selection.specs.declared.key.KeptEdgeKey.{KeptEdgeKey}
 use Rattle.krates_selection.specs.declared.key.KeptFactKey.TheVariants as keys
 use Rattle.krates_selection.specs.declared.key.FeatureKey.{FeatureKey}
-use Rattle.krates_selection.specs.declared.keys.KeptTables.{KeptTables}
+use Rattle.krates_selection.specs.declared.kept_tables.KeptTables.{KeptTables}
 use Rattle.krates_ids.specs.Identity.{Identity}
 use Rattle.krates_questions.specs.ListedFeatures.{listed_features}
 use Rattle.krates_questions.specs.Numbering.{FeatureAt}

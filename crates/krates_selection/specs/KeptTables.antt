@@ -7,11 +7,10 @@ use Rattle.krates_selection.specs.Keys.{edge_view, key_view}
 use Rattle.krates_selection.specs.declared.key.KeptEdgeKey.{KeptEdgeKey}
 use Rattle.krates_selection.specs.declared.key.KeptFactKey.{KeptFactKey}
 use Rattle.krates_selection.specs.declared.key.FeatureKey.{FeatureKey}
-use Rattle.krates_selection.specs.declared.keys.KeptTables.{KeptTables}
+use Rattle.krates_selection.specs.declared.kept_tables.KeptTables.{KeptTables}
 use Rattle.krates_selection.specs.declared.kept.KeptStep.{KeptStep}
 use Rattle.krates_ids.specs.Identity.{Identity}
-use Rattle.krates_questions.specs.CrateTable.{AreNumbered, AreNumbersOf}
-use Rattle.krates_questions.specs.Lookup.{IsLookup, resolved_view}
+use Rattle.krates_questions.specs.Context.{document_of}
 use Rattle.krates_questions.specs.Numbering.{FeatureAt}
 use Rattle.krates_selection.specs.CrateNumbers.{id_at}
 use Rattle.krates_selection.specs.Trace.{EdgeAt, HasSomeStep, Names}
@@ -26,16 +25,10 @@ use Rattle.krates_rules.specs.Steps.{EachFollows}
 use Rattle.krates_selection.specs.PartOfSteps.{AreBackward}
 
 abbrev pub document_in : KeptTables → Resolved
-document_in t = resolved_view t.document.now
+document_in t = document_of t.context
 
 abbrev pub kids_in : KeptTables → List Identity
 kids_in t = t.krates.now
-
--- the document agrees with its tables, the crates are in order, and those of the document have their numbers among them
-pub record IsTables (t : KeptTables) : Type 0 where
-  pub lookup : IsLookup t.document.now
-  pub ascending : AreNumbered (map id_of t.krates.now)
-  pub numbers : AreNumbersOf (map id_of t.krates.now) t.document.now.table.ids.items t.numbers.now
 
 -- ---- what is kept
 

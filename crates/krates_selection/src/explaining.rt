@@ -1,57 +1,44 @@
 //! The steps of a selection, by the numbers of the kept crates, each fact once.
 
 ghost use Rattle.std.specs.Prelude.{◌≡◌, ◌<◌, All, IfOk, length, map};
-ghost use Rattle.std.specs.List.Sorted.{IsStrictlySortedBy};
 ghost use Rattle.krates_selection.specs.Chosen.{AreChosen};
-ghost use Rattle.krates_selection.specs.KeptTables.{AreStepsOf, IsKeptIn};
-ghost use Rattle.krates_ids.specs.Identity.{id_cmp};
+ghost use Rattle.krates_selection.specs.KeptTables.{AreStepsOf, IsKeptIn, kids_in};
 ghost use Rattle.krates_questions.specs.Context.{Derives, document_of};
 ghost use Rattle.krates_selection.specs.Trace.{IsTrace};
 ghost use Rattle.krates_rules.specs.Facts.{Crate, Id};
 
 use crate::firsts::first_steps;
 use crate::kept::KeptStep;
+use crate::kept_tables::KeptTables;
 use crate::key::{KeptFactKey, fact_of};
-use crate::keys::KeptTables;
 use crate::laws as step_laws;
 use crate::numbering::fact_numbers;
 use crate::part_of_steps::PartOfSteps;
 use crate::trace::NumberedStep;
-use krates_ids::{Kid, laws};
-use krates_questions::context::Context;
-use krates_questions::crate_table::numbers_of;
+use krates_ids::laws;
 use krates_rules::Uses;
 use std::alloc::{AllocError, Global};
 
-/// The steps of a selection, with its crates by number: of each fact the first step, which uses the first steps of its premises.
-///
-/// The only error is running out of memory. Time: O(n log n) for n steps.
-pub fn kept_steps<'a>(
-    context: &Context<'a, '_>,
-    krates: &[Kid],
-    steps: &[NumberedStep],
-) -> Result<Vec<KeptStep>, AllocError>
-    requires ascending { IsStrictlySortedBy id_cmp krates.now }
-    requires trace { IsTrace (document_of context.now) context.now.setting.now steps.now }
-    requires crates { (i : Id) → Derives context.now (Crate i) → IsKeptIn krates.now i }
-    ensures { IfOk result (λ kept. AreStepsOf (document_of context.now) context.now.setting.now krates.now
-        steps.now kept.items) }
-{
-    context.document.agrees();
-    laws::one_reading();
-    laws::comparison();
-    step_laws::firsts();
-    let krate_numbers = numbers_of(context.alloc, krates, context.document.crate_ids())?;
-    let tables = KeptTables {
-        document: context.document,
-        krates,
-        numbers: &krate_numbers,
-    };
-    let keys = tables.keys_of(context.alloc, steps)?;
-    let numbers = fact_numbers(context.alloc, krates.len(), &keys)?;
-    let uses = uses_of(context.alloc, steps)?;
-    let part = first_steps(context.alloc, &uses, &numbers, keys.len())?;
-    chosen(context.alloc, &keys, steps, &part)
+impl KeptTables<'_, '_> {
+    /// The steps of a selection, with its crates by number: of each fact the first step, which uses the first steps of its premises.
+    ///
+    /// The only error is running out of memory. Time: O(n log n) for n steps.
+    pub fn kept_steps(&self, steps: &[NumberedStep]) -> Result<Vec<KeptStep>, AllocError>
+        requires trace { IsTrace (document_of self.now.context) self.now.context.setting.now steps.now }
+        requires crates { (i : Id) → Derives self.now.context (Crate i) → IsKeptIn (kids_in self.now) i }
+        ensures { IfOk result (λ kept. AreStepsOf (document_of self.now.context) self.now.context.setting.now
+            (kids_in self.now) steps.now kept.items) }
+    {
+        laws::one_reading();
+        laws::comparison();
+        step_laws::firsts();
+        let alloc = self.context.alloc;
+        let keys = self.keys_of(steps)?;
+        let numbers = fact_numbers(alloc, self.krates.len(), &keys)?;
+        let uses = uses_of(alloc, steps)?;
+        let part = first_steps(alloc, &uses, &numbers, keys.len())?;
+        chosen(alloc, &keys, steps, &part)
+    }
 }
 
 /// What each step uses.

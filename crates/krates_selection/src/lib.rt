@@ -14,8 +14,8 @@ mod derivation;
 mod explaining;
 mod firsts;
 pub mod kept;
+pub mod kept_tables;
 mod key;
-pub mod keys;
 mod laws;
 mod marking;
 mod numbering;
@@ -26,7 +26,6 @@ mod telling;
 pub mod trace;
 pub mod work;
 
-pub use explaining::kept_steps;
 pub use kept::{CrateOrFeature, Explanation, KeptFact, KeptStep, step_of};
 pub use selection::{EnabledFeature, KeptEdge, Selection, ToggledFeature};
 pub use trace::{NumberedFact, NumberedStep, Reason};

@@ -1,9 +1,11 @@
 //! What a document has for a crate: its package and its node.
 
-ghost use Rattle.std.specs.Prelude.{◌≡◌, option_map};
+ghost use Rattle.std.specs.Prelude.{◌≡◌, ◌<◌, Some, length, option_map, slice_get};
 ghost use Rattle.krates_cm.specs.Document.{node_view, package_view};
 ghost use Rattle.krates_questions.specs.Lookup.{IsPackageOf, resolved_view};
 ghost use Rattle.krates_questions.specs.Contents.{IsNodeOf};
+ghost use Rattle.krates_questions.specs.FeatureTable.{listed_view};
+ghost use Rattle.krates_questions.specs.ListedFeatures.{listed_features};
 ghost use Rattle.krates_rules.specs.Resolved.{id_of};
 
 use crate::feature_table::ListedFeature;
@@ -71,5 +73,20 @@ impl<'a> Document<'a> {
         ensures { result.now ≡ self.now.features.listed.items }
     {
         &self.lookup.features.listed
+    }
+
+    /// How many features the nodes list: their numbers are the places below it. Time O(1).
+    pub fn feature_count(&self) -> usize
+        ensures { result ≡ length (listed_features (resolved_view self.now)) }
+    {
+        self.lookup.features.listed.len()
+    }
+
+    /// The listed feature of a number: its name, and the place of the node that lists it. Time O(1).
+    pub fn listed_feature(&self, number: usize) -> ListedFeature<'a>
+        requires within { number < length (listed_features (resolved_view self.now)) }
+        ensures { slice_get (listed_features (resolved_view self.now)) number ≡ Some (listed_view result) }
+    {
+        self.lookup.features.listed[number]
     }
 }

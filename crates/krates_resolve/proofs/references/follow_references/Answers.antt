@@ -11,18 +11,20 @@ use Rattle.krates_selection.specs.Work.{CountsText, HasReferences}
 use Rattle.krates_rules.specs.Resolved.{id_of}
 use Rattle.krates_search.proofs.Growing.{advances_refl, advances_trans, followed_grows}
 use Rattle.krates_questions.proofs.FeatureNumbers.{listed_place}
-use Rattle.krates_resolve.proofs.ReferenceLemmas.{feature_read, listed_found, one_feature, value_of_enabled, value_of_step, followed_all_here, none_counted, one_counted, references_here}
+use Rattle.krates_resolve.proofs.ReferenceLemmas.{listed_found, one_feature, value_of_enabled, value_of_step, followed_all_here, none_counted, one_counted, references_here}
 use Rattle.krates_selection.proofs.ListedFeatures.{value_at}
 use Rattle.krates_rules.proofs.Seen.{seen_more, each_seen}
 use Rattle.krates_rules.proofs.Zips.{zip_all}
-use Rattle.krates_search.proofs.FeaturesAt.{no_feature}
 use Rattle.krates_resolve.proofs.references.follow_references.Goals as goal
+
+pub listed_feature-feature-requires : goal.listed_feature-feature-requires
+listed_feature-feature-requires c = record { within = omega (arith, c.requires.within, c.number.ensures, c.requires.sound.features_size) }
 
 pub parts_of-parts-requires : goal.parts_of-parts-requires
 parts_of-parts-requires c =
     let r = resolved_view c.args.context.now.document.now in
-    let feature = get_or c.listed_features.result.now c.number.result no_feature in
-    let at = feature_read c.args.context.now.document.now c.args.context.now.setting.now c.args.found.now c.args.taken c.number.result c.listed_features.result.now c.agrees.ensures c.requires.sound c.requires.within c.number.ensures c.listed_features.ensures in
+    let feature = c.listed_feature-feature.result in
+    let at = c.listed_feature-feature.ensures in
     record { within = listed_place r c.number.result feature.place feature.name.now at }
 
 pub loop-text-init : goal.loop-text-init
@@ -35,10 +37,10 @@ pub follow-requires-clause-kept : goal.follow-requires-clause-kept
 follow-requires-clause-kept c =
     let r = resolved_view c.args.context.now.document.now in
     let x = c.args.found.now in
-    let feature = get_or c.listed_features.result.now c.number.result no_feature in
+    let feature = c.listed_feature-feature.result in
     let f = feature.name.now in
     let i = id_of c.parts_of-parts.result.parent.now in
-    let at = feature_read c.args.context.now.document.now c.args.context.now.setting.now x c.args.taken c.number.result c.listed_features.result.now c.agrees.ensures c.requires.sound c.requires.within c.number.ensures c.listed_features.ensures in
+    let at = c.listed_feature-feature.ensures in
     let enabled = listed_found r x c.args.taken c.number.result i feature.place f c.requires.put c.number.ensures at c.parts_of-parts.ensures.at in
     c.loop-text.invariant.0.grows.found (Crate i) (c.requires.sound.enabled i f enabled)
 
@@ -47,10 +49,10 @@ follow-requires-clause-value c =
     let r = resolved_view c.args.context.now.document.now in
     let s = c.args.context.now.setting.now in
     let x = c.args.found.now in
-    let feature = get_or c.listed_features.result.now c.number.result no_feature in
+    let feature = c.listed_feature-feature.result in
     let f = feature.name.now in
     let i = id_of c.parts_of-parts.result.parent.now in
-    let at = feature_read c.args.context.now.document.now s x c.args.taken c.number.result c.listed_features.result.now c.agrees.ensures c.requires.sound c.requires.within c.number.ensures c.listed_features.ensures in
+    let at = c.listed_feature-feature.ensures in
     let enabled = listed_found r x c.args.taken c.number.result i feature.place f c.requires.put c.number.ensures at c.parts_of-parts.ensures.at in
     let texts = c.values-values.result.now in
     let among = value_at texts c.loop-text.text-index c.text-item.result c.loop-text-test.true c.text-item.is in
@@ -62,10 +64,10 @@ follow-requires-clause-step c =
     let r = resolved_view c.args.context.now.document.now in
     let x = c.args.found.now in
     let trace = c.loop-text.found.trace.items in
-    let feature = get_or c.listed_features.result.now c.number.result no_feature in
+    let feature = c.listed_feature-feature.result in
     let f = feature.name.now in
     let i = id_of c.parts_of-parts.result.parent.now in
-    let at = feature_read c.args.context.now.document.now c.args.context.now.setting.now x c.args.taken c.number.result c.listed_features.result.now c.agrees.ensures c.requires.sound c.requires.within c.number.ensures c.listed_features.ensures in
+    let at = c.listed_feature-feature.ensures in
     let numbered : FeatureAt r i f c.number.result = record { place = feature.place; at = at; node = c.parts_of-parts.ensures.at } in
     let here = c.requires.step i f (subst (λ (n : ℕ). FeatureAt r i f n) c.number.ensures numbered) in
     let texts = c.values-values.result.now in
@@ -98,9 +100,9 @@ returns-clause-followed_all c krate f there =
     let s = c.args.context.now.setting.now in
     let x = c.loop-text.found in
     let number = c.number.result in
-    let feature = get_or c.listed_features.result.now c.number.result no_feature in
+    let feature = c.listed_feature-feature.result in
     let i = id_of c.parts_of-parts.result.parent.now in
-    let at = feature_read c.args.context.now.document.now s c.args.found.now c.args.taken number c.listed_features.result.now c.agrees.ensures c.requires.sound c.requires.within c.number.ensures c.listed_features.ensures in
+    let at = c.listed_feature-feature.ensures in
     let same = one_feature c.one_reading.ensures.once r i krate feature.place number feature.name.now f c.parts_of-parts.ensures.at at (subst (λ (n : ℕ). FeatureAt r krate f n) (sym c.number.ensures) there) in
     let texts = c.values-values.result.now in
     let each = each_seen text_view (λ (t : Text). (reference : Reference) → IsReference t reference → IsFollowed r s x i reference) texts texts c.loop-text.text-index refl (omega arith) c.loop-text.invariant.1 in
@@ -113,9 +115,9 @@ returns-clause-counted c =
     let s = c.args.context.now.setting.now in
     let x = c.args.found.now in
     let number = c.number.result in
-    let feature = get_or c.listed_features.result.now c.number.result no_feature in
+    let feature = c.listed_feature-feature.result in
     let i = id_of c.parts_of-parts.result.parent.now in
-    let at = feature_read c.args.context.now.document.now s x c.args.taken number c.listed_features.result.now c.agrees.ensures c.requires.sound c.requires.within c.number.ensures c.listed_features.ensures in
+    let at = c.listed_feature-feature.ensures in
     let enabled = listed_found r x c.args.taken number i feature.place feature.name.now c.requires.put c.number.ensures at c.parts_of-parts.ensures.at in
     let so_far = c.loop-text.invariant.2 in
     let texts = c.values-values.result.now in

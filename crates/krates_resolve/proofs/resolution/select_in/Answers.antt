@@ -10,7 +10,7 @@ selection_of-requires-clause-some c = subst (λ (ps : List ℕ). 0 < length ps) 
 
 pub returns-clause-selected : goal.returns-clause-selected
 returns-clause-selected c =
-    let x = c.in_ok-selection.ensures in
+    let x = c.in_ok-numbered.ensures.selected in
     record {
       facts = x.facts;
       some = x.some;
@@ -29,7 +29,7 @@ pub returns-clause-explained : goal.returns-clause-explained
 returns-clause-explained c =
     let exact = c.in_ok-found.ensures.exact in
     let sound = c.in_ok-found.ensures.sound in
-    let chosen = c.in_ok-selection.ensures in
+    let chosen = c.in_ok-numbered.ensures.selected in
     let r = resolved_view c.args.document.now in
     let s = c.args.setting.now in
     let same = sym c.trace_of.ensures in

@@ -4,15 +4,16 @@ use Rattle.krates_ids.specs.Identity.{Identity, id_cmp}
 use Rattle.krates_rules.specs.Referent.{id_order}
 use Rattle.krates_rules.specs.Resolved.{id_of}
 use Rattle.krates_questions.specs.CrateTable.{AreNumbered}
+use Rattle.krates_questions.specs.Context.{document_of}
 use Rattle.krates_questions.specs.Lookup.{resolved_view}
+use Rattle.krates_search.specs.FoundEdge.{IsFoundEdge}
+use Rattle.std.specs.List.Sorted.{IsStrictlySortedBy}
 use Rattle.krates_search.specs.KeptEdges.{AreInOrder}
 use Rattle.krates_search.specs.KeptFeatures.{AreSorted}
 use Rattle.krates_search.specs.KeptToggled.{AreToggled}
 use Rattle.krates_search.specs.declared.found_edge.FoundEdge.{FoundEdge}
 use Rattle.krates_search.specs.declared.found_toggle.FoundToggle.{FoundToggle}
-use Rattle.krates_selection.specs.declared.keys.KeptTables.{KeptTables}
 use Rattle.krates_selection.specs.declared.selection.Selection.{Selection}
-use Rattle.krates_selection.proofs.KeptNumbers.{are_tables}
 use Rattle.krates_resolve.proofs.CountedSelection.{IsCountedWhole, counts_each}
 use Rattle.krates_questions.proofs.NodeParts.{nodes_long}
 use Rattle.krates_resolve.proofs.Selected.{IsInOrder, edges_kept, features_kept, selected, toggles_kept, whole_of}
@@ -29,43 +30,37 @@ kids_at-requires c =
 pub numbers_of-requires : goal.numbers_of-requires
 numbers_of-requires c = subst (λ (kids : List Identity). AreNumbered (map id_of kids)) (sym c.deref.ensures.value) (sorted_same id_cmp id_order id_of (λ a b. refl) c.in_ok-krates.krates.items c.in_ok-krates.ensures.ascending)
 
-pub kept_edges-requires-clause-tables : goal.kept_edges-requires-clause-tables
-kept_edges-requires-clause-tables c =
-    let t : KeptTables = record { document = c.args.context.now.document; krates = c.deref-2.result; numbers = c.deref-3.result } in
-    are_tables t c.crate_ids.result.now c.deref.result.now c.in_ok-krates.krates.items c.in_ok-numbers.numbers.items c.agrees.ensures c.in_ok-krates.ensures.ascending c.deref-2.ensures.value c.deref.ensures.value c.crate_ids.ensures c.deref-3.ensures.value c.in_ok-numbers.ensures
+pub new-tables-requires-clause-ascending : goal.new-tables-requires-clause-ascending
+new-tables-requires-clause-ascending c = subst (IsStrictlySortedBy id_cmp) (sym c.deref-2.ensures.value) c.in_ok-krates.ensures.ascending
+
+pub new-tables-requires-clause-numbered : goal.new-tables-requires-clause-numbered
+new-tables-requires-clause-numbered c = rw (c.deref-3.ensures.value, c.deref-2.ensures.value, sym c.deref.ensures.value, sym c.crate_ids.ensures) c.in_ok-numbers.ensures
+
+pub kept_edges-requires-clause-found : goal.kept_edges-requires-clause-found
+kept_edges-requires-clause-found c = rw (c.new-tables.ensures.context) (subst (All (IsFoundEdge (document_of c.args.context.now) c.args.context.now.setting.now)) (sym c.deref-4.ensures.value) c.requires.sound.placed)
 
 pub kept_edges-requires-clause-kept : goal.kept_edges-requires-clause-kept
 kept_edges-requires-clause-kept c =
-    let whole = whole_of c.args.context.now.document.now c.args.context.now.setting.now c.args.found.now c.node_ids.result.now c.numbers.result.now c.in_ok-kids_at.field-0.items c.in_ok-krates.krates.items c.agrees.ensures c.requires.exact c.node_ids.ensures c.numbers.ensures.put
+    rw (c.new-tables.ensures.context) (let whole = whole_of c.args.context.now.document.now c.args.context.now.setting.now c.args.found.now c.node_ids.result.now c.numbers.result.now c.in_ok-kids_at.field-0.items c.in_ok-krates.krates.items c.agrees.ensures c.requires.exact c.node_ids.ensures c.numbers.ensures.put
     c.in_ok-kids_at.ensures c.requires.some (record { from = c.in_ok-krates.ensures.from; kept = c.in_ok-krates.ensures.kept }) c.in_ok-krates.ensures.ascending in
-    edges_kept c.one_reading.ensures.once c.comparison.ensures.equality (resolved_view c.args.context.now.document.now) c.args.context.now.setting.now c.args.context.now.document.now.ids.now.nodes.items c.args.found.now c.in_ok-kids_at.field-0.items c.in_ok-krates.krates.items whole c.requires.sound.placed c.deref-2.result.now c.deref-4.result.now c.deref-2.ensures.value c.deref-4.ensures.value
-
-pub kept_features-requires-clause-tables : goal.kept_features-requires-clause-tables
-kept_features-requires-clause-tables c =
-    let t : KeptTables = record { document = c.args.context.now.document; krates = c.deref-2.result; numbers = c.deref-3.result } in
-    are_tables t c.crate_ids.result.now c.deref.result.now c.in_ok-krates.krates.items c.in_ok-numbers.numbers.items c.agrees.ensures c.in_ok-krates.ensures.ascending c.deref-2.ensures.value c.deref.ensures.value c.crate_ids.ensures c.deref-3.ensures.value c.in_ok-numbers.ensures
+    edges_kept c.one_reading.ensures.once c.comparison.ensures.equality (resolved_view c.args.context.now.document.now) c.args.context.now.setting.now c.args.context.now.document.now.ids.now.nodes.items c.args.found.now c.in_ok-kids_at.field-0.items c.in_ok-krates.krates.items whole c.requires.sound.placed c.new-tables.result.krates.now c.deref-4.result.now (c.new-tables.ensures.krates ∙ c.deref-2.ensures.value) c.deref-4.ensures.value)
 
 pub kept_features-requires-clause-kept : goal.kept_features-requires-clause-kept
 kept_features-requires-clause-kept c =
-    let whole = whole_of c.args.context.now.document.now c.args.context.now.setting.now c.args.found.now c.node_ids.result.now c.numbers.result.now c.in_ok-kids_at.field-0.items c.in_ok-krates.krates.items c.agrees.ensures c.requires.exact c.node_ids.ensures c.numbers.ensures.put
+    rw (c.new-tables.ensures.context) (let whole = whole_of c.args.context.now.document.now c.args.context.now.setting.now c.args.found.now c.node_ids.result.now c.numbers.result.now c.in_ok-kids_at.field-0.items c.in_ok-krates.krates.items c.agrees.ensures c.requires.exact c.node_ids.ensures c.numbers.ensures.put
     c.in_ok-kids_at.ensures c.requires.some (record { from = c.in_ok-krates.ensures.from; kept = c.in_ok-krates.ensures.kept }) c.in_ok-krates.ensures.ascending in
     let sound = c.requires.sound in
     let below = subst (λ (n : ℕ). All (λ p. p < n) c.args.found.now.features.put) sound.features_size c.numbers-2.ensures.orderly.below in
-    features_kept c.one_reading.ensures.once c.comparison.ensures.equality (resolved_view c.args.context.now.document.now) c.args.context.now.setting.now c.args.context.now.document.now.ids.now.nodes.items c.args.found.now c.in_ok-kids_at.field-0.items c.in_ok-krates.krates.items whole below c.deref-2.result.now c.numbers-2.result.now c.deref-2.ensures.value c.numbers-2.ensures.put
+    features_kept c.one_reading.ensures.once c.comparison.ensures.equality (resolved_view c.args.context.now.document.now) c.args.context.now.setting.now c.args.context.now.document.now.ids.now.nodes.items c.args.found.now c.in_ok-kids_at.field-0.items c.in_ok-krates.krates.items whole below c.new-tables.result.krates.now c.numbers-2.result.now (c.new-tables.ensures.krates ∙ c.deref-2.ensures.value) c.numbers-2.ensures.put)
 
-pub kept_toggled-requires-clause-tables : goal.kept_toggled-requires-clause-tables
-kept_toggled-requires-clause-tables c =
-    let t : KeptTables = record { document = c.args.context.now.document; krates = c.deref-2.result; numbers = c.deref-3.result } in
-    are_tables t c.crate_ids.result.now c.deref.result.now c.in_ok-krates.krates.items c.in_ok-numbers.numbers.items c.agrees.ensures c.in_ok-krates.ensures.ascending c.deref-2.ensures.value c.deref.ensures.value c.crate_ids.ensures c.deref-3.ensures.value c.in_ok-numbers.ensures
-
-pub kept_toggled-requires-clause-kept : goal.kept_toggled-requires-clause-kept
-kept_toggled-requires-clause-kept c =
-    let whole = whole_of c.args.context.now.document.now c.args.context.now.setting.now c.args.found.now c.node_ids.result.now c.numbers.result.now c.in_ok-kids_at.field-0.items c.in_ok-krates.krates.items c.agrees.ensures c.requires.exact c.node_ids.ensures c.numbers.ensures.put
+pub kept_toggled-requires : goal.kept_toggled-requires
+kept_toggled-requires c =
+    record { kept = rw (c.new-tables.ensures.context) (let whole = whole_of c.args.context.now.document.now c.args.context.now.setting.now c.args.found.now c.node_ids.result.now c.numbers.result.now c.in_ok-kids_at.field-0.items c.in_ok-krates.krates.items c.agrees.ensures c.requires.exact c.node_ids.ensures c.numbers.ensures.put
     c.in_ok-kids_at.ensures c.requires.some (record { from = c.in_ok-krates.ensures.from; kept = c.in_ok-krates.ensures.kept }) c.in_ok-krates.ensures.ascending in
-    toggles_kept c.one_reading.ensures.once c.comparison.ensures.equality (resolved_view c.args.context.now.document.now) c.args.context.now.setting.now c.args.context.now.document.now.ids.now.nodes.items c.args.found.now c.in_ok-kids_at.field-0.items c.in_ok-krates.krates.items whole c.requires.sound.toggles c.deref-2.result.now c.deref-5.result.now c.deref-2.ensures.value c.deref-5.ensures.value
+    toggles_kept c.one_reading.ensures.once c.comparison.ensures.equality (resolved_view c.args.context.now.document.now) c.args.context.now.setting.now c.args.context.now.document.now.ids.now.nodes.items c.args.found.now c.in_ok-kids_at.field-0.items c.in_ok-krates.krates.items whole c.requires.sound.toggles c.new-tables.result.krates.now c.deref-5.result.now (c.new-tables.ensures.krates ∙ c.deref-2.ensures.value) c.deref-5.ensures.value) }
 
-pub returns : goal.returns
-returns c =
+pub returns-clause-selected : goal.returns-clause-selected
+returns-clause-selected c =
     let s = c.args.context.now.setting.now in
     let r = resolved_view c.args.context.now.document.now in
     let h = c.agrees.ensures in
@@ -74,11 +69,11 @@ returns c =
     let put = c.in_ok-kids_at.field-0.items in
     let x : Selection = record { krates = c.in_ok-krates.krates; edges = c.in_ok-edges.edges; features = c.in_ok-features.features; toggled = c.in_ok-toggled.toggled; steps = c.new.result; work = c.args.work } in
     let kids = x.krates.items in
-    let kept = c.deref-2.ensures.value in
+    let kept = c.new-tables.ensures.krates ∙ c.deref-2.ensures.value in
     let whole = whole_of c.args.context.now.document.now c.args.context.now.setting.now c.args.found.now c.node_ids.result.now c.numbers.result.now c.in_ok-kids_at.field-0.items c.in_ok-krates.krates.items c.agrees.ensures c.requires.exact c.node_ids.ensures c.numbers.ensures.put
     c.in_ok-kids_at.ensures c.requires.some (record { from = c.in_ok-krates.ensures.from; kept = c.in_ok-krates.ensures.kept }) c.in_ok-krates.ensures.ascending in
-    let edges = subst (λ (ks : List Identity). AreInOrder r s ks c.deref-4.result.now x.edges.items) kept c.in_ok-edges.ensures in
-    let features = subst (λ (ks : List Identity). AreSorted r ks c.numbers-2.result.now x.features.items) kept c.in_ok-features.ensures in
+    let edges = subst (λ (ks : List Identity). AreInOrder r s ks c.deref-4.result.now x.edges.items) kept (rw (c.new-tables.ensures.context) at c.in_ok-edges.ensures) in
+    let features = subst (λ (ks : List Identity). AreSorted r ks c.numbers-2.result.now x.features.items) kept (rw (c.new-tables.ensures.context) at c.in_ok-features.ensures) in
     let toggled = subst (λ (ks : List Identity). AreToggled ks c.deref-5.result.now x.toggled.items) kept c.in_ok-toggled.ensures in
     let order : IsInOrder r s found x = record {
       edges = subst (λ (es : List FoundEdge). AreInOrder r s kids es x.edges.items) c.deref-4.ensures.value edges;
@@ -97,3 +92,6 @@ returns c =
     } in
     let counts = counts_each c.comparison.ensures.equality r s ids found put kids x.features.items x.work counted order.features in
     selected c.one_reading.ensures.once c.comparison.ensures.equality r s ids found put x whole order counts
+
+pub returns-clause-numbered : goal.returns-clause-numbered
+returns-clause-numbered c = rw (sym c.deref.ensures.value, sym c.crate_ids.ensures) c.in_ok-numbers.ensures

@@ -5,15 +5,15 @@ use Rattle.krates_selection.specs.KeptTables.{kids_in}
 use Rattle.krates_rules.specs.Resolved.{id_of}
 use Rattle.krates_search.proofs.kept_edges.edge_copy.Goals as goal
 
-pub crate_at-parent-requires-clause-kept : goal.crate_at-parent-requires-clause-kept
-crate_at-parent-requires-clause-kept c =
+pub crate_at-parent-requires : goal.crate_at-parent-requires
+crate_at-parent-requires c =
     let e = c.args.edge.now in
-    record { krate = id_of e.parent.now; node = c.requires.kept.parent; kept = c.requires.kept.parent_kept }
+    record { kept = record { krate = id_of e.parent.now; node = c.requires.kept.parent; kept = c.requires.kept.parent_kept } }
 
-pub crate_at-child-requires-clause-kept : goal.crate_at-child-requires-clause-kept
-crate_at-child-requires-clause-kept c =
+pub crate_at-child-requires : goal.crate_at-child-requires
+crate_at-child-requires c =
     let e = c.args.edge.now in
-    record { krate = id_of e.child.now; node = c.requires.kept.child; kept = c.requires.kept.child_kept }
+    record { kept = record { krate = id_of e.child.now; node = c.requires.kept.child; kept = c.requires.kept.child_kept } }
 
 pub returns : goal.returns
 returns c =

@@ -5,15 +5,15 @@ use Rattle.krates_selection.specs.KeptTables.{kids_in}
 use Rattle.krates_rules.specs.Resolved.{id_of}
 use Rattle.krates_search.proofs.kept_toggled.toggle_copy.Goals as goal
 
-pub crate_at-by-requires-clause-kept : goal.crate_at-by-requires-clause-kept
-crate_at-by-requires-clause-kept c =
+pub crate_at-by-requires : goal.crate_at-by-requires
+crate_at-by-requires c =
     let t = c.args.toggle.now in
-    record { krate = id_of t.by.now; node = c.requires.kept.by; kept = c.requires.kept.by_kept }
+    record { kept = record { krate = id_of t.by.now; node = c.requires.kept.by; kept = c.requires.kept.by_kept } }
 
-pub crate_at-krate-requires-clause-kept : goal.crate_at-krate-requires-clause-kept
-crate_at-krate-requires-clause-kept c =
+pub crate_at-krate-requires : goal.crate_at-krate-requires
+crate_at-krate-requires c =
     let t = c.args.toggle.now in
-    record { krate = id_of t.krate.now; node = c.requires.kept.krate; kept = c.requires.kept.krate_kept }
+    record { kept = record { krate = id_of t.krate.now; node = c.requires.kept.krate; kept = c.requires.kept.krate_kept } }
 
 pub returns : goal.returns
 returns c =

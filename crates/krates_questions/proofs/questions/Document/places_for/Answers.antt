@@ -15,19 +15,19 @@ node_number-requires c =
     record { within = slice_get_within (resolved_view c.args.self.now).graph.nodes c.args.entry.now.place at.node at.at }
 
 pub package_place_at-requires : goal.package_place_at-requires
-package_place_at-requires c = record { number = (parent_of c.args.entry.now, c.node_number.ensures (parent_of c.args.entry.now) c.requires.entry.at.node) }
+package_place_at-requires c = record { number = (parent_of c.args.entry.now, c.node_number.ensures.number (parent_of c.args.entry.now) c.requires.entry.at.node) }
 
 pub index-requires : goal.index-requires
 index-requires c =
     let d = c.self.inside.lookup in
     let i = parent_of c.args.entry.now in
-    let at = (rw (← c.self.view_is) at (c.in-Some.ensures i (c.node_number.ensures i c.requires.entry.at.node))) in
+    let at = (rw (← c.self.view_is) at (c.in-Some.ensures i (c.node_number.ensures.number i c.requires.entry.at.node))) in
     names_within AreDeclaredIn (resolved_view d).metadata.packages d.names.declared c.in-Some.place at.pkg c.self.invariant.names.declared at.at
 
 pub returns-in-Some : goal.returns-in-Some
 returns-in-Some c =
     let i = parent_of c.args.entry.now in
-    let there = (rw (← c.self.view_is) at (c.in-Some.ensures i (c.node_number.ensures i c.requires.entry.at.node))) in
+    let there = (rw (← c.self.view_is) at (c.in-Some.ensures i (c.node_number.ensures.number i c.requires.entry.at.node))) in
     rw (← c.self.view_is) (λ ds by_package. let d = c.self.inside.lookup in
     let r = resolved_view d in
     let named = names_at AreDeclaredIn r.metadata.packages d.names.declared c.in-Some.place there.pkg c.index.result.now c.self.invariant.names.declared there.at c.index.ensures in
@@ -36,4 +36,4 @@ returns-in-Some c =
 pub returns-in-None : goal.returns-in-None
 returns-in-None c ds by_package =
     let i = parent_of c.args.entry.now in
-    none_placed (resolved_view c.args.self.now) i ds (c.in-None.ensures i (c.node_number.ensures i c.requires.entry.at.node)) by_package
+    none_placed (resolved_view c.args.self.now) i ds (c.in-None.ensures i (c.node_number.ensures.number i c.requires.entry.at.node)) by_package

@@ -1,46 +1,72 @@
 //! The numbers of the kept crates, and numbered facts by them.
 
-ghost use Rattle.std.specs.Prelude.{◌≡◌, IfOk};
-ghost use Rattle.std.specs.List.{AllZip};
-ghost use Rattle.krates_cm.specs.Document.{dep_kind_info_view};
-ghost use Rattle.krates_selection.specs.KeptTables.{AreKeptFacts, IsChildAt, IsEdgeIn, IsFeatureIn, IsKeptChild, IsKeptEdge, IsKeptFact, IsKeptFeature, IsKeptNode, IsKeyOf, IsNumberAt, IsTables, numbered_facts};
-ghost use Rattle.krates_questions.specs.Lookup.{resolved_view};
-ghost use Rattle.krates_selection.specs.Trace.{EdgeAt};
-ghost use Rattle.krates_rules.specs.Facts.{Edge};
-ghost use Rattle.krates_rules.specs.Questions.{kind_info_of};
+ghost use Rattle.std.proofs.Props.{props};
+ghost use Rattle.std.specs.List.Sorted.{IsStrictlySortedBy};
+ghost use Rattle.std.specs.Prelude.{map};
+ghost use Rattle.krates_ids.specs.Identity.{id_cmp};
+ghost use Rattle.krates_questions.proofs.NumberedOnce.{numbers_once};
+ghost use Rattle.krates_questions.specs.CrateTable.{AreNumbersOf};
+ghost use Rattle.krates_rules.specs.Resolved.{id_of};
 
 use crate::key::{FeatureKey, KeptEdgeKey, KeptFactKey, ToggleKey};
 use crate::trace::{NumberedFact, NumberedStep};
 use krates_cm::DepKindInfo;
 use krates_ids::{Kid, laws};
-use krates_questions::Document;
+use krates_questions::context::Context;
 use krates_questions::lookup::at_number;
 use krates_rules::DepKind;
-use std::alloc::{AllocError, Global};
+use std::alloc::AllocError;
 
-/// A document, and the kept crates of it in the order of their ids.
+/// The kept crates of a document under a setting, in the order of their ids, by the numbers that they have in the document.
 #[derive(Clone, Copy)]
 pub struct KeptTables<'a, 's> {
-    /// The document.
-    pub document: &'s Document<'a>,
+    /// The document and the setting.
+    pub context: Context<'a, 's>,
     /// The kept crates.
     pub krates: &'s [Kid],
     /// By the number of a crate in the document, its number among the kept ones, where it is kept.
     pub numbers: &'s [Option<usize>],
+    /// The kept crates are in order, each once.
+    pub ghost ascending: { IsStrictlySortedBy id_cmp krates.now } by { Prim.hlevel props },
+    /// The numbers are those among them of the crates of the document.
+    pub ghost numbered: { AreNumbersOf (map id_of krates.now) context.document.now.table.ids.items numbers.now }
+        by { numbers_once _ _ _ },
 }
 
-impl<'a> KeptTables<'a, '_> {
+impl<'a, 's> KeptTables<'a, 's> {
+    ghost use Rattle.std.specs.Prelude.{◌≡◌, IfOk};
+    ghost use Rattle.std.specs.List.{AllZip};
+    ghost use Rattle.krates_cm.specs.Document.{dep_kind_info_view};
+    ghost use Rattle.krates_selection.specs.KeptTables.{AreKeptFacts, IsChildAt, IsEdgeIn, IsFeatureIn, IsKeptChild, IsKeptEdge, IsKeptFact, IsKeptFeature, IsKeptNode, IsKeyOf, IsNumberAt, document_in, numbered_facts};
+    ghost use Rattle.krates_selection.specs.Trace.{EdgeAt};
+    ghost use Rattle.krates_rules.specs.Facts.{Edge};
+    ghost use Rattle.krates_rules.specs.Questions.{kind_info_of};
+
+    /// These kept crates, which are in order, with the numbers among them of the crates of the document.
+    pub fn new(
+        context: Context<'a, 's>,
+        krates: &'s [Kid],
+        numbers: &'s [Option<usize>],
+    ) -> KeptTables<'a, 's>
+        requires ascending { IsStrictlySortedBy id_cmp krates.now }
+        requires numbered { AreNumbersOf (map id_of krates.now) context.document.now.table.ids.items numbers.now }
+        ensures context { result.context ≡ context.entry }
+        ensures krates { result.krates.now ≡ krates.now }
+        ensures numbers { result.numbers.now ≡ numbers.now }
+    {
+        KeptTables {
+            context,
+            krates,
+            numbers,
+        }
+    }
+
     /// The key of the fact of each step.
-    pub(crate) fn keys_of(
-        &self,
-        alloc: Global,
-        steps: &[NumberedStep],
-    ) -> Result<Vec<KeptFactKey<'a>>, AllocError>
-        requires tables { IsTables self.now }
+    pub(crate) fn keys_of(&self, steps: &[NumberedStep]) -> Result<Vec<KeptFactKey<'a>>, AllocError>
         requires kept { AreKeptFacts self.now steps.now }
         ensures { IfOk result (λ keys. AllZip (IsKeyOf self.now) (numbered_facts steps.now) keys.items) }
     {
-        let mut keys = Vec::with_capacity(alloc, steps.len())?;
+        let mut keys = Vec::with_capacity(self.context.alloc, steps.len())?;
         for step in steps {
             keys.push(self.key_at(step.fact))?;
         }
@@ -49,7 +75,6 @@ impl<'a> KeptTables<'a, '_> {
 
     /// The key of a fact.
     fn key_at(&self, fact: NumberedFact) -> KeptFactKey<'a>
-        requires tables { IsTables self.now }
         requires kept { IsKeptFact self.now fact }
         ensures { IsKeyOf self.now fact result }
     {
@@ -70,12 +95,11 @@ impl<'a> KeptTables<'a, '_> {
 
     /// The number of the kept crate whose node stands at a place. Time O(1).
     pub fn crate_at(&self, place: usize) -> usize
-        requires tables { IsTables self.now }
         requires kept { IsKeptNode self.now place }
         ensures { IsNumberAt self.now place result }
     {
         laws::one_reading();
-        let number = self.document.node_number(place);
+        let number = self.context.document.node_number(place);
         let Some(kept) = at_number(self.numbers, number) else {
             unreachable!()
         };
@@ -84,12 +108,11 @@ impl<'a> KeptTables<'a, '_> {
 
     /// The number of the crate that a dependency leads to.
     fn child_at(&self, place: usize, index: usize) -> usize
-        requires tables { IsTables self.now }
         requires kept { IsKeptChild self.now place index }
         ensures { IsChildAt self.now place index result }
     {
         laws::one_reading();
-        let number = self.document.child_number_at(place, index);
+        let number = self.context.document.child_number_at(place, index);
         let Some(kept) = at_number(self.numbers, number) else {
             unreachable!()
         };
@@ -98,11 +121,10 @@ impl<'a> KeptTables<'a, '_> {
 
     /// The key of the feature of a number.
     fn feature_at(&self, number: usize) -> FeatureKey<'a>
-        requires tables { IsTables self.now }
         requires kept { IsKeptFeature self.now number }
         ensures { IsFeatureIn self.now number result }
     {
-        let feature = self.document.listed_features()[number];
+        let feature = self.context.document.listed_feature(number);
         FeatureKey {
             krate: self.crate_at(feature.place),
             name: feature.name,
@@ -111,11 +133,10 @@ impl<'a> KeptTables<'a, '_> {
 
     /// The key of the edge at these places.
     fn kept_edge_key(&self, place: usize, index: usize, kind: usize) -> KeptEdgeKey<'a>
-        requires tables { IsTables self.now }
         requires kept { IsKeptEdge self.now place index kind }
         ensures { IsEdgeIn self.now place index kind result }
     {
-        let info = edge_info(self.document, place, index, kind);
+        let info = self.edge_info(place, index, kind);
         KeptEdgeKey {
             parent: self.crate_at(place),
             child: self.child_at(place, index),
@@ -123,18 +144,13 @@ impl<'a> KeptTables<'a, '_> {
             cfg: &info.target,
         }
     }
-}
 
-/// The kind and target at these places.
-fn edge_info<'a>(
-    document: &Document<'a>,
-    place: usize,
-    index: usize,
-    kind: usize,
-) -> &'a DepKindInfo
-    requires there { (e : Edge) × EdgeAt (resolved_view document.now) e place index kind }
-    ensures { (e : Edge) → EdgeAt (resolved_view document.now) e place index kind
-        → dep_kind_info_view result.now ≡ kind_info_of e }
-{
-    &document.nodes()[place].deps[index].dep_kinds[kind]
+    /// The kind and target at these places.
+    fn edge_info(&self, place: usize, index: usize, kind: usize) -> &'a DepKindInfo
+        requires there { (e : Edge) × EdgeAt (document_in self.now) e place index kind }
+        ensures { (e : Edge) → EdgeAt (document_in self.now) e place index kind
+            → dep_kind_info_view result.now ≡ kind_info_of e }
+    {
+        &self.context.document.nodes()[place].deps[index].dep_kinds[kind]
+    }
 }

@@ -1,5 +1,5 @@
 use Rattle.krates_selection.proofs.KeyedFacts.{key_crate, key_feature, key_kept, key_toggled}
-use Rattle.krates_selection.proofs.keys.KeptTables.key_at.Goals as goal
+use Rattle.krates_selection.proofs.kept_tables.KeptTables.key_at.Goals as goal
 
 pub returns-in-Crate : goal.returns-in-Crate
 returns-in-Crate c = rw c.in-Crate.is (key_crate c.args.self.now c.in-Crate.place c.crate_at.result c.crate_at.ensures)

@@ -1,7 +1,7 @@
 use Rattle.std.proofs.Common.{take}
 use Rattle.std.specs.List.{AllZip}
 use Rattle.krates_selection.specs.KeptTables.{IsKeyOf, numbered_facts}
-use Rattle.krates_selection.proofs.keys.KeptTables.keys_of.Given as goal
+use Rattle.krates_selection.proofs.kept_tables.KeptTables.keys_of.Given as goal
 
 -- each fact so far has its key
 abbrev pub invariant-loop-step : goal.invariant-loop-step

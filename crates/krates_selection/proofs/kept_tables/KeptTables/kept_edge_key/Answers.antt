@@ -3,12 +3,12 @@ use Rattle.krates_cm.specs.Document.{DepKindInfoModel}
 use Rattle.krates_selection.proofs.KeyedFacts.{edge_same}
 use Rattle.krates_rules.proofs.KeyOrder.{written_back}
 use Rattle.krates_rules.specs.Kind.{written_of}
-use Rattle.krates_selection.proofs.keys.KeptTables.kept_edge_key.Goals as goal
+use Rattle.krates_selection.proofs.kept_tables.KeptTables.kept_edge_key.Goals as goal
 
-pub child_at-requires-clause-kept : goal.child_at-requires-clause-kept
-child_at-requires-clause-kept c =
+pub child_at-requires : goal.child_at-requires
+child_at-requires c =
     let k = c.requires.kept in
-    record { parent = k.edge.parent; child = k.edge.child; at = k.at.dep; kept = k.child }
+    record { kept = record { parent = k.edge.parent; child = k.edge.child; at = k.at.dep; kept = k.child } }
 
 pub returns : goal.returns
 returns c = record {

@@ -3,7 +3,7 @@ use Rattle.std.specs.List.{AllZip}
 use Rattle.krates_rules.proofs.Zips.{zip_read}
 use Rattle.krates_selection.specs.KeptTables.{IsKeyOf, numbered_facts}
 use Rattle.krates_selection.specs.declared.trace.NumberedStep.{NumberedStep}
-use Rattle.krates_selection.proofs.keys.KeptTables.keys_of.Goals as goal
+use Rattle.krates_selection.proofs.kept_tables.KeptTables.keys_of.Goals as goal
 
 pub loop-step-preserved : goal.loop-step-preserved
 loop-step-preserved c =
