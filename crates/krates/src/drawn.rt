@@ -33,8 +33,9 @@ use krates_graph::graph::Graph;
 use krates_ids::Error;
 use krates_queries::from_package::FromPackage;
 use krates_questions::context::Context;
-use krates_resolve::{Document, EnabledFeature, Ids, Setting, Work, select_in};
-use krates_selection::{KeptStep, kept_steps};
+use krates_resolve::{Document, EnabledFeature, Ids, NumberedSelection, Setting, Work, select_in};
+use krates_selection::KeptStep;
+use krates_selection::kept_tables::KeptTables;
 use std::alloc::{AllocError, Global};
 
 /// What is drawn of a selection, the steps that explain it, and the work that it was.
@@ -60,14 +61,15 @@ pub(crate) fn sketch_of(
     ensures named { IfErr result (NamesReadIds (metadata_view metadata.now)) }
 {
     let document = Document::new(alloc, metadata, ids)?;
-    let selection = select_in(alloc, &document, setting)?;
+    let NumberedSelection { selection, numbers } = select_in(alloc, &document, setting)?;
     let work = selection.work;
     let context = Context {
         alloc,
         document: &document,
         setting,
     };
-    let steps = kept_steps(&context, &selection.krates, &selection.steps)?;
+    let tables = KeptTables::new(context, &selection.krates, &numbers);
+    let steps = tables.kept_steps(&selection.steps)?;
     let outline = outline_of(alloc, &document, setting, selection)?;
     Ok(Sketch {
         outline,

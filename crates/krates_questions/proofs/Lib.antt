@@ -6,6 +6,7 @@ pub mod DepPlaces
 pub mod Entries
 pub mod FeatureNames
 pub mod FeatureNumbers
+pub mod FeatureValues
 pub mod LeastReferents
 pub mod LibraryNames
 pub mod ListPlaces

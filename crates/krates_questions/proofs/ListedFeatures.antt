@@ -1,5 +1,5 @@
 -- The listed features of a document, as its table has them.
-use Rattle.std.proofs.Common.{◌≡◌, ℕ, ◌<◌, length, get_or, map, option_map, Some, refl, sym, ap, ◌∙◌, subst}
+use Rattle.std.proofs.Common.{◌≡◌, ℕ, ◌<◌, length, get_or, option_map, Some, refl, sym, ap, ◌∙◌, subst}
 use Rattle.std.proofs.lemmas.List.{length-map}
 use Rattle.std.proofs.lemmas.Option.{slice_get-map, slice_get_read}
 use Rattle.std.specs.List.{slice_get}

@@ -9,7 +9,6 @@ pub mod KeptEnds
 pub mod KeptKeyOrder
 pub mod KeptNumbers
 pub mod KeyedFacts
-pub mod ListedFeatures
 pub mod Marks
 pub mod NeededParts
 pub mod PickedParts

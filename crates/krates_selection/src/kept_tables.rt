@@ -29,8 +29,7 @@ pub struct KeptTables<'a, 's> {
     /// The kept crates are in order, each once.
     pub ghost ascending: { IsStrictlySortedBy id_cmp krates.now } by { Prim.hlevel props },
     /// The numbers are those among them of the crates of the document.
-    pub ghost numbered: { AreNumbersOf (map id_of krates.now) context.document.now.table.ids.items numbers.now }
-        by { numbers_once _ _ _ },
+    pub ghost numbered: { AreNumbersOf (map id_of krates.now) context.document.now.table.ids.items numbers.now } by { numbers_once _ _ _ },
 }
 
 impl<'a, 's> KeptTables<'a, 's> {

@@ -68,13 +68,6 @@ impl<'a> Document<'a> {
         &self.lookup.table.ids
     }
 
-    /// The features that the nodes list, by number. Time O(1).
-    pub fn listed_features(&self) -> &[ListedFeature<'a>]
-        ensures { result.now ≡ self.now.features.listed.items }
-    {
-        &self.lookup.features.listed
-    }
-
     /// How many features the nodes list: their numbers are the places below it. Time O(1).
     pub fn feature_count(&self) -> usize
         ensures { result ≡ length (listed_features (resolved_view self.now)) }

@@ -12,7 +12,7 @@ use Rattle.krates_rules.specs.Resolved.{id_of}
 use Rattle.krates_search.proofs.Growing.{advances_refl, advances_trans, followed_grows}
 use Rattle.krates_questions.proofs.FeatureNumbers.{listed_place}
 use Rattle.krates_resolve.proofs.ReferenceLemmas.{listed_found, one_feature, value_of_enabled, value_of_step, followed_all_here, none_counted, one_counted, references_here}
-use Rattle.krates_selection.proofs.ListedFeatures.{value_at}
+use Rattle.krates_questions.proofs.FeatureValues.{value_at}
 use Rattle.krates_rules.proofs.Seen.{seen_more, each_seen}
 use Rattle.krates_rules.proofs.Zips.{zip_all}
 use Rattle.krates_resolve.proofs.references.follow_references.Goals as goal

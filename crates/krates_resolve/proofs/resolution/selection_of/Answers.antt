@@ -55,9 +55,11 @@ kept_features-requires-clause-kept c =
 
 pub kept_toggled-requires : goal.kept_toggled-requires
 kept_toggled-requires c =
-    record { kept = rw (c.new-tables.ensures.context) (let whole = whole_of c.args.context.now.document.now c.args.context.now.setting.now c.args.found.now c.node_ids.result.now c.numbers.result.now c.in_ok-kids_at.field-0.items c.in_ok-krates.krates.items c.agrees.ensures c.requires.exact c.node_ids.ensures c.numbers.ensures.put
-    c.in_ok-kids_at.ensures c.requires.some (record { from = c.in_ok-krates.ensures.from; kept = c.in_ok-krates.ensures.kept }) c.in_ok-krates.ensures.ascending in
-    toggles_kept c.one_reading.ensures.once c.comparison.ensures.equality (resolved_view c.args.context.now.document.now) c.args.context.now.setting.now c.args.context.now.document.now.ids.now.nodes.items c.args.found.now c.in_ok-kids_at.field-0.items c.in_ok-krates.krates.items whole c.requires.sound.toggles c.new-tables.result.krates.now c.deref-5.result.now (c.new-tables.ensures.krates ∙ c.deref-2.ensures.value) c.deref-5.ensures.value) }
+    record {
+      kept = rw (c.new-tables.ensures.context) (let whole = whole_of c.args.context.now.document.now c.args.context.now.setting.now c.args.found.now c.node_ids.result.now c.numbers.result.now c.in_ok-kids_at.field-0.items c.in_ok-krates.krates.items c.agrees.ensures c.requires.exact c.node_ids.ensures c.numbers.ensures.put
+          c.in_ok-kids_at.ensures c.requires.some (record { from = c.in_ok-krates.ensures.from; kept = c.in_ok-krates.ensures.kept }) c.in_ok-krates.ensures.ascending in
+          toggles_kept c.one_reading.ensures.once c.comparison.ensures.equality (resolved_view c.args.context.now.document.now) c.args.context.now.setting.now c.args.context.now.document.now.ids.now.nodes.items c.args.found.now c.in_ok-kids_at.field-0.items c.in_ok-krates.krates.items whole c.requires.sound.toggles c.new-tables.result.krates.now c.deref-5.result.now (c.new-tables.ensures.krates ∙ c.deref-2.ensures.value) c.deref-5.ensures.value);
+    }
 
 pub returns-clause-selected : goal.returns-clause-selected
 returns-clause-selected c =

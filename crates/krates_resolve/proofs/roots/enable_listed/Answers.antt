@@ -6,7 +6,7 @@ use Rattle.krates_questions.specs.Lookup.{resolved_view}
 use Rattle.krates_rules.specs.Resolved.{id_of}
 use Rattle.krates_search.proofs.Finding.{finds_root_feature, for_reason}
 use Rattle.krates_search.proofs.Growing.{advances_refl, advances_trans}
-use Rattle.krates_selection.proofs.ListedFeatures.{value_at}
+use Rattle.krates_questions.proofs.FeatureValues.{value_at}
 use Rattle.krates_resolve.proofs.Rooted.{listed_may}
 use Rattle.krates_rules.proofs.Seen.{seen_more, each_seen}
 use Rattle.krates_resolve.proofs.roots.enable_listed.Goals as goal

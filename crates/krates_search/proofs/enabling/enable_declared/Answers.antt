@@ -7,7 +7,7 @@ use Rattle.krates_search.specs.SearchState.{Advances, HasUsed, IsEnabledBySome, 
 use Rattle.krates_questions.specs.Lookup.{resolved_view}
 use Rattle.krates_rules.specs.Resolved.{id_of}
 use Rattle.krates_search.specs.declared.search_state.SearchState.{SearchState}
-use Rattle.krates_selection.proofs.ListedFeatures.{value_at}
+use Rattle.krates_questions.proofs.FeatureValues.{value_at}
 use Rattle.krates_selection.proofs.Steps.{finds_more}
 use Rattle.krates_search.proofs.Growing.{advances_refl, advances_trans, named_grows}
 use Rattle.krates_rules.proofs.Seen.{seen_more, each_seen}

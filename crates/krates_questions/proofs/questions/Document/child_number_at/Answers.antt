@@ -18,6 +18,6 @@ returns-clause-number c =
 pub returns-clause-has_one : goal.returns-clause-has_one
 returns-clause-has_one c =
     rw (← c.self.view_is) (λ parent child at has. (
-        let d = c.self.inside.lookup in
-        let once = c.one_reading.ensures.once in
-        node_has_number once d child c.index-2.result.now c.self.invariant has (dep_numbered once d parent child c.args.place c.args.index c.index.result.now c.index-2.result.now c.self.invariant at c.index.ensures c.index-2.ensures)))
+    let d = c.self.inside.lookup in
+    let once = c.one_reading.ensures.once in
+    node_has_number once d child c.index-2.result.now c.self.invariant has (dep_numbered once d parent child c.args.place c.args.index c.index.result.now c.index-2.result.now c.self.invariant at c.index.ensures c.index-2.ensures)))

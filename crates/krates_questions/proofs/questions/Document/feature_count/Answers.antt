@@ -1,4 +1,4 @@
-use Rattle.std.proofs.Common.{◌≡◌, ℕ, length, sym, ◌∙◌}
+use Rattle.std.proofs.Common.{◌≡◌, length, sym, ◌∙◌}
 use Rattle.std.specs.Vec.{vec_len}
 use Rattle.krates_questions.proofs.ListedFeatures.{listed_long}
 use Rattle.krates_questions.proofs.questions.Document.feature_count.Goals as goal

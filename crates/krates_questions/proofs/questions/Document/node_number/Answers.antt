@@ -14,7 +14,7 @@ returns-clause-number c = rw (← c.self.view_is) (λ i at. node_numbered c.one_
 pub returns-clause-has_one : goal.returns-clause-has_one
 returns-clause-has_one c =
     rw (← c.self.view_is) (λ i at. (
-        let d = c.self.inside.lookup in
-        let once = c.one_reading.ensures.once in
-        let has : (n : NodeModel) × HasNode (resolved_view d) i n = (at.node, record { among = contains_at (resolved_view d).graph.nodes c.args.place at.node at.at; id = at.id }) in
-        node_has_number once d i c.index.result.now c.self.invariant has (node_numbered once d c.args.place i c.index.result.now c.self.invariant at c.index.ensures)))
+    let d = c.self.inside.lookup in
+    let once = c.one_reading.ensures.once in
+    let has : (n : NodeModel) × HasNode (resolved_view d) i n = (at.node, record { among = contains_at (resolved_view d).graph.nodes c.args.place at.node at.at; id = at.id }) in
+    node_has_number once d i c.index.result.now c.self.invariant has (node_numbered once d c.args.place i c.index.result.now c.self.invariant at c.index.ensures)))
