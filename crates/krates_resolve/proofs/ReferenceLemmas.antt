@@ -1,5 +1,5 @@
 -- What an enabled feature gives by its references, and what it may give.
-use Rattle.std.proofs.Common.{◌≡◌, ℕ, ◌+◌, ◌<◌, List, [], ◌∷◌, ◌++◌, length, get_or, take, map, Some, Contains, Result, Ok, Err, OnOk, String, Global, inl, inr, refl, sym, ap, ◌∙◌, subst, arith}
+use Rattle.std.proofs.Common.{Bor, ◌≡◌, ℕ, ◌+◌, ◌<◌, List, [], ◌∷◌, ◌++◌, length, get_or, take, map, Some, Contains, Result, Ok, Err, OnOk, String, Global, inl, inr, refl, sym, ap, ◌∙◌, subst, arith}
 use Rattle.std.proofs.lemmas.Option.{slice_get-get_or, same_Some}
 use Rattle.std.proofs.lemmas.List.Sums.{sum_by_push}
 use Rattle.std.specs.List.{AllZip, slice_get, sum}
@@ -10,15 +10,15 @@ use Rattle.krates_rules.specs.Admission.{NoneDoubled}
 use Rattle.krates_rules.specs.Derivation.{Derivable, follows, Among}
 use Rattle.krates_rules.specs.Facts.{Id, Edge, Fact, Crate, Feature, Kept}
 use Rattle.krates_questions.specs.FeatureValues.{AreNamed, AreValuesOf}
-use Rattle.krates_search.specs.SearchState.{HasFound, IsAskedWeakly, IsAskingStep, IsFollowed, HasFollowedAll, IsValueOfEnabled, IsSound, Advances, AreTried, IsTried, IsAny, MayTry, MayName, MayToggle}
-use Rattle.krates_search.specs.FollowedReferences.{IsAskedAt, IsToggledStronglyAt, IsReferringStep, IsValueStep, MayAsk, MayAskAt, HasEnabledReference}
+use Rattle.krates_search.specs.SearchState.{Grows, HasFound, IsAskedWeakly, IsAskingStep, IsFollowed, HasFollowedAll, IsValueOfEnabled, IsSound, Advances, AreTried, IsTried, IsAny, MayTry, MayName, MayToggle}
+use Rattle.krates_search.specs.FollowedReferences.{IsAskedAt, IsToggledStronglyAt, IsReferringStep, IsValueStep, MayAsk, HasEnabledReference}
 use Rattle.krates_rules.specs.Resolved.{DepAt, NodeAt, Resolved, NoNode, id_of}
 use Rattle.krates_search.specs.Links.{IsMarked, HasWaiter}
 use Rattle.krates_questions.specs.ListedFeatures.{listed_features}
 use Rattle.krates_questions.specs.Lookup.{IsLookup, resolved_view}
 use Rattle.krates_questions.specs.NodeEntry.{AreParts, IsEntry, IsEntryOf, parent_of, child_of}
 use Rattle.krates_questions.specs.Numbering.{FeatureAt}
-use Rattle.krates_rules.specs.Questions.{Stands, edge_between, questions}
+use Rattle.krates_rules.specs.Questions.{Stands, questions}
 use Rattle.krates_rules.specs.Referent.{IsReferent}
 use Rattle.krates_rules.specs.Rules.{Questions, IsAskedFor, feature_crate, named, lost_named, asked, toggled_strongly, lost_asked_package, lost_asked_node, lost_toggled_strongly, toggled_weakly, lost_toggled_weakly}
 use Rattle.krates_rules.specs.Setting.{SettingModel}
@@ -33,10 +33,17 @@ use Rattle.krates_questions.specs.declared.node_entry.NodeParts.{NodeParts}
 use Rattle.krates_rules.proofs.Readings.{ReadsOnce}
 use Rattle.krates_rules.proofs.Zips.{zip_next}
 use Rattle.krates_resolve.proofs.Counted.{counted_more}
+use Rattle.krates_questions.specs.Context.{document_of}
+use Rattle.krates_questions.specs.NodeEntry.{krate_of}
+use Rattle.krates_resolve.specs.Progress.{HasValueStep, MayFollowText}
+use Rattle.krates_resolve.specs.References.{NamesDependency, Refers}
+use Rattle.krates_resolve.specs.declared.references.Referrer.{Referrer}
+use Rattle.krates_text.specs.FeatureReference.{reference_of}
+use Rattle.krates_text.specs.declared.features.Feature.{Feature as Written}
+use Rattle.krates_text.specs.declared.features.Feature.TheVariants as written
 use Rattle.krates_search.proofs.EntriesTried.{entry_tried}
 use Rattle.krates_search.proofs.Entries.{one, undeclared_lost}
 use Rattle.krates_search.proofs.Growth.{waiter_advances, with_links}
-use Rattle.krates_selection.proofs.Steps.{StepsStay}
 use Rattle.krates_selection.specs.Trace.{HasStep}
 use Rattle.krates_search.specs.declared.links.Waiting.{Waiting}
 use Rattle.krates_selection.specs.declared.trace.NumberedStep.{NumberedStep}
@@ -55,10 +62,6 @@ two q g h d e f (inr (inr is)) = absurd is
 
 feature_keeps : (r : Resolved) (s : SettingModel) (i : Id) (f : Text) → Derivable (questions r s) (Feature i f) → Derivable (questions r s) (Crate i)
 feature_keeps r s i f enabled = follows (feature_crate {p = i} {f = f}) (one (questions r s) (Feature i f) enabled)
-
--- a text is a value of an enabled feature, so its reference is a reference of that feature
-pub value_may : (r : Resolved) (s : SettingModel) (i : Id) (text : Text) (reference : Reference) → IsValueOfEnabled r s i text → IsReference text reference → HasEnabledReference r s i reference
-value_may r s i text reference v is = record { feature = v.feature; enabled = v.enabled; refers = v.refers reference is }
 
 pub may_name : (r : Resolved) (s : SettingModel) (i : Id) (g : Text) → HasEnabledReference r s i (simple g) → MayName r s i g
 unfolding questions
@@ -124,10 +127,6 @@ tried_at once r s x parts y index e none p of tried there =
     let same = one_way once r (id_of parts.parent.now) (child_of y) e.parent e.child parts.place index (dep_of_entry r parts y index of is) there in
     entry_tried r s x y e none is (ap id_of of.parent ∙ same.0) same.1 tried
 
-pub may_ask_there : ReadsOnce → (r : Resolved) (s : SettingModel) (p child : Id) (name : Text) (place index : ℕ) → MayAsk r s p name → IsReferent r s.all_named p name child → DepAt r p child place index → MayAskAt r s p place index
-may_ask_there once r s p child name place index may is dep other k at =
-    asked_may_try r s (edge_between p other k) name may (subst (IsReferent r s.all_named p name) (one_way once r p child p other place index dep at).1 is)
-
 -- ---- a feature that is toggled strongly
 
 -- if no edge that was asked for is kept, none may be kept
@@ -154,13 +153,25 @@ wait_advances once r s x links p child place index w sound more dep weakly step 
 pub asking_step : (r : Resolved) (s : SettingModel) (trace : List NumberedStep) (n : ℕ) (p child : Id) (name g : Text) → IsReferringStep r trace n p (weak name g) → IsReferent r s.all_named p name child → IsAskingStep r s trace p child g n
 asking_step r s trace n p child name g m is = record { feature = m.feature; found = m.found; name = name; refers = m.refers; referent = is }
 
--- a text is a value of the feature of a step, so its reference is a reference of that feature
-pub referring_step : (r : Resolved) (trace : List NumberedStep) (n : ℕ) (p : Id) (text : Text) (reference : Reference) → IsValueStep r trace n p text → IsReference text reference → IsReferringStep r trace n p reference
-referring_step r trace n p text reference v is = record { feature = v.feature; found = v.found; refers = v.refers reference is }
+-- the reference that a text is, which is a value of the enabled feature, is one of that feature
+pub text_refers : (by : Referrer) (x : SearchState) (text : Text) (reference : Reference) → MayFollowText by.context (krate_of by.parts) text → HasValueStep by.context x by.step (krate_of by.parts) text → IsReference text reference → Refers by x reference
+text_refers by x text reference may step is = record {
+  may = record { feature = may.feature; enabled = may.enabled; refers = may.refers reference is };
+  has_step = record { feature = step.feature; found = step.found; refers = step.refers reference is };
+}
 
--- the step remains that of a feature with the reference
-pub referring_more : (r : Resolved) (old new : List NumberedStep) (n : ℕ) (p : Id) (reference : Reference) → StepsStay r old new → IsReferringStep r old n p reference → IsReferringStep r new n p reference
-referring_more r old new n p reference stay h = record { feature = h.feature; found = stay n (Feature p h.feature) h.found; refers = h.refers }
+-- what isn't a feature of its own crate names a dependency
+pub not_simple : (f : Written) → ((name : Bor (List ℕ)) → f ≡ written.Simple name → ⊥) → NamesDependency (reference_of f)
+not_simple (written.Simple name) h = h name refl
+not_simple (written.Krate name) h = tt
+not_simple (written.Strong name g) h = tt
+not_simple (written.Weak name g) h = tt
+
+-- and remains one as more is found
+pub refers_more : (by : Referrer) (x y : SearchState) (reference : Reference) → Grows (document_of by.context) x y → Refers by x reference → Refers by y reference
+refers_more by x y reference more h =
+    let step = h.has_step in
+    record { may = h.may; has_step = record { feature = step.feature; found = more.steps by.step (Feature (krate_of by.parts) step.feature) step.found; refers = step.refers } }
 
 -- a value of the feature of a step
 pub value_of_step : (r : Resolved) (trace : List NumberedStep) (n : ℕ) (p : Id) (f : Text) (values : List Text) (text : Text) → HasStep r trace n (Feature p f) → AreValuesOf r p f values → Contains values text → IsValueStep r trace n p text

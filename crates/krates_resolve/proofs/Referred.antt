@@ -3,23 +3,32 @@ use Rattle.std.proofs.Common.{◌≡◌, ℕ, ◌<◌, ◌≤◌, List, length, 
 use Rattle.std.proofs.lemmas.List.{length-map}
 use Rattle.std.proofs.lemmas.Option.{slice_get-get_or, slice_get_within}
 use Rattle.krates_cm.specs.Document.{Text}
+use Rattle.krates_text.specs.FeatureReference.{Reference, krate, simple, strong, weak}
 use Rattle.krates_rules.proofs.FirstPlaces.{seen_at}
+use Rattle.krates_rules.proofs.Readings.{ReadsOnce}
 use Rattle.krates_rules.proofs.Seen.{SeenBelow}
 use Rattle.krates_rules.specs.Admission.{NoneDoubled}
 use Rattle.krates_rules.specs.Facts.{Id}
+use Rattle.krates_rules.specs.Referent.{IsReferent}
 use Rattle.krates_rules.specs.Resolved.{DepAt, Resolved}
 use Rattle.krates_rules.specs.Setting.{SettingModel}
 use Rattle.krates_rules.proofs.OnlyOne.{place_in}
 use Rattle.krates_rules.proofs.Standings.{contains_at}
+use Rattle.krates_questions.specs.Context.{document_of}
 use Rattle.krates_questions.specs.NodeEntry.{krate_of}
 use Rattle.krates_questions.specs.declared.node_entry.NodeParts.{NodeParts}
 use Rattle.krates_questions.specs.ReferentPlace.{AreReferentsIn, referent_id}
 use Rattle.krates_questions.specs.declared.referent.Referent.{Referent}
 use Rattle.krates_questions.proofs.DepPlaces.{one_dep_place}
-use Rattle.krates_search.specs.SearchState.{IsAsked, IsToggledStrongly, IsWaiting, WaitsOrIsToggled}
+use Rattle.krates_search.proofs.Growing.{asked_at_grows, strongly_at_grows, waiting_at_grows}
+use Rattle.krates_search.specs.SearchState.{Grows, IsAsked, IsToggledStrongly, IsWaiting, WaitsOrIsToggled}
 use Rattle.krates_search.specs.FollowedReferences.{IsAskedAt, IsToggledStronglyAt, IsWaitingAt}
+use Rattle.krates_selection.proofs.Steps.{one_way}
 use Rattle.krates_selection.specs.Work.{CountsName}
 use Rattle.krates_search.specs.declared.search_state.SearchState.{SearchState}
+use Rattle.krates_resolve.specs.Progress.{CountsReferenceOf, HasFollowed}
+use Rattle.krates_resolve.specs.References.{HasFollowedAt, NamesDependency, Refers, RefersTo, name_of}
+use Rattle.krates_resolve.specs.declared.references.Referrer.{Referrer}
 
 -- a crate that is meant is in the list
 meant_among : (xs : List Referent) (c : Id) → Contains (map referent_id xs) c → (x : Referent) × Contains xs x × (referent_id x ≡ c)
@@ -29,9 +38,15 @@ meant_among xs c m =
     let x = get_or xs at.0 w.0 in
     (x, contains_at xs at.0 x (slice_get-get_or xs at.0 w.0 w.1), w.2)
 
--- all that the name means, as the code goes over it
-pub meant_here : (r : Resolved) (s : SettingModel) (parts : NodeParts) (name : Text) (all : Bool) (items xs : List Referent) → all ≡ s.all_named → xs ≡ items → AreReferentsIn r all parts name items → AreReferentsIn r s.all_named parts name xs
-meant_here r s parts name all items xs told same h = subst (λ (b : Bool). AreReferentsIn r b parts name xs) told (subst (AreReferentsIn r all parts name) (sym same) h)
+-- these are all that the name of the reference means
+abbrev pub AreMeant : Referrer → Reference → List Referent → Type 0
+AreMeant by reference xs = AreReferentsIn (document_of by.context) by.context.setting.now.all_named by.parts (name_of reference) xs
+
+-- as the code goes over them
+pub meant_here : (by : Referrer) (reference : Reference) (name : Text) (all : Bool) (items xs : List Referent) → name ≡ name_of reference → all ≡ by.context.setting.now.all_named → xs ≡ items → AreReferentsIn (document_of by.context) all by.parts name items → AreMeant by reference xs
+meant_here by reference name all items xs named told same h =
+    let r = document_of by.context in
+    subst (λ (t : Text). AreReferentsIn r by.context.setting.now.all_named by.parts t xs) named (subst (λ (b : Bool). AreReferentsIn r b by.parts name xs) told (subst (AreReferentsIn r all by.parts name) (sym same) h))
 
 pub item_among : (xs : List Referent) (k : ℕ) (x : Referent) → k < length xs → x ≡ get_or xs k x → Contains xs x
 item_among xs k x lt is = (k, lt, sym is)
@@ -41,25 +56,40 @@ pub each_among : (P : Referent → Type 0) (xs : List Referent) (i : ℕ) → le
 each_among P xs i le seen x (k, lt, is) = subst P is (seen k x (omega (arith, lt, le)))
 
 -- each stands at a place of the node
-pub referent_within : (r : Resolved) (s : SettingModel) (parts : NodeParts) (name : Text) (xs : List Referent) (x : Referent) → AreReferentsIn r s.all_named parts name xs → Contains xs x → x.place < length parts.children.now
-referent_within r s parts name xs x h among = slice_get_within parts.children.now x.place x.id.now (h.each x among).at
+pub referent_within : (by : Referrer) (reference : Reference) (xs : List Referent) (x : Referent) → AreMeant by reference xs → Contains xs x → x.place < length by.parts.children.now
+referent_within by reference xs x h among = slice_get_within by.parts.children.now x.place x.id.now (h.each x among).at
+
+-- the reference of the crate is one to each
+pub refers_to : ReadsOnce → (by : Referrer) (f : SearchState) (reference : Reference) (xs : List Referent) (x : Referent) → AreMeant by reference xs → Contains xs x → Refers by f reference → RefersTo by f reference x.place
+refers_to once by f reference xs x h among refers =
+    let r = document_of by.context in
+    let p = krate_of by.parts in
+    let at = h.each x among in
+    record {
+      refers = refers;
+      child = referent_id x;
+      dep = at.dep;
+      is = λ other there. subst (IsReferent r by.context.setting.now.all_named p (name_of reference)) (one_way once r p (referent_id x) p other by.parts.place x.place at.dep there).1 at.is;
+    }
+
+-- ---- what was found at each
 
 -- all edges to what the name means have been tried
-pub asked_each : (r : Resolved) (s : SettingModel) (f : SearchState) (parts : NodeParts) (name : Text) (xs : List Referent) → AreReferentsIn r s.all_named parts name xs
+asked_each : (r : Resolved) (s : SettingModel) (f : SearchState) (parts : NodeParts) (name : Text) (xs : List Referent) → AreReferentsIn r s.all_named parts name xs
     → ((x : Referent) → Contains xs x → IsAskedAt r s f (krate_of parts) parts.place x.place) → IsAsked r s f (krate_of parts) name
 asked_each r s f parts name xs h each e same referent =
     let w = meant_among xs e.child ((h.are.exactly e.child).1 referent) in
     each w.0 w.1 e same (subst (λ (i : Id). DepAt r (krate_of parts) i parts.place w.0.place) w.2 (h.each w.0 w.1).dep)
 
 -- toggled strongly: the feature of each crate to which an edge may be kept
-pub strongly_each : (r : Resolved) (s : SettingModel) (f : SearchState) (parts : NodeParts) (name g : Text) (xs : List Referent) → AreReferentsIn r s.all_named parts name xs
+strongly_each : (r : Resolved) (s : SettingModel) (f : SearchState) (parts : NodeParts) (name g : Text) (xs : List Referent) → AreReferentsIn r s.all_named parts name xs
     → ((x : Referent) → Contains xs x → IsToggledStronglyAt r s f (krate_of parts) parts.place x.place g) → IsToggledStrongly r s f (krate_of parts) name g
 strongly_each r s f parts name g xs h each e d same referent w stands =
     let m = meant_among xs e.child ((h.are.exactly e.child).1 referent) in
     each m.0 m.1 e d same (subst (λ (i : Id). DepAt r (krate_of parts) i parts.place m.0.place) m.2 (h.each m.0 m.1).dep) w stands
 
 -- weakly: the feature of each crate waits or is toggled
-pub waiting_each : (r : Resolved) (s : SettingModel) (f : SearchState) (parts : NodeParts) (name g : Text) (xs : List Referent) → NoneDoubled r.metadata r.graph → AreReferentsIn r s.all_named parts name xs
+waiting_each : (r : Resolved) (s : SettingModel) (f : SearchState) (parts : NodeParts) (name g : Text) (xs : List Referent) → NoneDoubled r.metadata r.graph → AreReferentsIn r s.all_named parts name xs
     → ((x : Referent) → Contains xs x → IsWaitingAt r f (krate_of parts) parts.place x.place g) → IsWaiting r s f (krate_of parts) name g
 waiting_each r s f parts name g xs none h each child place index referent there =
     let m = meant_among xs child ((h.are.exactly child).1 referent) in
@@ -67,6 +97,35 @@ waiting_each r s f parts name g xs none h each child place index referent there 
     let at = one_dep_place r (krate_of parts) child parts.place m.0.place place index none dep there in
     subst (λ (n : ℕ). WaitsOrIsToggled r f (krate_of parts) child n index g) at.0 (subst (λ (n : ℕ). WaitsOrIsToggled r f (krate_of parts) child parts.place n g) at.1 (each m.0 m.1 child dep))
 
--- how often a name counts
-pub name_counts : (r : Resolved) (s : SettingModel) (parts : NodeParts) (name : Text) (xs : List Referent) (n m : ℕ) → AreReferentsIn r s.all_named parts name xs → m ≡ length xs → n ≡ max m 1 → CountsName r s.all_named (krate_of parts) name n
-name_counts r s parts name xs n m h long is = record { ids = map referent_id xs; are = h.are; count = is ∙ ap (λ (k : ℕ). max k 1) (long ∙ sym (length-map xs referent_id)) }
+-- all that the reference gives has been found at each
+pub followed_each : (by : Referrer) (f : SearchState) (reference : Reference) (xs : List Referent) → NoneDoubled (document_of by.context).metadata (document_of by.context).graph → NamesDependency reference → AreMeant by reference xs
+    → ((x : Referent) → Contains xs x → HasFollowedAt by f reference x.place) → HasFollowed by.context f (krate_of by.parts) reference
+followed_each by f (simple g) xs none named h each = absurd named
+followed_each by f (krate c) xs none named h each = asked_each (document_of by.context) by.context.setting.now f by.parts c xs h each
+followed_each by f (strong c g) xs none named h each =
+    let r = document_of by.context in
+    let s = by.context.setting.now in
+    (asked_each r s f by.parts c xs h (λ x among. (each x among).0), strongly_each r s f by.parts c g xs h (λ x among. (each x among).1))
+followed_each by f (weak c g) xs none named h each = waiting_each (document_of by.context) by.context.setting.now f by.parts c g xs none h each
+
+-- it stays found
+pub followed_at_grows : (by : Referrer) (f g : SearchState) (reference : Reference) (index : ℕ) → Grows (document_of by.context) f g → HasFollowedAt by f reference index → HasFollowedAt by g reference index
+followed_at_grows by f g (simple t) index more h = tt
+followed_at_grows by f g (krate c) index more h = asked_at_grows (document_of by.context) by.context.setting.now f g (krate_of by.parts) by.parts.place index more h
+followed_at_grows by f g (strong c t) index more h =
+    let r = document_of by.context in
+    let s = by.context.setting.now in
+    let p = krate_of by.parts in
+    (asked_at_grows r s f g p by.parts.place index more h.0, strongly_at_grows r s f g p by.parts.place index t more h.1)
+followed_at_grows by f g (weak c t) index more h = waiting_at_grows (document_of by.context) f g (krate_of by.parts) by.parts.place index t more h
+
+-- ---- how often a reference counts
+
+name_counts : (by : Referrer) (reference : Reference) (xs : List Referent) (n m : ℕ) → AreMeant by reference xs → m ≡ length xs → n ≡ max m 1 → CountsName (document_of by.context) by.context.setting.now.all_named (krate_of by.parts) (name_of reference) n
+name_counts by reference xs n m h long is = record { ids = map referent_id xs; are = h.are; count = is ∙ ap (λ (k : ℕ). max k 1) (long ∙ sym (length-map xs referent_id)) }
+
+pub reference_counts : (by : Referrer) (reference : Reference) (xs : List Referent) (n m : ℕ) → NamesDependency reference → AreMeant by reference xs → m ≡ length xs → n ≡ max m 1 → CountsReferenceOf by.context (krate_of by.parts) reference n
+reference_counts by (simple g) xs n m named h long is = absurd named
+reference_counts by (krate c) xs n m named h long is = name_counts by (krate c) xs n m h long is
+reference_counts by (strong c g) xs n m named h long is = name_counts by (strong c g) xs n m h long is
+reference_counts by (weak c g) xs n m named h long is = name_counts by (weak c g) xs n m h long is

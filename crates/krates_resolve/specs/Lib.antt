@@ -1,3 +1,4 @@
 pub mod Counting
 pub mod Progress
+pub mod References
 pub mod Saturation
