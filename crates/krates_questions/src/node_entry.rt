@@ -175,21 +175,12 @@ impl<'a> Document<'a> {
         self.lookup.table.dep_numbers[place][index]
     }
 
-    /// The number of the crate that a dependency leads to. None where it has neither package nor node and is no member.
-    /// Time O(1).
-    pub fn child_number(&self, entry: &NodeEntry<'_>) -> Option<usize>
-        requires entry { IsEntry (resolved_view self.now) entry.now }
-        ensures { IsNumberIn self.now (child_of entry.now) result }
-    {
-        self.child_number_at(entry.place, entry.index)
-    }
-
     /// The place of the node of the crate that a dependency leads to. None where it has none. Time O(1).
     pub fn child_place(&self, entry: &NodeEntry<'_>) -> Option<usize>
         requires entry { IsEntry (resolved_view self.now) entry.now }
         ensures { IsNodePlace (resolved_view self.now) (child_of entry.now) result }
     {
-        self.node_place_at(self.child_number(entry))
+        self.node_place_at(self.child_number_at(entry.place, entry.index))
     }
 
     /// Where what the package of a dependency's parent declares stands by name. Nothing where it has no package. Time O(1).

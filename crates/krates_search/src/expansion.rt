@@ -81,7 +81,8 @@ pub fn expand_entry<'a>(
     context.document.agrees();
     laws::one_reading();
     let places = context.document.places_for(entry);
-    let number = context.document.child_number(entry);
+    let document = context.document;
+    let number = document.child_number_at(entry.place, entry.index);
     let availability = context.availability_at(&found.excluded, number);
     let infos = entry.dep.dep_kinds.as_slice();
     let kinds = first_kinds(context.alloc, infos)?;

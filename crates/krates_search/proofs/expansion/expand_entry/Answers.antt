@@ -61,11 +61,14 @@ expand_edge-requires-clause-first c =
     let here = info_there infos items kind info c.as_slice-infos.ensures.value c.info_at.ensures in
     first_info items kinds kind info (same_infos infos items kinds c.as_slice-infos.ensures.value c.in_ok-kinds.ensures) among here
 
+pub child_number_at-number-requires : goal.child_number_at-number-requires
+child_number_at-number-requires c = record { there = (parent_of c.args.entry.now, child_of c.args.entry.now, c.requires.entry.at) }
+
 pub availability_at-availability-requires-clause-number : goal.availability_at-availability-requires-clause-number
-availability_at-availability-requires-clause-number c = (child_of c.args.entry.now, c.child_number-number.ensures)
+availability_at-availability-requires-clause-number c = (child_of c.args.entry.now, (c.child_number_at-number.ensures.number (parent_of c.args.entry.now) (child_of c.args.entry.now) c.requires.entry.at))
 
 pub expand_edge-requires-clause-availability : goal.expand_edge-requires-clause-availability
-expand_edge-requires-clause-availability c = c.availability_at-availability.ensures (child_of c.args.entry.now) c.child_number-number.ensures
+expand_edge-requires-clause-availability c = c.availability_at-availability.ensures (child_of c.args.entry.now) (c.child_number_at-number.ensures.number (parent_of c.args.entry.now) (child_of c.args.entry.now) c.requires.entry.at)
 
 pub expand_edge-requires-clause-sound : goal.expand_edge-requires-clause-sound
 expand_edge-requires-clause-sound c = c.loop-kind.invariant.0.sound
