@@ -4,7 +4,7 @@ use Rattle.std.proofs.lemmas.Option.{slice_get-get_or, same_Some}
 use Rattle.std.proofs.lemmas.List.Sums.{sum_by_push}
 use Rattle.std.specs.List.{AllZip, slice_get, sum}
 use Rattle.krates_cm.specs.Document.{Text, node_dep_view, text_view}
-use Rattle.krates_text.specs.FeatureReference.{Reference, weak, strong, simple, IsReference, HasOneReading}
+use Rattle.krates_text.specs.FeatureReference.{Reference, weak, strong, simple, IsReference, HasOneReading, reference_of}
 use Rattle.krates_ids.specs.Identity.{Identity}
 use Rattle.krates_rules.specs.Admission.{NoneDoubled}
 use Rattle.krates_rules.specs.Derivation.{Derivable, follows, Among}
@@ -16,7 +16,7 @@ use Rattle.krates_rules.specs.Resolved.{DepAt, NodeAt, Resolved, NoNode, id_of}
 use Rattle.krates_search.specs.Links.{IsMarked, HasWaiter}
 use Rattle.krates_questions.specs.ListedFeatures.{listed_features}
 use Rattle.krates_questions.specs.Lookup.{IsLookup, resolved_view}
-use Rattle.krates_questions.specs.NodeEntry.{AreParts, IsEntry, IsEntryOf, parent_of, child_of}
+use Rattle.krates_questions.specs.NodeEntry.{AreParts, IsEntry, IsEntryOf, parent_of, child_of, krate_of}
 use Rattle.krates_questions.specs.Numbering.{FeatureAt}
 use Rattle.krates_rules.specs.Questions.{Stands, questions}
 use Rattle.krates_rules.specs.Referent.{IsReferent}
@@ -34,11 +34,9 @@ use Rattle.krates_rules.proofs.Readings.{ReadsOnce}
 use Rattle.krates_rules.proofs.Zips.{zip_next}
 use Rattle.krates_resolve.proofs.Counted.{counted_more}
 use Rattle.krates_questions.specs.Context.{document_of}
-use Rattle.krates_questions.specs.NodeEntry.{krate_of}
 use Rattle.krates_resolve.specs.Progress.{HasValueStep, MayFollowText}
 use Rattle.krates_resolve.specs.References.{NamesDependency, Refers, RefersTo}
 use Rattle.krates_resolve.specs.declared.references.Referrer.{Referrer}
-use Rattle.krates_text.specs.FeatureReference.{reference_of}
 use Rattle.krates_text.specs.declared.features.Feature.{Feature as Written}
 use Rattle.krates_text.specs.declared.features.Feature.TheVariants as written
 use Rattle.krates_search.proofs.EntriesTried.{entry_tried}
