@@ -4,19 +4,19 @@ use Rattle.std.proofs.lemmas.Option.{slice_get-get_or, same_Some}
 use Rattle.std.proofs.lemmas.List.Sums.{sum_by_push}
 use Rattle.std.specs.List.{AllZip, slice_get, sum}
 use Rattle.krates_cm.specs.Document.{Text, node_dep_view, text_view}
-use Rattle.krates_text.specs.FeatureReference.{Reference, weak, strong, simple, IsReference, HasOneReading}
+use Rattle.krates_text.specs.FeatureReference.{Reference, weak, strong, simple, IsReference, HasOneReading, reference_of}
 use Rattle.krates_ids.specs.Identity.{Identity}
 use Rattle.krates_rules.specs.Admission.{NoneDoubled}
 use Rattle.krates_rules.specs.Derivation.{Derivable, follows, Among}
 use Rattle.krates_rules.specs.Facts.{Id, Edge, Fact, Crate, Feature, Kept}
 use Rattle.krates_questions.specs.FeatureValues.{AreNamed, AreValuesOf}
 use Rattle.krates_search.specs.SearchState.{Grows, HasFound, IsAskedWeakly, IsAskingStep, IsFollowed, HasFollowedAll, IsValueOfEnabled, IsSound, Advances, AreTried, IsTried, IsAny, MayTry, MayName, MayToggle}
-use Rattle.krates_search.specs.FollowedReferences.{IsAskedAt, IsToggledStronglyAt, IsReferringStep, IsValueStep, MayAsk, HasEnabledReference}
+use Rattle.krates_search.specs.FollowedReferences.{IsAskedAt, IsToggledStronglyAt, IsValueStep, MayAsk, HasEnabledReference}
 use Rattle.krates_rules.specs.Resolved.{DepAt, NodeAt, Resolved, NoNode, id_of}
 use Rattle.krates_search.specs.Links.{IsMarked, HasWaiter}
 use Rattle.krates_questions.specs.ListedFeatures.{listed_features}
 use Rattle.krates_questions.specs.Lookup.{IsLookup, resolved_view}
-use Rattle.krates_questions.specs.NodeEntry.{AreParts, IsEntry, IsEntryOf, parent_of, child_of}
+use Rattle.krates_questions.specs.NodeEntry.{AreParts, IsEntry, IsEntryOf, parent_of, child_of, krate_of}
 use Rattle.krates_questions.specs.Numbering.{FeatureAt}
 use Rattle.krates_rules.specs.Questions.{Stands, questions}
 use Rattle.krates_rules.specs.Referent.{IsReferent}
@@ -34,18 +34,15 @@ use Rattle.krates_rules.proofs.Readings.{ReadsOnce}
 use Rattle.krates_rules.proofs.Zips.{zip_next}
 use Rattle.krates_resolve.proofs.Counted.{counted_more}
 use Rattle.krates_questions.specs.Context.{document_of}
-use Rattle.krates_questions.specs.NodeEntry.{krate_of}
 use Rattle.krates_resolve.specs.Progress.{HasValueStep, MayFollowText}
-use Rattle.krates_resolve.specs.References.{NamesDependency, Refers}
+use Rattle.krates_resolve.specs.References.{NamesDependency, Refers, RefersTo}
 use Rattle.krates_resolve.specs.declared.references.Referrer.{Referrer}
-use Rattle.krates_text.specs.FeatureReference.{reference_of}
 use Rattle.krates_text.specs.declared.features.Feature.{Feature as Written}
 use Rattle.krates_text.specs.declared.features.Feature.TheVariants as written
 use Rattle.krates_search.proofs.EntriesTried.{entry_tried}
 use Rattle.krates_search.proofs.Entries.{one, undeclared_lost}
 use Rattle.krates_search.proofs.Growth.{waiter_advances, with_links}
 use Rattle.krates_selection.specs.Trace.{HasStep}
-use Rattle.krates_search.specs.declared.links.Waiting.{Waiting}
 use Rattle.krates_selection.specs.declared.trace.NumberedStep.{NumberedStep}
 use Rattle.krates_questions.proofs.Lookups.{one_id}
 use Rattle.krates_questions.proofs.NodeParts.{dep_of_child, entry_here}
@@ -139,19 +136,21 @@ unmarked_strongly r s x p g place index sound is_asked unmarked e d same there w
 -- ---- a feature that waits
 
 -- one more feature waits, for a dependency to which no edge is kept yet
-pub wait_advances : ReadsOnce → (r : Resolved) (s : SettingModel) (x : SearchState) (links : Links) (p child : Id) (place index : ℕ) (w : Waiting) → IsSound r s x → HasWaiter x.links links place index w → DepAt r p child place index
-    → IsAskedWeakly r s p child w.name.now → IsAskingStep r s x.trace.items p child w.name.now w.step → (IsMarked x.links place index → ⊥) → Advances r s x (with_links x links)
-wait_advances once r s x links p child place index w sound more dep weakly step unmarked =
-    waiter_advances r s x links place index w sound more
-    (λ q c there. let same = one_way once r p child q c place index dep there in subst (λ (i : Id). IsAskedWeakly r s i c w.name.now) same.0 (subst (λ (i : Id). IsAskedWeakly r s p i w.name.now) same.1 weakly))
-    (λ q c there.
-    let same = one_way once r p child q c place index dep there in
-    subst (λ (i : Id). IsAskingStep r s x.trace.items i c w.name.now w.step) same.0 (subst (λ (i : Id). IsAskingStep r s x.trace.items p i w.name.now w.step) same.1 step))
+pub wait_advances : ReadsOnce → (by : Referrer) (x : SearchState) (links : Links) (c : Text) (feature : Bor (List ℕ)) (index : ℕ) → IsSound (document_of by.context) by.context.setting.now x → RefersTo by x (weak c feature.now) index
+    → HasWaiter x.links links by.parts.place index (record { name = feature; step = by.step }) → (IsMarked x.links by.parts.place index → ⊥) → Advances (document_of by.context) by.context.setting.now x (with_links x links)
+wait_advances once by x links c feature index sound to more unmarked =
+    let r = document_of by.context in
+    let s = by.context.setting.now in
+    let p = krate_of by.parts in
+    let place = by.parts.place in
+    let may = to.refers.may in
+    let step = to.refers.has_step in
+    let same : (q child : Id) → DepAt r q child place index → p ≡ q = λ q child there. (one_way once r p to.child q child place index to.dep there).0 in
+    let is : (q child : Id) → DepAt r q child place index → IsReferent r s.all_named p c child = λ q child there. to.is child (subst (λ (i : Id). DepAt r i child place index) (sym (same q child there)) there) in
+    waiter_advances r s x links place index (record { name = feature; step = by.step }) sound more
+    (λ q child there. subst (λ (i : Id). IsAskedWeakly r s i child feature.now) (same q child there) (record { feature = may.feature; enabled = may.enabled; name = c; refers = may.refers; referent = is q child there }))
+    (λ q child there. subst (λ (i : Id). IsAskingStep r s x.trace.items i child feature.now by.step) (same q child there) (record { feature = step.feature; found = step.found; name = c; refers = step.refers; referent = is q child there }))
     unmarked
-
--- the step is that of a feature with the weak reference, and the reference's name means the child
-pub asking_step : (r : Resolved) (s : SettingModel) (trace : List NumberedStep) (n : ℕ) (p child : Id) (name g : Text) → IsReferringStep r trace n p (weak name g) → IsReferent r s.all_named p name child → IsAskingStep r s trace p child g n
-asking_step r s trace n p child name g m is = record { feature = m.feature; found = m.found; name = name; refers = m.refers; referent = is }
 
 -- the reference that a text is, which is a value of the enabled feature, is one of that feature
 pub text_refers : (by : Referrer) (x : SearchState) (text : Text) (reference : Reference) → MayFollowText by.context (krate_of by.parts) text → HasValueStep by.context x by.step (krate_of by.parts) text → IsReference text reference → Refers by x reference
@@ -176,9 +175,6 @@ refers_more by x y reference more h =
 -- a value of the feature of a step
 pub value_of_step : (r : Resolved) (trace : List NumberedStep) (n : ℕ) (p : Id) (f : Text) (values : List Text) (text : Text) → HasStep r trace n (Feature p f) → AreValuesOf r p f values → Contains values text → IsValueStep r trace n p text
 value_of_step r trace n p f values text found are among = record { feature = f; found = found; refers = λ reference is. (are reference).1 (record { text = text; among = among; is = is }) }
-
-pub asked_weakly : (r : Resolved) (s : SettingModel) (p child : Id) (name g : Text) → HasEnabledReference r s p (weak name g) → IsReferent r s.all_named p name child → IsAskedWeakly r s p child g
-asked_weakly r s p child name g m is = record { feature = m.feature; enabled = m.enabled; name = name; refers = m.refers; referent = is }
 
 -- ---- each text is one reference
 

@@ -10,33 +10,21 @@ use Rattle.krates_rules.proofs.Seen.{SeenBelow}
 use Rattle.krates_rules.specs.Admission.{NoneDoubled}
 use Rattle.krates_rules.specs.Facts.{Id}
 use Rattle.krates_rules.specs.Referent.{IsReferent}
-use Rattle.krates_rules.specs.Resolved.{DepAt, Resolved}
-use Rattle.krates_rules.specs.Setting.{SettingModel}
 use Rattle.krates_rules.proofs.OnlyOne.{place_in}
 use Rattle.krates_rules.proofs.Standings.{contains_at}
 use Rattle.krates_questions.specs.Context.{document_of}
 use Rattle.krates_questions.specs.NodeEntry.{krate_of}
-use Rattle.krates_questions.specs.declared.node_entry.NodeParts.{NodeParts}
 use Rattle.krates_questions.specs.ReferentPlace.{AreReferentsIn, referent_id}
 use Rattle.krates_questions.specs.declared.referent.Referent.{Referent}
 use Rattle.krates_questions.proofs.DepPlaces.{one_dep_place}
 use Rattle.krates_search.proofs.Growing.{asked_at_grows, strongly_at_grows, waiting_at_grows}
-use Rattle.krates_search.specs.SearchState.{Grows, IsAsked, IsToggledStrongly, IsWaiting, WaitsOrIsToggled}
-use Rattle.krates_search.specs.FollowedReferences.{IsAskedAt, IsToggledStronglyAt, IsWaitingAt}
+use Rattle.krates_search.specs.SearchState.{Grows, WaitsOrIsToggled}
 use Rattle.krates_selection.proofs.Steps.{one_way}
 use Rattle.krates_selection.specs.Work.{CountsName}
 use Rattle.krates_search.specs.declared.search_state.SearchState.{SearchState}
 use Rattle.krates_resolve.specs.Progress.{CountsReferenceOf, HasFollowed}
-use Rattle.krates_resolve.specs.References.{HasFollowedAt, NamesDependency, Refers, RefersTo, name_of}
+use Rattle.krates_resolve.specs.References.{DependsAt, HasFollowedAt, NamesDependency, Refers, RefersTo, name_of}
 use Rattle.krates_resolve.specs.declared.references.Referrer.{Referrer}
-
--- a crate that is meant is in the list
-meant_among : (xs : List Referent) (c : Id) → Contains (map referent_id xs) c → (x : Referent) × Contains xs x × (referent_id x ≡ c)
-meant_among xs c m =
-    let at = place_in (map referent_id xs) c m in
-    let w = seen_at referent_id xs at.0 c at.1 in
-    let x = get_or xs at.0 w.0 in
-    (x, contains_at xs at.0 x (slice_get-get_or xs at.0 w.0 w.1), w.2)
 
 -- these are all that the name of the reference means
 abbrev pub AreMeant : Referrer → Reference → List Referent → Type 0
@@ -74,39 +62,30 @@ refers_to once by f reference xs x h among refers =
 
 -- ---- what was found at each
 
--- all edges to what the name means have been tried
-asked_each : (r : Resolved) (s : SettingModel) (f : SearchState) (parts : NodeParts) (name : Text) (xs : List Referent) → AreReferentsIn r s.all_named parts name xs
-    → ((x : Referent) → Contains xs x → IsAskedAt r s f (krate_of parts) parts.place x.place) → IsAsked r s f (krate_of parts) name
-asked_each r s f parts name xs h each e same referent =
-    let w = meant_among xs e.child ((h.are.exactly e.child).1 referent) in
-    each w.0 w.1 e same (subst (λ (i : Id). DepAt r (krate_of parts) i parts.place w.0.place) w.2 (h.each w.0 w.1).dep)
+-- a crate that is meant is in the list
+meant_at : (by : Referrer) (reference : Reference) (xs : List Referent) (c : Id) → AreMeant by reference xs → IsReferent (document_of by.context) by.context.setting.now.all_named (krate_of by.parts) (name_of reference) c → (x : Referent) × Contains xs x × DependsAt by c x.place
+meant_at by reference xs c h referent =
+    let at = place_in (map referent_id xs) c ((h.are.exactly c).1 referent) in
+    let w = seen_at referent_id xs at.0 c at.1 in
+    let x = get_or xs at.0 w.0 in
+    let among = contains_at xs at.0 x (slice_get-get_or xs at.0 w.0 w.1) in
+    (x, among, subst (λ (i : Id). DependsAt by i x.place) w.2 (h.each x among).dep)
 
--- toggled strongly: the feature of each crate to which an edge may be kept
-strongly_each : (r : Resolved) (s : SettingModel) (f : SearchState) (parts : NodeParts) (name g : Text) (xs : List Referent) → AreReferentsIn r s.all_named parts name xs
-    → ((x : Referent) → Contains xs x → IsToggledStronglyAt r s f (krate_of parts) parts.place x.place g) → IsToggledStrongly r s f (krate_of parts) name g
-strongly_each r s f parts name g xs h each e d same referent w stands =
-    let m = meant_among xs e.child ((h.are.exactly e.child).1 referent) in
-    each m.0 m.1 e d same (subst (λ (i : Id). DepAt r (krate_of parts) i parts.place m.0.place) m.2 (h.each m.0 m.1).dep) w stands
-
--- weakly: the feature of each crate waits or is toggled
-waiting_each : (r : Resolved) (s : SettingModel) (f : SearchState) (parts : NodeParts) (name g : Text) (xs : List Referent) → NoneDoubled r.metadata r.graph → AreReferentsIn r s.all_named parts name xs
-    → ((x : Referent) → Contains xs x → IsWaitingAt r f (krate_of parts) parts.place x.place g) → IsWaiting r s f (krate_of parts) name g
-waiting_each r s f parts name g xs none h each child place index referent there =
-    let m = meant_among xs child ((h.are.exactly child).1 referent) in
-    let dep = subst (λ (i : Id). DepAt r (krate_of parts) i parts.place m.0.place) m.2 (h.each m.0 m.1).dep in
-    let at = one_dep_place r (krate_of parts) child parts.place m.0.place place index none dep there in
-    subst (λ (n : ℕ). WaitsOrIsToggled r f (krate_of parts) child n index g) at.0 (subst (λ (n : ℕ). WaitsOrIsToggled r f (krate_of parts) child parts.place n g) at.1 (each m.0 m.1 child dep))
-
--- all that the reference gives has been found at each
+-- so all that the reference gives has been found where it has been at each
 pub followed_each : (by : Referrer) (f : SearchState) (reference : Reference) (xs : List Referent) → NoneDoubled (document_of by.context).metadata (document_of by.context).graph → NamesDependency reference → AreMeant by reference xs
     → ((x : Referent) → Contains xs x → HasFollowedAt by f reference x.place) → HasFollowed by.context f (krate_of by.parts) reference
 followed_each by f (simple g) xs none named h each = absurd named
-followed_each by f (krate c) xs none named h each = asked_each (document_of by.context) by.context.setting.now f by.parts c xs h each
-followed_each by f (strong c g) xs none named h each =
+followed_each by f (krate c) xs none named h each = λ e same referent. let m = meant_at by (krate c) xs e.child h referent in each m.0 m.1 e same m.2
+followed_each by f (strong c g) xs none named h each = (
+  λ e same referent. let m = meant_at by (strong c g) xs e.child h referent in (each m.0 m.1).0 e same m.2,
+  λ e d same referent w stands. let m = meant_at by (strong c g) xs e.child h referent in (each m.0 m.1).1 e d same m.2 w stands,
+)
+followed_each by f (weak c g) xs none named h each = λ child place index referent there.
     let r = document_of by.context in
-    let s = by.context.setting.now in
-    (asked_each r s f by.parts c xs h (λ x among. (each x among).0), strongly_each r s f by.parts c g xs h (λ x among. (each x among).1))
-followed_each by f (weak c g) xs none named h each = waiting_each (document_of by.context) by.context.setting.now f by.parts c g xs none h each
+    let p = krate_of by.parts in
+    let m = meant_at by (weak c g) xs child h referent in
+    let at = one_dep_place r p child by.parts.place m.0.place place index none m.2 there in
+    subst (λ (n : ℕ). WaitsOrIsToggled r f p child n index g) at.0 (subst (λ (n : ℕ). WaitsOrIsToggled r f p child by.parts.place n g) at.1 (each m.0 m.1 child m.2))
 
 -- it stays found
 pub followed_at_grows : (by : Referrer) (f g : SearchState) (reference : Reference) (index : ℕ) → Grows (document_of by.context) f g → HasFollowedAt by f reference index → HasFollowedAt by g reference index

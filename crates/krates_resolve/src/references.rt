@@ -5,7 +5,7 @@ ghost use Rattle.krates_search.specs.SearchContext.{Has, IsRight, Moves};
 ghost use Rattle.krates_resolve.specs.Progress.{CountsReferenceOf, CountsTextOf, HasFeatureStep, HasFollowed, HasFollowedText, HasValueStep, MayFollowText, TakenHasFollowedReferences, TakenHasReferences};
 ghost use Rattle.krates_resolve.specs.References.{DemandsAt, FindsToggledAt, HasAskedAt, HasFollowedAt, HasItsParts, HasToggledAt, MayToggleAt, NamesDependency, Refers, RefersTo, name_of};
 ghost use Rattle.krates_questions.specs.Context.{Refuses};
-ghost use Rattle.std.specs.Prelude.{◌≡◌, ◌<◌, Contains, IfErr, IfOk, OnOk, length, max};
+ghost use Rattle.std.specs.Prelude.{◌≡◌, ◌<◌, Contains, IfErr, IfOk, OnOk, length};
 ghost use Rattle.krates_text.specs.FeatureReference.{reference_of};
 ghost use Rattle.krates_rules.specs.Facts.{Crate};
 ghost use Rattle.krates_search.specs.Links.{IsMarked};
@@ -68,13 +68,6 @@ pub(crate) fn follow_references<'a>(
     Ok(references)
 }
 
-/// How often a reference counts whose name means so many crates: once for each, and once where it means none.
-fn times(referents: usize) -> usize
-    ensures { result ≡ max referents 1 }
-{
-    referents.max(1)
-}
-
 /// The name that a reference begins with: that of a dependency, or of a feature of its own crate.
 fn name_in<'a>(reference: Feature<'a>) -> &'a str
     ensures { result.now ≡ name_of (reference_of reference.entry) }
@@ -117,7 +110,8 @@ impl<'a> Referrer<'a, '_> {
         }
     }
 
-    /// Follows a reference at each dependency that its name means. It answers how often the reference counts.
+    /// Follows a reference at each dependency that its name means. It answers how often the reference counts: once for each, and
+    /// once where its name means none.
     fn follow_each(
         &self,
         reference: Feature<'a>,
@@ -145,7 +139,7 @@ impl<'a> Referrer<'a, '_> {
         for referent in &referents {
             self.follow_at(reference, referent.place, found)?;
         }
-        Ok(times(referents.len()))
+        Ok(referents.len().max(1))
     }
 
     /// Follows a reference at a dependency that its name means. It asks for the edges, unless it is weak, and toggles its feature

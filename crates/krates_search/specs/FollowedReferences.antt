@@ -1,13 +1,12 @@
 -- What a reference of an enabled feature may give.
 use Rattle.std.specs.Prelude.{◌≡◌, ℕ, List}
-use Rattle.krates_cm.specs.Document.{Text, DependencyModel, DepKindInfoModel}
+use Rattle.krates_cm.specs.Document.{Text, DependencyModel}
 use Rattle.krates_text.specs.FeatureReference.{IsReference, Reference}
 use Rattle.krates_rules.specs.Derivation.{Derivable}
 use Rattle.krates_rules.specs.Facts.{Id, Edge, Feature}
 use Rattle.krates_rules.specs.Features.{HasReference}
-use Rattle.krates_search.specs.SearchState.{IsAny, IsToggledIn, IsTried, MayTry, WaitsOrIsToggled}
-use Rattle.krates_rules.specs.Questions.{IsWanted, Stands, edge_between, questions}
-use Rattle.krates_rules.specs.Referent.{IsReferent}
+use Rattle.krates_search.specs.SearchState.{IsAny, IsToggledIn, IsTried, WaitsOrIsToggled}
+use Rattle.krates_rules.specs.Questions.{IsWanted, Stands, questions}
 use Rattle.krates_rules.specs.References.{Demands}
 use Rattle.krates_rules.specs.Resolved.{DepAt, Resolved}
 use Rattle.krates_rules.specs.Setting.{SettingModel}
@@ -45,11 +44,6 @@ pub record MayAsk (r : Resolved) (s : SettingModel) (p : Id) (name : Text) : Typ
   pub has : HasEnabledReference r s p reference
   pub asks : Demands reference name
 
--- the edges by the dependency at these places may be kept, also where it is optional
-abbrev pub MayAskAt : Resolved → SettingModel → Id → ℕ → ℕ → Type 0
-MayAskAt r s p place index =
-    (child : Id) (k : DepKindInfoModel) → DepAt r p child place index → MayTry r s (edge_between p child k) IsAny
-
 -- each edge by the dependency at these places has been tried
 abbrev pub IsAskedAt : Resolved → SettingModel → SearchState → Id → ℕ → ℕ → Type 0
 IsAskedAt r s x p place index = (e : Edge) → e.parent ≡ p → DepAt r p e.child place index → IsTried r s x e IsAny
@@ -62,12 +56,3 @@ IsToggledStronglyAt r s x p place index g =
 -- the feature of that dependency waits for a kept edge, or is toggled
 abbrev pub IsWaitingAt : Resolved → SearchState → Id → ℕ → ℕ → Text → Type 0
 IsWaitingAt r x p place index g = (child : Id) → DepAt r p child place index → WaitsOrIsToggled r x p child place index g
-
--- the step is that of an enabled feature of the crate with a reference of this form, whose name means the dependency at these places
-pub record RefersTo (r : Resolved) (s : SettingModel) (trace : List NumberedStep) (p : Id) (form : Text → Reference) (step place index : ℕ) : Type 0 where
-  pub name : Text
-  pub may : HasEnabledReference r s p (form name)
-  pub has_step : IsReferringStep r trace step p (form name)
-  pub child : Id
-  pub dep : DepAt r p child place index
-  pub is : IsReferent r s.all_named p name child

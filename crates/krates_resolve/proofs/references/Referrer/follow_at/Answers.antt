@@ -4,11 +4,10 @@ use Rattle.krates_questions.specs.Context.{document_of}
 use Rattle.krates_questions.specs.NodeEntry.{krate_of}
 use Rattle.krates_rules.specs.Facts.{Toggled}
 use Rattle.krates_rules.specs.Questions.{edge_between}
-use Rattle.krates_search.specs.declared.links.Waiting.{Waiting}
 use Rattle.krates_search.proofs.Finding.{finds_strongly, finds_weakly, for_reason}
 use Rattle.krates_search.proofs.Growing.{advances_trans, asked_at_grows}
 use Rattle.krates_text.specs.FeatureReference.{reference_of, strong}
-use Rattle.krates_resolve.proofs.ReferenceLemmas.{asked_weakly, asking_step, may_toggle_strongly, may_toggle_weakly, on_ok_both, refers_more, unmarked_strongly, wait_advances}
+use Rattle.krates_resolve.proofs.ReferenceLemmas.{may_toggle_strongly, may_toggle_weakly, on_ok_both, refers_more, unmarked_strongly, wait_advances}
 use Rattle.krates_resolve.proofs.references.Referrer.follow_at.Goals as goal
 
 -- ---- a reference that asks for the edges
@@ -98,14 +97,5 @@ let_wait-requires c = c.requires.sound.has_links (krate_of c.args.self.now.parts
 
 pub returns-in_ok-let_wait-in-Weak-clause-advanced : goal.returns-in_ok-let_wait-in-Weak-clause-advanced
 returns-in_ok-let_wait-in-Weak-clause-advanced c =
-    let by = c.args.self.now in
-    let r = document_of by.context in
-    let s = by.context.setting.now in
-    let p = krate_of by.parts in
-    let name = c.in-Weak.krate.now in
-    let g = c.in-Weak.feature.now in
     let to = rw c.in-Weak.is at c.requires.refers in
-    let is = to.is to.child to.dep in
-    let waiting : Waiting = record { name = c.in-Weak.feature; step = by.step } in
-    wait_advances c.one_reading.ensures.once r s c.args.found.now c.let_wait.new.self p to.child by.parts.place c.args.index waiting c.requires.sound c.in_ok-let_wait-in-Weak.ensures to.dep
-    (asked_weakly r s p to.child name g to.refers.may is) (asking_step r s c.args.found.now.trace.items by.step p to.child name g to.refers.has_step is) c.in_default-kept.ensures
+    wait_advances c.one_reading.ensures.once c.args.self.now c.args.found.now c.let_wait.new.self c.in-Weak.krate.now c.in-Weak.feature c.args.index c.requires.sound to c.in_ok-let_wait-in-Weak.ensures c.in_default-kept.ensures

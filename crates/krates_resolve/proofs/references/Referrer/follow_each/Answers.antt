@@ -53,4 +53,4 @@ returns-clause-followed c =
 pub returns-clause-counted : goal.returns-clause-counted
 returns-clause-counted c =
     let xs = c.deref-referent-items.result.now in
-    reference_counts c.args.self.now (reference_of c.args.reference) xs c.times.result c.len.result c.requires.named (meant (goal.at.returns-clause-counted c).After-deref-referent-items) (search rules) c.times.ensures
+    reference_counts c.args.self.now (reference_of c.args.reference) xs c.max.result c.len.result c.requires.named (meant (goal.at.returns-clause-counted c).After-deref-referent-items) (search rules) (search rules)
