@@ -6,6 +6,7 @@ use Rattle.std.proofs.lemmas.List.{get_or-map, length-map}
 use Rattle.std.specs.Cmp.{IsTotalOrder}
 use Rattle.std.specs.List.Sorted.{IsBinarySearchResult, IsNonDecreasingBy, IsPartitionedBy, IsPartitionPoint, IsSearchInRange, IsStrictlySortedBy}
 use Rattle.std.specs.Ordering.{is_eq, is_lt, ordering_index, ordering_reverse}
+use Rattle.std.specs.Result.{result_unwrap_or}
 use Rattle.krates_drawing.specs.Drawing.{place_of}
 use Rattle.krates_rules.proofs.BinarySearch.{step}
 
@@ -170,11 +171,6 @@ stands_in ord xs mine w k d lt =
 
 -- ---- a place
 
--- the place that a search returns, or the length
-abbrev pub place_in : ℕ → Result ℕ ℕ → ℕ
-place_in n (Ok i) = i
-place_in n (Err i) = n
-
 first_place : {A : Type 0} (p : A → Bool) (xs : List A) (n : ℕ) (d : A) → n < length xs → p (get_or xs n d) ≡ true → ((k : ℕ) → k < n → p (get_or xs k d) ≡ false) → place_of p xs ≡ n
 first_place p [] n d lt e h = absurd (omega (arith, lt))
 first_place p (x ∷ xs) zero d lt e h = ap (λ b. cond b 0 (suc (place_of p xs))) e
@@ -208,7 +204,7 @@ module _ {K : Type 0} {R : K → K → Ordering} (o : IsTotalOrder R) where
 
   -- the place of the first equal element, as a binary search finds it
   pub searched : {A : Type 0} (key : A → K) (xs : List A) (q : K) (r : Result ℕ ℕ) → IsStrictlySortedBy R (map key xs) → IsSearchInRange r (length xs) → IsBinarySearchResult (λ y. R (key y) q) xs r
-      → place_of (λ y. is_eq (R (key y) q)) xs ≡ place_in (length xs) r
+      → place_of (λ y. is_eq (R (key y) q)) xs ≡ result_unwrap_or r (length xs)
   searched key xs q (Ok n) sorted lt h =
       let d = head_of xs n lt in
       first_place (λ y. is_eq (R (key y) q)) xs n d lt (ap is_eq (h d)) (λ k l. earlier key xs q n k d sorted lt (h d) l)
