@@ -1,8 +1,8 @@
 -- What is gathered from a selection is its outline.
 use Rattle.std.proofs.Common.{◌≡◌, Bool, inl, inr, ℕ, zero, suc, ◌<◌, List, [], ◌∷◌, All, length, map, option_map, Option, Some, None, slice_get, refl, sym, ap, ◌∙◌, subst, arith}
-use Rattle.std.proofs.lemmas.List.{length-map}
+use Rattle.std.proofs.lemmas.List.{get_or-map, length-map}
 use Rattle.std.proofs.lemmas.Simd.{map-map}
-use Rattle.std.proofs.lemmas.List.Elements.{All-contains, All-from_recursion}
+use Rattle.std.proofs.lemmas.List.Elements.{All-contains}
 use Rattle.std.specs.Global.{Vec}
 use Rattle.std.specs.List.{AllZip}
 use Rattle.std.specs.List.Sorted.{IsStrictlySortedBy}
@@ -35,7 +35,7 @@ use Rattle.krates_drawing.specs.declared.crate_record.CrateRecord.{CrateRecord}
 use Rattle.krates_document.proofs.DeclaredOnce.{declared_stands}
 use Rattle.krates_drawing.proofs.Derivations.{child_kept, crate_of_feature, kept_stands}
 use Rattle.krates_drawing.proofs.Holding.{crate_there, edge_there, feature_there}
-use Rattle.krates_rules.proofs.Members.{Member, contains_of, member_map}
+use Rattle.krates_rules.proofs.Members.{Member, contains_of}
 use Rattle.krates_drawing.proofs.Standing.{each}
 use Rattle.krates_rules.proofs.OnlyOne.{one_package}
 
@@ -172,7 +172,7 @@ has_node r s i d none = let w = kept_stands (questions r s) i d in none w.node w
 
 -- what holds under a view holds of what is seen
 all_under : {A B : Type 0} (f : A → B) (P : B → Type 0) (xs : List A) → All P (map f xs) → All (λ x. P (f x)) xs
-all_under f P xs h = All-from_recursion (λ x. P (f x)) xs (each (λ x. P (f x)) xs (λ x m. All-contains P (map f xs) (f x) h (contains_of (map f xs) (f x) (member_map f xs x m))))
+all_under f P xs h k d lt = subst P (get_or-map f xs k d (f d) lt) (h k (f d) (rw length-map lt))
 
 module _ (r : Resolved) (s : SettingModel) (x : Selection) (records : List CrateRecord) (ks : Vec CrateRow) (ls : Vec EdgeRow) (fs : Vec FeatureRow) (h : IsSelection r s x) (w : AreGathered r s x records ks.items ls.items fs.items) where
   same_kids : kids_of ks.items ≡ x.krates.items

@@ -29,12 +29,10 @@ impl NumberedOutline<'_> {
     ) -> Result<(), AllocError>
         requires ends { HasEnds (length self.now.outline.now.krates.items) link.now.edge }
         requires source { let outline = self.now.outline.now in
-            source ≡ number_of_crate (outline_view outline)
-            (id_at (kids_in outline) link.now.edge.parent) }
+            source ≡ number_of_crate (outline_view outline) (id_at (kids_in outline) link.now.edge.parent) }
         ensures { let outline = self.now.outline.now in
             OnOk result (Draws out.old out.new (uses (outline_view outline)
-            (edge_row_view (kids_in outline) link.now)
-            (edge_row_view (kids_in outline) link.now).given)) }
+            (edge_row_view (kids_in outline) link.now) (edge_row_view (kids_in outline) link.now).given)) }
     {
         let edge = &link.edge;
         if link.given.is_empty() {
@@ -125,8 +123,7 @@ impl NumberedOutline<'_> {
         requires within { child < length self.now.outline.now.krates.items }
         ensures { let outline = self.now.outline.now in
             OnOk result (Draws out.old out.new (pair_lines (outline_view outline)
-            (id_at (kids_in outline) from.now.krate)
-            (map (edge_row_view (kids_in outline)) from.now.mine.now)
+            (id_at (kids_in outline) from.now.krate) (map (edge_row_view (kids_in outline)) from.now.mine.now)
             (krate_at outline child))) }
     {
         let source = self.crate_number(from.krate);

@@ -35,7 +35,8 @@ impl NumberedOutline<'_> {
     fn claim(&self, link: &EdgeRow, mapping: &mut [Option<NodeId>])
         requires { HasEnds (length self.now.outline.now.krates.items) link.now.edge }
         ensures { let outline = self.now.outline.now in
-            IsClaimed (outline_view outline) (edge_row_view (kids_in outline) link.now) mapping.old mapping.new }
+            IsClaimed (outline_view outline) (edge_row_view (kids_in outline) link.now)
+            mapping.old mapping.new }
     {
         let place = link.edge.declared;
         if place < mapping.len() {

@@ -29,7 +29,8 @@ impl<'a> NumberedOutline<'a> {
     /// The outline, where it has no more nodes than these; none where it has more. Time: O(1).
     pub fn of(outline: &'a Outline, nodes: u32) -> Option<NumberedOutline<'a>>
         ensures { let count = length (planned_nodes (outline_view outline.now)) in
-            MatchOption result (nodes < count) (λ o. (o.outline.now ≡ outline.now) × (count ≤ nodes)) }
+            MatchOption result (nodes < count)
+            (λ numbered. (numbered.outline.now ≡ outline.now) × (count ≤ nodes)) }
     {
         let krates = outline.krates.len();
         let most = nodes as usize;
@@ -52,8 +53,7 @@ impl<'a> NumberedOutline<'a> {
     pub(crate) fn feature_number(&self, krate: usize, name: &str) -> NodeId
         requires { krate < length self.now.outline.now.krates.items }
         ensures { let outline = self.now.outline.now in
-            result ≡ number_of_feature (outline_view outline) (id_at (kids_in outline) krate)
-            name.now }
+            result ≡ number_of_feature (outline_view outline) (id_at (kids_in outline) krate) name.now }
     {
         let place = place_of_feature(self.outline, krate, name);
         NodeId::new((self.outline.krates.len() + place) as u32)
@@ -73,8 +73,7 @@ impl<'a> NumberedOutline<'a> {
 /// The place of the crate, or the number of crates.
 pub(crate) fn place_of_crate(krates: &[CrateRow], id: &Kid) -> usize
     requires { IsStrictlySortedBy id_cmp (kids_of krates.now) }
-    ensures place { result ≡ place_of (is_crate (id_of id.now)) (map crate_row_view krates.now) }
-    ensures within { result ≤ length krates.now }
+    ensures { result ≡ place_of (is_crate (id_of id.now)) (map crate_row_view krates.now) }
 {
     laws::comparison();
     krates

@@ -7,8 +7,8 @@ use Rattle.krates_drawing.proofs.EqualRanges.{searched}
 use Rattle.krates_drawing.proofs.Tests.{ids_total}
 use Rattle.krates_drawing.proofs.numbers.place_of_crate.Goals as goal
 
-pub returns-clause-place : goal.returns-clause-place
-returns-clause-place c =
+pub returns : goal.returns
+returns c =
     let found = c.binary_search_by.ensures in
     let at = found.position (λ (k : CrateRow). id_cmp k.id c.args.id.now) (always_returns_same _ _ _ (λ a r q called. search rules)) in
     c.unwrap_or.ensures ∙ sym (crate_seen c.args.krates.now c.args.id.now ∙ searched ids_total (λ (k : CrateRow). k.id) c.args.krates.now c.args.id.now c.binary_search_by.result c.requires found.bound at)
