@@ -1,7 +1,6 @@
 -- Edges and features of a selection with the ids of their crates in place of numbers: they are in the same order.
-use Rattle.std.proofs.Common.{◌≡◌, ◌<◌, ℕ, List, [], ◌∷◌, All, get_or, length, map, Ordering, rules, refl, ap, ◌∙◌}
+use Rattle.std.proofs.Common.{◌≡◌, ℕ, List, [], ◌∷◌, All, length, map, Ordering, rules, refl, ap, ◌∙◌}
 use Rattle.std.proofs.lemmas.List.Elements.{recursion_from_All}
-use Rattle.std.proofs.lemmas.Option.{slice_get-get_or}
 use Rattle.std.specs.Cmp.{IsTotalOrder}
 use Rattle.std.specs.Cmp.Lexicographic.{slice_cmp}
 use Rattle.std.specs.Cmp.Rules.{comparing}
@@ -9,10 +8,8 @@ use Rattle.std.specs.List.{AllZip}
 use Rattle.std.specs.List.Sorted.{IsStrictlySortedBy}
 use Rattle.std.specs.Ordering.{nat_cmp, on, ordering_then, then_cmp}
 use Rattle.krates_cm.specs.Document.{Text, text_view}
-use Rattle.krates_ids.specs.Identity.{Identity, empty_identity, id_cmp}
+use Rattle.krates_ids.specs.Identity.{Identity, id_cmp}
 use Rattle.krates_rules.proofs.SeenInOrder.{sorted_seen}
-use Rattle.krates_selection.proofs.ByNumber.{compared_by_place}
-use Rattle.krates_selection.proofs.CrateNumbers.{seen_id}
 use Rattle.krates_selection.specs.CrateNumbers.{HasCrates, HasEnds, HasHome, id_at}
 use Rattle.krates_selection.specs.Selection.{edge_view}
 use Rattle.krates_selection.specs.SelectionOrder.{place_cmp, feature_cmp, toggled_cmp}
@@ -21,7 +18,6 @@ use Rattle.krates_selection.specs.declared.selection.KeptEdge.{KeptEdge}
 use Rattle.krates_selection.specs.declared.selection.ToggledFeature.{ToggledFeature}
 use Rattle.krates_rules.specs.Facts.{Id, Edge}
 use Rattle.krates_rules.specs.Referent.{id_order}
-use Rattle.krates_rules.specs.Resolved.{id_of}
 use Rattle.krates_drawing.specs.Outline.{Toggle, toggle_of}
 use Rattle.krates_rules.proofs.Members.{Member}
 use Rattle.krates_drawing.proofs.Ordered.{Respects, alike, equal_zip}

@@ -1,8 +1,9 @@
 -- The crates to which sorted edges lead.
-use Rattle.std.proofs.Common.{◌≡◌, ℕ, zero, suc, ◌+◌, ◌-◌, ◌<◌, ◌≤◌, ◌==◌, Bool, true, false, not, ◌||◌, List, [], ◌∷◌, ◌++◌, All, length, get_or, slice_get, take, map, filter, cond, Option, Some, Ordering, Less, Equal, Greater, refl, sym, ap, ◌∙◌, subst, inl, inr, arith}
+use Rattle.std.proofs.Common.{◌≡◌, ℕ, zero, suc, ◌+◌, ◌-◌, ◌<◌, ◌≤◌, ◌==◌, Bool, true, false, not, ◌||◌, List, [], ◌∷◌, ◌++◌, All, length, get_or, slice_get, take, map, filter, cond, Option, Some, Ordering, Less, Equal, Greater, refl, sym, ap, ◌∙◌, subst, inl, inr, arith, append_assoc}
 use Rattle.std.proofs.lemmas.Bool.{cases_lt}
-use Rattle.std.proofs.lemmas.List.{flat_map_more, length-map, map_more, take_more}
-use Rattle.std.proofs.lemmas.List.Elements.{All-take}
+use Rattle.std.proofs.lemmas.List.{flat_map_more, get_or_default, length-map}
+use Rattle.std.proofs.lemmas.List.Elements.{All-take, filter_agree}
+use Rattle.std.proofs.lemmas.List.Folds.{list_any_more}
 use Rattle.std.proofs.lemmas.Option.{same_Some, slice_get-get_or}
 use Rattle.std.specs.List.{AllByRecursion, flat_map, list_any}
 use Rattle.std.specs.List.Sorted.{IsStrictlySortedBy}
@@ -23,7 +24,7 @@ use Rattle.krates_drawing.specs.declared.outline.Outline.{Outline}
 use Rattle.krates_drawing.proofs.CratePlaces.{AreInOrder, id_of_krate, ids_compare, led_to, own_number}
 use Rattle.krates_drawing.proofs.Joined.{either, joined}
 use Rattle.krates_drawing.proofs.NodeNumbers.{id_is, id_same}
-use Rattle.krates_drawing.proofs.Tests.{bools_same, equal_is, equal_order, equal_self, filter_same, not_high, order_total, sorted_as}
+use Rattle.krates_drawing.proofs.Tests.{bools_same, equal_is, equal_order, equal_self, not_high, order_total, sorted_as}
 
 -- edges between crates of an outline
 abbrev pub AreWithin : List CrateRow → List EdgeRow → Type 0
@@ -43,33 +44,18 @@ below Less h k = refl
 below Equal h k = absurd (k refl)
 below Greater h k = absurd (h refl)
 
--- ---- places of edges
-
-same_default : {A : Type 0} (xs : List A) (k : ℕ) (a b : A) → k < length xs → get_or xs k a ≡ get_or xs k b
-same_default [] k a b l = absurd (omega (arith, l))
-same_default (y ∷ ys) zero a b l = refl
-same_default (y ∷ ys) (suc k) a b l = same_default ys k a b (omega (arith, l))
-
 -- ---- one more edge
 
-any_more : {A : Type 0} (p : A → Bool) (xs : List A) (x : A) → list_any p (xs ++ x ∷ []) ≡ (list_any p xs || p x)
-any_more p [] x = or_false (p x)
-  where
-    or_false : (b : Bool) → (b || false) ≡ b
-    or_false true = refl
-    or_false false = refl
-any_more p (y ∷ ys) x = step (p y) (list_any p ys) (p x) (list_any p (ys ++ x ∷ [])) (any_more p ys x)
-  where
-    step : (a b c d : Bool) → d ≡ (b || c) → (a || d) ≡ ((a || b) || c)
-    step true b c d e = refl
-    step false b c d e = e
+pub any_under : {A B : Type 0} (v : A → B) (p : B → Bool) (xs : List A) → list_any p (map v xs) ≡ list_any (λ x. p (v x)) xs
+any_under v p [] = refl
+any_under v p (x ∷ xs) = ap (λ b. p (v x) || b) (any_under v p xs)
 
 -- what is seen of the edges in a loop, and of the next one
 pub seen_more : {B : Type 0} (v : EdgeRow → B) (p : B → Bool) (mine : List EdgeRow) (i : ℕ) (x : EdgeRow) → i < length mine → x ≡ get_or mine i x
     → list_any p (map v (take (i + 1) mine)) ≡ (list_any p (map v (take i mine)) || p (v x))
 seen_more v p mine i x lt e =
-    let more : map v (take (i + 1) mine) ≡ map v (take i mine) ++ v x ∷ [] = map_more v mine i x lt ∙ ap (λ a. map v (take i mine) ++ v a ∷ []) (sym e) in
-    ap (list_any p) more ∙ any_more p (map v (take i mine)) (v x)
+    any_under v p (take (i + 1) mine) ∙ list_any_more (λ l. p (v l)) mine i x lt
+    ∙ ap (λ b. b || p (v (get_or mine i x))) (sym (any_under v p (take i mine))) ∙ ap (λ l. list_any p (map v (take i mine)) || p (v l)) (sym e)
 
 -- the place of an edge that was seen
 pub record Seen (p : EdgeRow → Bool) (mine : List EdgeRow) (i : ℕ) : Type 0 where
@@ -86,10 +72,6 @@ seen_of : (p : EdgeRow → Bool) (mine : List EdgeRow) (i : ℕ) → list_any p 
 seen_of p mine zero h = absurd cc
 seen_of p [] (suc i) h = absurd cc
 seen_of p (x ∷ mine) (suc i) h = seen_step p x mine i (p x) refl h (seen_of p mine i)
-
-pub any_under : {A B : Type 0} (v : A → B) (p : B → Bool) (xs : List A) → list_any p (map v xs) ≡ list_any (λ x. p (v x)) xs
-any_under v p [] = refl
-any_under v p (x ∷ xs) = ap (λ b. p (v x) || b) (any_under v p xs)
 
 -- the same for what is seen of it
 pub seen_as : {B : Type 0} (v : EdgeRow → B) (p : B → Bool) (mine : List EdgeRow) (i : ℕ) → list_any p (map v (take i mine)) ≡ true → Seen (λ l. p (v l)) mine i
@@ -137,9 +119,9 @@ child_more ks mine i x sorted within by lt e new =
     let low : (q : model.CrateRow) → seen q ≡ true → id_order q.id c ≡ Less = λ q t.
     below (id_order q.id c) (not_above ks (is_to q.id) mine i x q.id sorted within by lt e (seen_as v (is_to q.id) mine i t) (λ l h. h))
     (λ same. (let is : q.id ≡ c = id_step q.id c (id_order q.id c) refl same in cc (sym (ap (leads_to (map v (take i mine))) is) ∙ t, new))) in
-    filter_same (λ q. leads_to (map v (take (i + 1) mine)) q.id) (either seen next) (map crate_row_view ks) (λ q. seen_more v (is_to q.id) mine i x lt e ∙ ap (λ b. seen q || b) (to_next c q))
+    filter_agree (λ q. leads_to (map v (take (i + 1) mine)) q.id) (either seen next) (λ q. seen_more v (is_to q.id) mine i x lt e ∙ ap (λ b. seen q || b) (to_next c q)) (map crate_row_view ks)
     ∙ joined order_total (λ (q : model.CrateRow). q.id) seen c (map crate_row_view ks) (crates_in_order ks sorted) low
-    ∙ ap (λ l. filter seen (map crate_row_view ks) ++ l) (filter_same next (is_crate c) (map crate_row_view ks) (these c))
+    ∙ ap (λ l. filter seen (map crate_row_view ks) ++ l) (filter_agree next (is_crate c) (these c) (map crate_row_view ks))
 
 -- the next edge leads to a crate to which another led before
 child_again : (ks : List CrateRow) (mine : List EdgeRow) (i : ℕ) (x : EdgeRow) → i < length mine → x ≡ get_or mine i x
@@ -148,8 +130,7 @@ child_again : (ks : List CrateRow) (mine : List EdgeRow) (i : ℕ) (x : EdgeRow)
 child_again ks mine i x lt e old =
     let v = edge_row_view (kids_of ks) in
     let c = id_at (kids_of ks) x.edge.child in
-    filter_same (λ q. leads_to (map v (take (i + 1) mine)) q.id) (λ q. leads_to (map v (take i mine)) q.id) (map crate_row_view ks)
-    (λ q. seen_more v (is_to q.id) mine i x lt e ∙ kept (leads_to (map v (take i mine)) q.id) (id_eq c q.id) (λ t. ap (leads_to (map v (take i mine))) (sym (id_is c q.id t)) ∙ old))
+    filter_agree (λ q. leads_to (map v (take (i + 1) mine)) q.id) (λ q. leads_to (map v (take i mine)) q.id) (λ q. seen_more v (is_to q.id) mine i x lt e ∙ kept (leads_to (map v (take i mine)) q.id) (id_eq c q.id) (λ t. ap (leads_to (map v (take i mine))) (sym (id_is c q.id t)) ∙ old)) (map crate_row_view ks)
   where
     kept : (a b : Bool) → (b ≡ true → a ≡ true) → (a || b) ≡ a
     kept true b h = refl
@@ -176,14 +157,11 @@ or_right : (a b : Bool) → b ≡ true → (a || b) ≡ true
 or_right true b e = refl
 or_right false b e = e
 
-taken_more : (p : EdgeRow → Bool) (mine : List EdgeRow) (k : ℕ) (d : EdgeRow) → k < length mine → list_any p (take (k + 1) mine) ≡ (list_any p (take k mine) || p (get_or mine k d))
-taken_more p mine k d lt = ap (list_any p) (take_more mine k d lt) ∙ any_more p (take k mine) (get_or mine k d)
-
 first_after : (mine : List EdgeRow) (k : ℕ) (d : EdgeRow) → AreByChild mine → k + 1 < length mine
     → list_any (has_child (get_or mine (k + 1) d).edge.child) (take (k + 1) mine) ≡ ((get_or mine k d).edge.child == (get_or mine (k + 1) d).edge.child)
 first_after mine k d by lt =
     let p = has_child (get_or mine (k + 1) d).edge.child in
-    let more = taken_more p mine k d (omega (arith, lt)) in
+    let more = list_any_more p mine k d (omega (arith, lt)) in
     bools_same _ _ (λ h. before_same mine k d by lt (seen_of p mine (k + 1) h)) (λ h. more ∙ or_right (list_any p (take k mine)) (p (get_or mine k d)) h)
 
 not_twice : (b : Bool) → not (not b) ≡ b
@@ -198,8 +176,8 @@ first_again mine place d before here answer by lt some at_before at_here is =
     let next : k + 1 ≡ place = omega (arith, some) in
     let told = first_after mine k d by (omega (arith, next, lt)) in
     let there = subst (λ n. list_any (has_child (get_or mine n d).edge.child) (take n mine) ≡ ((get_or mine k d).edge.child == (get_or mine n d).edge.child)) next told in
-    let one : get_or mine k d ≡ before = same_default mine k d before (omega (arith, next, lt)) ∙ sym at_before in
-    let two : get_or mine place d ≡ here = same_default mine place d here lt ∙ sym at_here in
+    let one : get_or mine k d ≡ before = get_or_default mine k d before (omega (arith, next, lt)) ∙ sym at_before in
+    let two : get_or mine place d ≡ here = get_or_default mine place d here lt ∙ sym at_here in
     there ∙ ap (λ (l : EdgeRow). l.edge.child == (get_or mine place d).edge.child) one ∙ ap (λ (l : EdgeRow). before.edge.child == l.edge.child) two ∙ sym (ap not is ∙ not_twice (before.edge.child == here.edge.child))
 
 -- ---- one crate
@@ -256,7 +234,7 @@ child_again_at ks [] place sorted within lt old = absurd (omega (arith, lt))
 child_again_at ks (x ∷ xs) place sorted within lt old =
     let mine = x ∷ xs in
     let l = get_or mine place x in
-    child_again ks mine place l lt (same_default mine place x l lt) (led_to ks l.edge.child (take place mine) sorted (within place x lt).child (All-take (λ (k : EdgeRow). HasEnds (length ks) k.edge) place mine within) ∙ old x)
+    child_again ks mine place l lt (get_or_default mine place x l lt) (led_to ks l.edge.child (take place mine) sorted (within place x lt).child (All-take (λ (k : EdgeRow). HasEnds (length ks) k.edge) place mine within) ∙ old x)
 
 pub child_more_at : (ks : List CrateRow) (mine : List EdgeRow) (place : ℕ) (d : EdgeRow) → AreInOrder ks → AreWithin ks mine → AreByChild mine → place < length mine
     → list_any (has_child (get_or mine place d).edge.child) (take place mine) ≡ false
@@ -265,17 +243,13 @@ pub child_more_at : (ks : List CrateRow) (mine : List EdgeRow) (place : ℕ) (d 
 child_more_at ks mine place d sorted within by lt new =
     let l = get_or mine place d in
     let seen = filter (λ (q : model.CrateRow). leads_to (map (edge_row_view (kids_of ks)) (take place mine)) q.id) (map crate_row_view ks) in
-    child_more ks mine place l sorted within by lt (same_default mine place d l lt) (led_to ks l.edge.child (take place mine) sorted (within place d lt).child (All-take (λ (k : EdgeRow). HasEnds (length ks) k.edge) place mine within) ∙ new)
+    child_more ks mine place l sorted within by lt (get_or_default mine place d l lt) (led_to ks l.edge.child (take place mine) sorted (within place d lt).child (All-take (λ (k : EdgeRow). HasEnds (length ks) k.edge) place mine within) ∙ new)
     ∙ ap (λ xs. seen ++ xs) (only_crate ks l.edge.child sorted (within place d lt).child)
 
 -- ---- edges that are drawn in two parts
 
-assoc : {A : Type 0} (xs ys zs : List A) → (xs ++ ys) ++ zs ≡ xs ++ (ys ++ zs)
-assoc [] ys zs = refl
-assoc (x ∷ xs) ys zs = ap (λ l. x ∷ l) (assoc xs ys zs)
-
 pub two_parts : {A : Type 0} (a b c x y z w : List A) → b ≡ a ++ x → c ≡ b ++ y → x ≡ z → y ≡ w → c ≡ a ++ (z ++ w)
-two_parts a b c x y z w first second e f = second ∙ ap (λ l. l ++ y) first ∙ assoc a x y ∙ ap (λ l. a ++ (l ++ y)) e ∙ ap (λ l. a ++ (z ++ l)) f
+two_parts a b c x y z w first second e f = second ∙ ap (λ l. l ++ y) first ∙ append_assoc a x y ∙ ap (λ l. a ++ (l ++ y)) e ∙ ap (λ l. a ++ (z ++ l)) f
 
 -- ---- edges that are drawn child by child
 

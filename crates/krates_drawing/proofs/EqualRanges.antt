@@ -2,10 +2,11 @@
 use Rattle.std.proofs.Common.{◌≡◌, ℕ, zero, suc, ◌+◌, ◌<◌, ◌≤◌, Bool, true, false, List, [], ◌∷◌, length, get_or, take, drop, map, filter, cond, Result, Ok, Err, Ordering, Less, Equal, Greater, refl, sym, ap, ◌∙◌, subst, inl, inr, arith}
 use Rattle.std.proofs.lemmas.Bool.{cases_lt}
 use Rattle.std.proofs.lemmas.Map.Keys.{Less-from_sorted}
-use Rattle.std.proofs.lemmas.List.{get_or-map, length-map}
+use Rattle.std.proofs.lemmas.List.{get_or-drop, get_or-map, get_or-take, length-drop, length-map, length-take}
 use Rattle.std.specs.Cmp.{IsTotalOrder}
 use Rattle.std.specs.List.Sorted.{IsBinarySearchResult, IsNonDecreasingBy, IsPartitionedBy, IsPartitionPoint, IsSearchInRange, IsStrictlySortedBy}
 use Rattle.std.specs.Ordering.{is_eq, is_lt, ordering_index, ordering_reverse}
+use Rattle.std.specs.Result.{result_unwrap_or}
 use Rattle.krates_drawing.specs.Drawing.{place_of}
 use Rattle.krates_rules.proofs.BinarySearch.{step}
 
@@ -25,15 +26,8 @@ all_front p (x ∷ xs) zero front back =
 all_front p (x ∷ xs) (suc n) front back =
     ap (λ b. cond b (x ∷ filter p xs) (filter p xs)) (front zero x (omega arith) (omega arith)) ∙ ap (λ ys. x ∷ ys) (all_front p xs n (λ k d lt within. front (suc k) d (omega (arith, lt)) (omega (arith, within))) (λ k d le within. back (suc k) d (omega (arith, le)) (omega (arith, within))))
 
-get_drop : {A : Type 0} (xs : List A) (n k : ℕ) (d : A) → get_or (drop n xs) k d ≡ get_or xs (n + k) d
-get_drop xs zero k d = let e : k ≡ 0 + k = omega arith in ap (λ j. get_or xs j d) e
-get_drop [] (suc n) k d = refl
-get_drop (x ∷ xs) (suc n) k d = let e : suc (n + k) ≡ suc n + k = omega arith in get_drop xs n k d ∙ ap (λ j. get_or (x ∷ xs) j d) e
-
 drop_within : {A : Type 0} (xs : List A) (n k : ℕ) → k < length (drop n xs) → n + k < length xs
-drop_within xs zero k lt = omega (arith, lt)
-drop_within [] (suc n) k lt = absurd (omega (arith, lt))
-drop_within (x ∷ xs) (suc n) k lt = let m = drop_within xs n k lt in omega (arith, m)
+drop_within xs n k lt = omega (arith, lt, length-drop n xs)
 
 -- ---- how elements compare with the one sought
 
@@ -68,8 +62,8 @@ pub equal_first : {A : Type 0} (ord : A → Ordering) (xs : List A) (n : ℕ) �
 equal_first ord xs n rises parted i j d le lt e =
     let within : n + j < length xs = drop_within xs n j lt in
     let here : is_lt (ord (get_or xs (n + i) d)) ≡ false = parted.1 (n + i) d (omega arith) (omega (arith, le, within)) in
-    let there : is_eq (ord (get_or xs (n + j) d)) ≡ true = ap (λ z. is_eq (ord z)) (sym (get_drop xs n j d)) ∙ e in
-    ap (λ z. is_eq (ord z)) (get_drop xs n i d) ∙ equal_between (ord (get_or xs (n + i) d)) (ord (get_or xs (n + j) d)) (rises (n + i) (n + j) d (omega (arith, le)) within) here there
+    let there : is_eq (ord (get_or xs (n + j) d)) ≡ true = ap (λ z. is_eq (ord z)) (sym (get_or-drop n xs j d)) ∙ e in
+    ap (λ z. is_eq (ord z)) (get_or-drop n xs i d) ∙ equal_between (ord (get_or xs (n + i) d)) (ord (get_or xs (n + j) d)) (rises (n + i) (n + j) d (omega (arith, le)) within) here there
 
 -- equal elements form one run
 pub stretch : {A : Type 0} (ord : A → Ordering) (xs : List A) (n m : ℕ) → IsPartitionPoint (λ y. is_lt (ord y) ≡ true) (λ y. is_lt (ord y) ≡ false) xs n
@@ -118,17 +112,8 @@ below_later R key xs i j d sorted l lt =
 
 -- ---- a run, cut out
 
-pub get_take : {A : Type 0} (xs : List A) (m k : ℕ) (d : A) → k < m → get_or (take m xs) k d ≡ get_or xs k d
-get_take xs zero k d lt = absurd (omega (arith, lt))
-get_take [] (suc m) k d lt = refl
-get_take (x ∷ xs) (suc m) zero d lt = refl
-get_take (x ∷ xs) (suc m) (suc k) d lt = get_take xs m k d (omega (arith, lt))
-
 take_within : {A : Type 0} (xs : List A) (m k : ℕ) → k < length (take m xs) → (k < m) × (k < length xs)
-take_within xs zero k lt = absurd (omega (arith, lt))
-take_within [] (suc m) k lt = absurd (omega (arith, lt))
-take_within (x ∷ xs) (suc m) zero lt = (omega arith, omega arith)
-take_within (x ∷ xs) (suc m) (suc k) lt = let w = take_within xs m k (omega (arith, lt)) in (omega (arith, w.0), omega (arith, w.1))
+take_within xs m k lt = (omega (arith, lt, length-take m xs), omega (arith, lt, length-take m xs))
 
 -- a run of a list that two searches cut out
 pub record IsCut {A : Type 0} (ord : A → Ordering) (xs mine : List A) : Type 0 where
@@ -161,19 +146,14 @@ pub record StandsIn {A : Type 0} (ord : A → Ordering) (xs mine : List A) (from
 pub stands_in : {A : Type 0} (ord : A → Ordering) (xs mine : List A) (w : IsCut ord xs mine) (k : ℕ) (d : A) → k < length mine → StandsIn ord xs mine w.n k d
 stands_in ord xs mine w k d lt =
     let there = take_within (drop w.n xs) w.m k (subst (λ l. k < length l) w.is lt) in
-    let same : get_or (drop w.n xs) k d ≡ get_or xs (w.n + k) d = get_drop xs w.n k d in
+    let same : get_or (drop w.n xs) k d ≡ get_or xs (w.n + k) d = get_or-drop w.n xs k d in
     record {
       within = drop_within xs w.n k there.1;
-      same = ap (λ l. get_or l k d) w.is ∙ get_take (drop w.n xs) w.m k d there.0 ∙ same;
+      same = ap (λ l. get_or l k d) w.is ∙ get_or-take w.m (drop w.n xs) k d there.0 ∙ same;
       equal = ap (λ z. is_eq (ord z)) (sym same) ∙ w.high.0 k d (omega arith) there.0;
     }
 
 -- ---- a place
-
--- the place that a search returns, or the length
-abbrev pub place_in : ℕ → Result ℕ ℕ → ℕ
-place_in n (Ok i) = i
-place_in n (Err i) = n
 
 first_place : {A : Type 0} (p : A → Bool) (xs : List A) (n : ℕ) (d : A) → n < length xs → p (get_or xs n d) ≡ true → ((k : ℕ) → k < n → p (get_or xs k d) ≡ false) → place_of p xs ≡ n
 first_place p [] n d lt e h = absurd (omega (arith, lt))
@@ -208,7 +188,7 @@ module _ {K : Type 0} {R : K → K → Ordering} (o : IsTotalOrder R) where
 
   -- the place of the first equal element, as a binary search finds it
   pub searched : {A : Type 0} (key : A → K) (xs : List A) (q : K) (r : Result ℕ ℕ) → IsStrictlySortedBy R (map key xs) → IsSearchInRange r (length xs) → IsBinarySearchResult (λ y. R (key y) q) xs r
-      → place_of (λ y. is_eq (R (key y) q)) xs ≡ place_in (length xs) r
+      → place_of (λ y. is_eq (R (key y) q)) xs ≡ result_unwrap_or r (length xs)
   searched key xs q (Ok n) sorted lt h =
       let d = head_of xs n lt in
       first_place (λ y. is_eq (R (key y) q)) xs n d lt (ap is_eq (h d)) (λ k l. earlier key xs q n k d sorted lt (h d) l)

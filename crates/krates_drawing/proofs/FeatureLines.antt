@@ -1,5 +1,5 @@
 -- What features lead to: the crates that their references name, by number, and the edges of one feature.
-use Rattle.std.proofs.Common.{◌≡◌, ◌<◌, ◌≤◌, ℕ, suc, Bool, true, false, List, [], ◌∷◌, ◌++◌, cond, get_or, length, map, refl, sym, ap, ◌∙◌, arith}
+use Rattle.std.proofs.Common.{◌≡◌, ◌<◌, ◌≤◌, ℕ, suc, Bool, true, false, List, [], ◌∷◌, ◌++◌, cond, get_or, length, map, refl, sym, ap, ◌∙◌, arith, append_assoc}
 use Rattle.std.proofs.lemmas.List.{map-append}
 use Rattle.std.proofs.lemmas.List.Folds.{list_any_none}
 use Rattle.std.specs.List.{flat_map, list_any}
@@ -83,8 +83,4 @@ feature_drawn t h n source target meanings krate links is_source is_target same 
 
 -- one edge, and then the others
 pub after_one : {A B : Type 0} (v : A → B) (old : List A) (x : A) (pushed : List A) (rest whole : List B) → pushed ≡ old ++ x ∷ [] → v x ∷ rest ≡ whole → map v pushed ++ rest ≡ map v old ++ whole
-after_one v old x pushed rest whole one all = ap (λ l. map v l ++ rest) one ∙ ap (λ l. l ++ rest) (map-append v old (x ∷ [])) ∙ joined (map v old) (v x) rest ∙ ap (λ l. map v old ++ l) all
-  where
-    joined : {B : Type 0} (xs : List B) (y : B) (zs : List B) → (xs ++ y ∷ []) ++ zs ≡ xs ++ y ∷ zs
-    joined [] y zs = refl
-    joined (x ∷ xs) y zs = ap (λ l. x ∷ l) (joined xs y zs)
+after_one v old x pushed rest whole one all = ap (λ l. map v l ++ rest) one ∙ ap (λ l. l ++ rest) (map-append v old (x ∷ [])) ∙ append_assoc (map v old) (v x ∷ []) rest ∙ ap (λ l. map v old ++ l) all

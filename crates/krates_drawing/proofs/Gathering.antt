@@ -1,7 +1,8 @@
 -- What is gathered from a selection is its outline.
-use Rattle.std.proofs.Common.{◌≡◌, Bool, inl, inr, ℕ, zero, suc, ◌<◌, List, [], ◌∷◌, All, length, map, option_map, zip, Option, Some, None, slice_get, refl, sym, ap, ◌∙◌, subst, arith}
-use Rattle.std.proofs.lemmas.List.{length-map}
-use Rattle.std.proofs.lemmas.List.Elements.{All-contains, All-from_recursion}
+use Rattle.std.proofs.Common.{◌≡◌, Bool, inl, inr, ℕ, zero, suc, ◌<◌, List, [], ◌∷◌, All, length, map, option_map, Option, Some, None, slice_get, refl, sym, ap, ◌∙◌, subst, arith}
+use Rattle.std.proofs.lemmas.List.{get_or-map, length-map}
+use Rattle.std.proofs.lemmas.Simd.{map-map}
+use Rattle.std.proofs.lemmas.List.Elements.{All-contains}
 use Rattle.std.specs.Global.{Vec}
 use Rattle.std.specs.List.{AllZip}
 use Rattle.std.specs.List.Sorted.{IsStrictlySortedBy}
@@ -22,7 +23,7 @@ use Rattle.krates_selection.specs.SelectionOrder.{place_cmp, feature_cmp}
 use Rattle.krates_selection.specs.declared.selection.EnabledFeature.{EnabledFeature}
 use Rattle.krates_selection.specs.declared.selection.KeptEdge.{KeptEdge}
 use Rattle.krates_selection.specs.declared.selection.Selection.{Selection}
-use Rattle.krates_drawing.specs.Gathered.{AreMeant, IsEdgeWith, IsFeatureWith, count_in, declared_in, dependency_in, listed_of, values_in}
+use Rattle.krates_drawing.specs.Gathered.{AreMeant, IsEdgeWith, IsFeatureWith, declared_in, row_in, dependency_in, listed_of, values_in}
 use Rattle.krates_drawing.specs.Outline.{IsCrateRow, IsEdgeRow, IsMeaning, IsFeatureRow, IsOutline, toggle_of}
 use Rattle.krates_drawing.specs.InOrder.{AreInOrder}
 use Rattle.krates_drawing.specs.CrateRecord.{IsRecordOf, node_at, node_in, of_crate, package_at, package_in}
@@ -34,52 +35,37 @@ use Rattle.krates_drawing.specs.declared.crate_record.CrateRecord.{CrateRecord}
 use Rattle.krates_document.proofs.DeclaredOnce.{declared_stands}
 use Rattle.krates_drawing.proofs.Derivations.{child_kept, crate_of_feature, kept_stands}
 use Rattle.krates_drawing.proofs.Holding.{crate_there, edge_there, feature_there}
-use Rattle.krates_rules.proofs.Members.{Member, contains_of, member_map}
+use Rattle.krates_rules.proofs.Members.{Member, contains_of}
 use Rattle.krates_drawing.proofs.Standing.{each}
 use Rattle.krates_rules.proofs.OnlyOne.{one_package}
 
 -- ---- what is gathered
 
--- the rows of a selection, with the records of its crates and the counts of these
-pub record AreGathered (r : Resolved) (s : SettingModel) (x : Selection) (records : List CrateRecord) (ns : List ℕ) (ks : List CrateRow) (ls : List EdgeRow) (fs : List FeatureRow) : Type 0 where
+-- the rows of a selection, with the records of its crates
+pub record AreGathered (r : Resolved) (s : SettingModel) (x : Selection) (records : List CrateRecord) (ks : List CrateRow) (ls : List EdgeRow) (fs : List FeatureRow) : Type 0 where
   pub each : AllZip (IsRecordOf r) x.krates.items records
-  pub counts : ns ≡ map count_in records
-  pub krates : ks ≡ map (λ pair. record { id = pair.0; declared = pair.1 }) (zip x.krates.items ns)
+  pub krates : ks ≡ map row_in records
   pub links : AllZip (IsEdgeWith records) x.edges.items ls
   pub features : AllZip (IsFeatureWith r s.all_named records) x.features.items fs
 
 -- what each call gives about the records that it reads is about those of the selection
-pub gathered_by_reading : (r : Resolved) (s : SettingModel) (x : Selection) (records : List CrateRecord) (ns : List ℕ) (ks : List CrateRow) (ls : List EdgeRow) (fs : List FeatureRow)
-    → {kids : List Identity} {counted edges_from named_from : List CrateRecord} → kids ≡ x.krates.items → counted ≡ records → edges_from ≡ records → named_from ≡ records
-    → AllZip (IsRecordOf r) kids records → ns ≡ map count_in counted → ks ≡ map (λ pair. record { id = pair.0; declared = pair.1 }) (zip x.krates.items ns)
-    → AllZip (IsEdgeWith edges_from) x.edges.items ls → AllZip (IsFeatureWith r s.all_named named_from) x.features.items fs → AreGathered r s x records ns ks ls fs
-gathered_by_reading r s x records ns ks ls fs krates_read counted_read from_read named_read each counts krates links features = record {
-  each = subst (λ (xs : List Identity). AllZip (IsRecordOf r) xs records) krates_read each;
-  counts = counts ∙ ap (map count_in) counted_read;
+pub gathered_by_reading : (r : Resolved) (s : SettingModel) (x : Selection) (records : List CrateRecord) (ks : List CrateRow) (ls : List EdgeRow) (fs : List FeatureRow)
+    → {edges_from named_from : List CrateRecord} → edges_from ≡ records → named_from ≡ records
+    → AllZip (IsRecordOf r) x.krates.items records → ks ≡ map row_in records
+    → AllZip (IsEdgeWith edges_from) x.edges.items ls → AllZip (IsFeatureWith r s.all_named named_from) x.features.items fs → AreGathered r s x records ks ls fs
+gathered_by_reading r s x records ks ls fs from_read named_read each krates links features = record {
+  each = each;
   krates = krates;
   links = subst (λ (xs : List CrateRecord). AllZip (IsEdgeWith xs) x.edges.items ls) from_read links;
   features = subst (λ (xs : List CrateRecord). AllZip (IsFeatureWith r s.all_named xs) x.features.items fs) named_read features;
 }
-
--- the count beside a crate
-record CountRecorded (r : Resolved) (i : Identity) (n : ℕ) : Type 0 where
-  found : CrateRecord
-  is : IsRecordOf r i found
-  count : n ≡ count_in found
-
--- item by item
-counts_recorded : (r : Resolved) (kids : List Identity) (records : List CrateRecord) → AllZip (IsRecordOf r) kids records → AllZip (CountRecorded r) kids (map count_in records)
-counts_recorded r [] [] z = tt
-counts_recorded r [] (t ∷ ts) z = absurd z
-counts_recorded r (i ∷ is) [] z = absurd z
-counts_recorded r (i ∷ is) (t ∷ ts) z = (record { found = t; is = z.0; count = refl }, counts_recorded r is ts z.1)
 
 -- ---- what the document has for the crate of a number
 
 record RecordAt (r : Resolved) (kids : List Identity) (records : List CrateRecord) (n : ℕ) : Type 0 where
   here : CrateRecord
   at : slice_get records n ≡ Some here
-  krate : id_of here.krate.now ≡ id_at kids n
+  krate : id_of here.krate ≡ id_at kids n
   pkg : TellsPackage r (id_at kids n) here.pkg
   node : IsNodeOf r (id_at kids n) (option_map (λ node. node_view node.now) here.node)
 
@@ -101,10 +87,10 @@ some_node r i (Some n) h some = (n, refl, h)
 
 -- ---- one element
 
-krate_recorded : (r : Resolved) (i : Identity) (n : ℕ) → (NoPackage r (id_of i) → ⊥) → CountRecorded r i n → IsCrateRow r i (crate_row_view (record { id = i; declared = n }))
-krate_recorded r i n some w =
-    let p = some_package r (id_of i) (package_in w.found) w.is.pkg some in
-    record { id = refl; pkg = p.0; has_package = p.2; declared = w.count ∙ ap declared_in p.1 }
+krate_recorded : (r : Resolved) (i : Identity) (t : CrateRecord) → (NoPackage r (id_of i) → ⊥) → IsRecordOf r i t → IsCrateRow r i (crate_row_view (row_in t))
+krate_recorded r i t some w =
+    let p = some_package r (id_of i) (package_in t) w.pkg some in
+    record { id = ap id_of w.krate; pkg = p.0; has_package = subst (λ (k : Identity). HasPackage r (id_of k) p.0) (sym w.krate) p.2; declared = ap declared_in p.1 }
 
 -- the declared dependency of an edge stands at its place in the list of the parent's package
 at_place : (r : Resolved) (s : SettingModel) (kids : List Identity) (e : KeptEdge) (w : IsPlaced r s kids e) (p : PackageModel) → NoneDoubled r.metadata r.graph → HasPackage r (id_at kids e.parent) p
@@ -158,15 +144,7 @@ named_recorded r all kids records f n z home some h =
 
 -- ---- whole lists
 
--- what is made of the items of a list and of what is beside them
-made_zip : {A B C D : Type 0} (R : A → B → Type 0) (Q : A → D → Type 0) (make : A → B → C) (view : C → D) (xs : List A) (ys : List B) → ((x : A) (y : B) → Member xs x → R x y → Q x (view (make x y))) → AllZip R xs ys
-    → AllZip Q xs (map view (map (λ pair. make pair.0 pair.1) (zip xs ys)))
-made_zip R Q make view [] [] h z = tt
-made_zip R Q make view [] (y ∷ ys) h z = absurd z
-made_zip R Q make view (x ∷ xs) [] h z = absurd z
-made_zip R Q make view (x ∷ xs) (y ∷ ys) h z = (h x y (inl refl) z.0, made_zip R Q make view xs ys (λ a b m. h a b (inr m)) z.1)
-
--- the same where the rows are there
+-- what is related to its row in one way is related to what is seen of it in another
 seen_rows : {A B D : Type 0} (R : A → B → Type 0) (Q : A → D → Type 0) (view : B → D) (xs : List A) (ys : List B) → ((x : A) (y : B) → Member xs x → R x y → Q x (view y)) → AllZip R xs ys → AllZip Q xs (map view ys)
 seen_rows R Q view [] [] h z = tt
 seen_rows R Q view [] (y ∷ ys) h z = absurd z
@@ -192,28 +170,13 @@ has_node r s i d none = let w = kept_stands (questions r s) i d in none w.node w
 
 -- ---- the outline
 
--- the first parts of the pairs that are made are the first list
-first_parts : {A C D : Type 0} (R : A → C → Type 0) (make : A → C → D) (back : D → A) (xs : List A) (zs : List C) → ((x : A) (z : C) → back (make x z) ≡ x) → AllZip R xs zs
-    → map back (map (λ pair. make pair.0 pair.1) (zip xs zs)) ≡ xs
-first_parts R make back [] [] same h = refl
-first_parts R make back [] (z ∷ zs) same h = absurd h
-first_parts R make back (x ∷ xs) [] same h = absurd h
-first_parts R make back (x ∷ xs) (z ∷ zs) same h =
-    ap (λ y. y ∷ map back (map (λ pair. make pair.0 pair.1) (zip xs zs))) (same x z) ∙ ap (λ ys. x ∷ ys) (first_parts R make back xs zs same h.1)
-
 -- what holds under a view holds of what is seen
 all_under : {A B : Type 0} (f : A → B) (P : B → Type 0) (xs : List A) → All P (map f xs) → All (λ x. P (f x)) xs
-all_under f P xs h = All-from_recursion (λ x. P (f x)) xs (each (λ x. P (f x)) xs (λ x m. All-contains P (map f xs) (f x) h (contains_of (map f xs) (f x) (member_map f xs x m))))
+all_under f P xs h k d lt = subst P (get_or-map f xs k d (f d) lt) (h k (f d) (rw length-map lt))
 
-abbrev make_krate : Identity → ℕ → CrateRow
-make_krate i n = record { id = i; declared = n }
-
-module _ (r : Resolved) (s : SettingModel) (x : Selection) (records : List CrateRecord) (ns : List ℕ) (ks : Vec CrateRow) (ls : Vec EdgeRow) (fs : Vec FeatureRow) (h : IsSelection r s x) (w : AreGathered r s x records ns ks.items ls.items fs.items) where
-  counts : AllZip (CountRecorded r) x.krates.items ns
-  counts = subst (AllZip (CountRecorded r) x.krates.items) (sym w.counts) (counts_recorded r x.krates.items records w.each)
-
+module _ (r : Resolved) (s : SettingModel) (x : Selection) (records : List CrateRecord) (ks : Vec CrateRow) (ls : Vec EdgeRow) (fs : Vec FeatureRow) (h : IsSelection r s x) (w : AreGathered r s x records ks.items ls.items fs.items) where
   same_kids : kids_of ks.items ≡ x.krates.items
-  same_kids = ap (map (λ (k : CrateRow). k.id)) w.krates ∙ first_parts (CountRecorded r) make_krate (λ (k : CrateRow). k.id) x.krates.items ns (λ i n. refl) counts
+  same_kids = ap kids_of w.krates ∙ map-map (λ (k : CrateRow). k.id) row_in records ∙ rows_of (IsRecordOf r) (λ (t : CrateRecord). t.krate) x.krates.items records (λ i t is. is.krate) w.each
 
   same_edges : map (λ (l : EdgeRow). l.edge) ls.items ≡ x.edges.items
   same_edges = rows_of (IsEdgeWith records) (λ (l : EdgeRow). l.edge) x.edges.items ls.items (λ e l is. is.edge) w.links
@@ -225,9 +188,10 @@ module _ (r : Resolved) (s : SettingModel) (x : Selection) (records : List Crate
   as_many = sym (ap length same_kids) ∙ length-map ks.items (λ (k : CrateRow). k.id)
 
   -- the lists with what is beside them
-  krates_made : AllZip (IsCrateRow r) x.krates.items (map crate_row_view (map (λ pair. make_krate pair.0 pair.1) (zip x.krates.items ns)))
-  krates_made = made_zip (CountRecorded r) (IsCrateRow r) make_krate crate_row_view x.krates.items ns
-      (λ i n at c. krate_recorded r i n (has_package r s (id_of i) ((h.facts (crate_fact i)).1 (crate_there x i at))) c) counts
+  krates_made : AllZip (IsCrateRow r) x.krates.items (map crate_row_view ks.items)
+  krates_made = subst (AllZip (IsCrateRow r) x.krates.items) (sym (ap (map crate_row_view) w.krates ∙ map-map crate_row_view row_in records))
+      (seen_rows (IsRecordOf r) (IsCrateRow r) (λ (t : CrateRecord). crate_row_view (row_in t)) x.krates.items records
+      (λ i t at is. krate_recorded r i t (has_package r s (id_of i) ((h.facts (crate_fact i)).1 (crate_there x i at))) is) w.each)
 
   links_made : NoneDoubled r.metadata r.graph → AllZip (IsEdgeRow r s x.krates.items) x.edges.items (map (edge_row_view x.krates.items) ls.items)
   links_made none = seen_rows (IsEdgeWith records) (IsEdgeRow r s x.krates.items) (edge_row_view x.krates.items) x.edges.items ls.items
@@ -252,7 +216,7 @@ module _ (r : Resolved) (s : SettingModel) (x : Selection) (records : List Crate
     toggled = map (toggle_of (kids_of ks.items)) x.toggled.items;
   })
   gathered none = record {
-    krates = subst (λ zs. AllZip (IsCrateRow r) x.krates.items (map crate_row_view zs)) (sym w.krates) krates_made;
+    krates = krates_made;
     links = subst (λ is. AllZip (IsEdgeRow r s x.krates.items) x.edges.items (map (edge_row_view is) ls.items)) (sym same_kids) (links_made none);
     features = subst (λ is. AllZip (IsFeatureRow r s.all_named x.krates.items) x.features.items (map (feature_row_view is) fs.items)) (sym same_kids) features_made;
     toggled = ap (λ is. map (toggle_of is) x.toggled.items) same_kids;

@@ -1,5 +1,4 @@
 pub mod Agreed
-pub mod Answered
 pub mod ById
 pub mod Children
 pub mod Closed

@@ -1,6 +1,7 @@
 -- Which crate a declared dependency is mapped to, edge by edge.
 use Rattle.std.proofs.Common.{◌≡◌, ℕ, ◌+◌, ◌<◌, ◌≤◌, ◌==◌, Bool, true, false, ◌||◌, ◌&&◌, List, [], ◌∷◌, length, get_or, take, map, filter, arith, cond, Option, Some, None, option_map, slice_get, replicate, set, Greater, refl, sym, ap, ◌∙◌}
 use Rattle.std.proofs.lemmas.List.{get_or-map}
+use Rattle.std.proofs.lemmas.List.Elements.{filter_agree}
 use Rattle.std.specs.List.{range_with_len}
 use Rattle.std.specs.Ordering.{is_eq}
 use Rattle.krates_selection.specs.CrateNumbers.{id_at}
@@ -17,7 +18,7 @@ use Rattle.krates_drawing.proofs.CratePlaces.{AreInOrder, id_of_krate}
 use Rattle.krates_drawing.proofs.Entries.{all_alike, entries_changed, entries_kept, entry_changed, same_entries}
 use Rattle.krates_drawing.proofs.Joined.{either, last_joined}
 use Rattle.krates_drawing.proofs.NodeNumbers.{both}
-use Rattle.krates_drawing.proofs.Tests.{equal_self, filter_same, order_total, unequal_is}
+use Rattle.krates_drawing.proofs.Tests.{equal_self, order_total, unequal_is}
 
 seen_last : {A B : Type 0} (f : A → B) (o : Option A) (xs : List A) → option_map f (last_from o xs) ≡ last_from (option_map f o) (map f xs)
 seen_last f o [] = refl
@@ -32,8 +33,8 @@ more_step s mine i x place false e sorted within by lt is =
     let v = edge_row_view (kids_in s) in
     let now : model.CrateRow → Bool = claims (map v (take i mine)) place in
     let next : model.CrateRow → Bool = claims (map v (take (i + 1) mine)) place in
-    ap (λ l. option_map (λ (q : model.CrateRow). crate_number t q.id) (last_from None l)) (filter_same next now t.krates (λ q.
-    seen_more v (claims_at place q.id) mine i x lt is ∙ ap (λ b. now q || (is_to q.id (v x) && b)) e ∙ never (now q) (is_to q.id (v x))))
+    ap (λ l. option_map (λ (q : model.CrateRow). crate_number t q.id) (last_from None l)) (filter_agree next now (λ q.
+    seen_more v (claims_at place q.id) mine i x lt is ∙ ap (λ b. now q || (is_to q.id (v x) && b)) e ∙ never (now q) (is_to q.id (v x))) t.krates)
   where
     never : (a b : Bool) → (a || (b && false)) ≡ a
     never true b = refl
@@ -48,11 +49,11 @@ more_step s mine i x place true e sorted within by lt is =
     let equal : model.CrateRow → Bool = λ q. is_eq (id_order q.id c) in
     let low : (q : model.CrateRow) → now q ≡ true → id_order q.id c ≡ Greater → ⊥ = λ q h.
     not_above s.krates.items (claims_at place q.id) mine i x q.id sorted within by lt is (seen_as v (claims_at place q.id) mine i h) (λ l t. (both _ _ t).0) in
-    let filtered : filter next t.krates ≡ filter (either now equal) t.krates = filter_same next (either now equal) t.krates (λ q.
-    seen_more v (claims_at place q.id) mine i x lt is ∙ ap (λ b. now q || (is_to q.id (v x) && b)) e ∙ always (now q) (is_to q.id (v x)) ∙ ap (λ b. now q || b) (to_next c q)) in
+    let filtered : filter next t.krates ≡ filter (either now equal) t.krates = filter_agree next (either now equal) (λ q.
+    seen_more v (claims_at place q.id) mine i x lt is ∙ ap (λ b. now q || (is_to q.id (v x) && b)) e ∙ always (now q) (is_to q.id (v x)) ∙ ap (λ b. now q || b) (to_next c q)) t.krates in
     let last = last_joined order_total (λ (q : model.CrateRow). q.id) now c t.krates None (crates_in_order s.krates.items sorted) low in
     ap (λ l. option_map (λ (q : model.CrateRow). crate_number t q.id) (last_from None l)) filtered
-    ∙ ap (option_map (λ (q : model.CrateRow). crate_number t q.id)) (last ∙ ap (last_from (last_from None (filter now t.krates))) (filter_same equal (is_crate c) t.krates (these c)))
+    ∙ ap (option_map (λ (q : model.CrateRow). crate_number t q.id)) (last ∙ ap (last_from (last_from None (filter now t.krates))) (filter_agree equal (is_crate c) (these c) t.krates))
     ∙ seen_last (λ (q : model.CrateRow). crate_number t q.id) (last_from None (filter now t.krates)) (filter (is_crate c) t.krates)
   where
     always : (a b : Bool) → (a || (b && true)) ≡ (a || b)

@@ -1,6 +1,7 @@
 -- Documents that say the same have the same outline.
-use Rattle.std.proofs.Common.{◌≡◌, ◌↔◌, ℕ, Bool, true, false, List, [], ◌∷◌, map, filter, Contains, cond, length, unwrap_or, refl, sym, ap, ◌∙◌, subst}
+use Rattle.std.proofs.Common.{◌≡◌, ◌↔◌, ℕ, Bool, List, [], map, filter, Contains, length, unwrap_or, refl, sym, ap, ◌∙◌, subst}
 use Rattle.std.proofs.lemmas.List.Elements.{All-contains}
+use Rattle.std.proofs.lemmas.List.Elements.{filter_agree}
 use Rattle.std.specs.Cmp.Rules.{comparing}
 use Rattle.std.proofs.Common.{rules}
 use Rattle.std.specs.List.{AllZip}
@@ -32,7 +33,7 @@ use Rattle.krates_drawing.proofs.Holding.{crate_there, edge_there, feature_there
 use Rattle.krates_rules.proofs.Members.{Member, member_of, contains_of, mapped_of, member_map}
 use Rattle.krates_drawing.proofs.SaidAlike.{SaidAlike, said_alike, dependencies_same}
 use Rattle.krates_drawing.proofs.Ordered.{Respects, alike, made_same, equal_zip, itself}
-use Rattle.krates_drawing.proofs.Tests.{bools_same, filter_same}
+use Rattle.krates_drawing.proofs.Tests.{bools_same}
 
 -- ---- what is alike
 
@@ -161,7 +162,7 @@ links_same r u s w kids others a b k l same p q =
     let declared = w.declared k.edge k.place l.place p.dependency q.dependency p.declared (subst (λ e. IsDeclaredAt u s e l.place q.dependency) (sym edge) q.declared) in
     let node = subst (λ (e : Edge). HasNode u e.child q.node) (sym edge) q.has_node in
     let lists : (g : Text) → has_text p.node.features g ≡ has_text q.node.features g = λ g. listed_same p.node q.node g (w.features k.edge.child p.node q.node p.has_node node g) in
-    let given = p.given ∙ (filter_same (has_text p.node.features) (has_text q.node.features) (asked_by p.dependency) lists ∙ (ap (λ d. filter (has_text q.node.features) (asked_by d)) declared.1 ∙ sym q.given)) in
+    let given = p.given ∙ (filter_agree (has_text p.node.features) (has_text q.node.features) lists (asked_by p.dependency) ∙ (ap (λ d. filter (has_text q.node.features) (asked_by d)) declared.1 ∙ sym q.given)) in
     link_same k.edge l.edge k.place l.place k.given l.given edge declared.0 given
 
 -- ---- what references name

@@ -28,7 +28,7 @@ use Rattle.krates_drawing.proofs.Derivations.{child_kept, crate_of_feature, kept
 use Rattle.krates_drawing.proofs.Holding.{crate_there, edge_there, feature_there}
 use Rattle.krates_rules.proofs.Members.{Member, contains_of}
 use Rattle.krates_drawing.proofs.OneOutline.{listed_same}
-use Rattle.krates_drawing.proofs.Tests.{filter_same}
+use Rattle.std.proofs.lemmas.List.Elements.{filter_agree}
 use Rattle.krates_drawing.proofs.SaidAlike.{SaidAlike, said_alike, dependencies_same}
 use Rattle.krates_drawing.proofs.Standing.{each}
 use Rattle.krates_drawing.proofs.Zips.{zip_there}
@@ -181,7 +181,7 @@ link_there r u s w say kids e l kept h =
       declared = d.declared;
       node = child.node;
       has_node = child.has_node;
-      given = h.given ∙ filter_same (has_text h.node.features) (has_text child.node.features) (asked_by h.dependency) lists;
+      given = h.given ∙ filter_agree (has_text h.node.features) (has_text child.node.features) lists (asked_by h.dependency);
     }
 
 names_there : (r u : Resolved) (s : SettingModel) (i : Id) (reference : Reference) (m : Meaning) → SaidAlike r u s → Names r s.all_named i reference m → Names u s.all_named i reference m

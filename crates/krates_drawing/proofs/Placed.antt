@@ -1,7 +1,7 @@
 -- Crates and features of an outline stand under their numbers: what their mappings name and where their edges lead.
 use Rattle.std.proofs.Common.{◌≡◌, ◌⊎◌, inl, inr, ℕ, zero, suc, ◌+◌, Bool, true, false, cond, List, [], ◌∷◌, ◌++◌, map, length, Option, Some, Contains, slice_get, Ordering, Less, Equal, Greater, refl, sym, ap, ◌∙◌, subst, arith, nat_cmp}
 use Rattle.std.proofs.lemmas.Cmp.{nat_list_cmp_total}
-use Rattle.std.proofs.lemmas.Option.{none-some, same_Some}
+use Rattle.std.proofs.lemmas.Option.{get_or_from_slice_get, none-some, same_Some, slice_get-map, slice_get_within}
 use Rattle.std.specs.Cmp.Lexicographic.{slice_cmp}
 use Rattle.std.specs.List.{AllByRecursion, AllZip, range_with_len}
 use Rattle.std.specs.List.Sorted.{IsStrictlySortedBy}
@@ -134,9 +134,7 @@ record MappedAt {A B : Type 0} (f : A → B) (xs : List A) (k : ℕ) (y : B) : T
   is : f from ≡ y
 
 mapped_at : {A B : Type 0} (f : A → B) (xs : List A) (k : ℕ) (y : B) → slice_get (map f xs) k ≡ Some y → MappedAt f xs k y
-mapped_at f [] k y e = absurd (none-some y e)
-mapped_at f (x ∷ xs) zero y e = record { from = x; at = refl; is = same_Some (f x) y e }
-mapped_at f (x ∷ xs) (suc k) y e = let w = mapped_at f xs k y e in record { from = w.from; at = w.at; is = w.is }
+mapped_at f xs k y e = let w = image_of f (slice_get xs k) y (sym (slice_get-map f xs k) ∙ e) in record { from = w.0; at = w.1; is = w.2 }
 
 either_at : {A B C : Type 0} (f : A → C) (g : B → C) (xs : List A) (ys : List B) (k : ℕ) (z : C) → slice_get (map f xs ++ map g ys) k ≡ Some z
     → MappedAt f xs k z ⊎ ((j : ℕ) × (length xs + j ≡ k) × MappedAt g ys j z)
@@ -154,9 +152,7 @@ node_at t p s e = elim (either_at (planned_crate t) (planned_feature t) t.krates
 ]
 
 got_member : {A : Type 0} (xs : List A) (k : ℕ) (x : A) → slice_get xs k ≡ Some x → Member xs x
-got_member [] k x e = absurd (none-some x e)
-got_member (y ∷ ys) zero x e = inl (same_Some y x e)
-got_member (y ∷ ys) (suc k) x e = inr (got_member ys k x e)
+got_member xs k x e = member_of xs x (k, slice_get_within xs k x e, get_or_from_slice_get xs k x x e)
 
 -- ---- all of it
 

@@ -1,6 +1,7 @@
 -- Tests and orders of ids and features.
 use Rattle.std.proofs.Common.{◌≡◌, ◌&&◌, ◌||◌, ◌==◌, Bool, true, false, not, ℕ, suc, ◌+◌, ◌≤◌, List, [], ◌∷◌, All, get_or, length, map, filter, cond, Ordering, Less, Equal, Greater, rules, refl, sym, ap, ◌∙◌, subst, arith}
 use Rattle.std.proofs.lemmas.Cmp.{nat_cmp_total, ranked}
+use Rattle.std.proofs.lemmas.List.Elements.{All-head, All-tail, filter_agree}
 use Rattle.std.proofs.lemmas.Map.Text.{is_eq-slice_cmp}
 use Rattle.std.specs.Cmp.{IsTotalOrder, unsigned_ties}
 use Rattle.std.specs.Cmp.Lexicographic.{slice_cmp}
@@ -9,6 +10,7 @@ use Rattle.std.specs.Ordering.{is_eq, nat_cmp, ordering_index, ordering_reverse,
 use Rattle.std.specs.List.{AllByRecursion, list_any}
 use Rattle.std.specs.List.Sorted.{IsNonDecreasingBy, IsStrictlySortedBy}
 use Rattle.std.specs.Str.{bytes_eq}
+use mathlib.Core.List.{map-id}
 use Rattle.krates_cm.specs.Document.{Text, text_view}
 use Rattle.krates_ids.specs.Identity.{Identity, id_cmp}
 use Rattle.krates_selection.specs.SelectionOrder.{feature_cmp, place_cmp, toggled_cmp}
@@ -72,19 +74,13 @@ bools_same false false f g = refl
 
 -- ---- tests of what is seen
 
-head : {A : Type 0} (P : A → Type 0) (x : A) (xs : List A) → All P (x ∷ xs) → P x
-head P x xs all = all 0 x (omega arith)
-
-tail : {A : Type 0} (P : A → Type 0) (x : A) (xs : List A) → All P (x ∷ xs) → All P xs
-tail P x xs all k d lt = all (suc k) d (omega (arith, lt))
-
 step_place : (b c : Bool) (m n : ℕ) → b ≡ c → m ≡ n → cond b 0 (suc m) ≡ cond c 0 (suc n)
 step_place b c m n e f = ap (λ x. cond x 0 (suc m)) e ∙ ap (λ k. cond c 0 (suc k)) f
 
 -- the place among what is seen is the place among all
 pub place_seen : {A B : Type 0} (P : A → Type 0) (v : A → B) (p : B → Bool) (q : A → Bool) (xs : List A) → All P xs → ((x : A) → P x → q x ≡ p (v x)) → place_of p (map v xs) ≡ place_of q xs
 place_seen P v p q [] all same = refl
-place_seen P v p q (x ∷ xs) all same = step_place (p (v x)) (q x) (place_of p (map v xs)) (place_of q xs) (sym (same x (head P x xs all))) (place_seen P v p q xs (tail P x xs all) same)
+place_seen P v p q (x ∷ xs) all same = step_place (p (v x)) (q x) (place_of p (map v xs)) (place_of q xs) (sym (same x (All-head P x xs all))) (place_seen P v p q xs (All-tail P x xs all) same)
 
 step_filter : {A B : Type 0} (v : A → B) (b c : Bool) (x : A) (ys : List B) (xs : List A) → b ≡ c → ys ≡ map v xs → cond b (v x ∷ ys) ys ≡ map v (cond c (x ∷ xs) xs)
 step_filter v true true x ys xs e f = ap (λ zs. v x ∷ zs) f
@@ -95,7 +91,7 @@ step_filter v false false x ys xs e f = f
 -- what is left of what is seen is what is seen of what is left
 pub filter_seen : {A B : Type 0} (P : A → Type 0) (v : A → B) (p : B → Bool) (q : A → Bool) (xs : List A) → All P xs → ((x : A) → P x → q x ≡ p (v x)) → filter p (map v xs) ≡ map v (filter q xs)
 filter_seen P v p q [] all same = refl
-filter_seen P v p q (x ∷ xs) all same = step_filter v (p (v x)) (q x) x (filter p (map v xs)) (filter q xs) (sym (same x (head P x xs all))) (filter_seen P v p q xs (tail P x xs all) same)
+filter_seen P v p q (x ∷ xs) all same = step_filter v (p (v x)) (q x) x (filter p (map v xs)) (filter q xs) (sym (same x (All-head P x xs all))) (filter_seen P v p q xs (All-tail P x xs all) same)
 
 any_step : (a b c d : Bool) → a ≡ b → c ≡ d → (a || c) ≡ (b || d)
 any_step a b c d e f = ap (λ z. z || c) e ∙ ap (λ z. b || z) f
@@ -103,15 +99,7 @@ any_step a b c d e f = ap (λ z. z || c) e ∙ ap (λ z. b || z) f
 -- something that is seen passes where something does
 pub any_seen : {A B : Type 0} (P : A → Type 0) (v : A → B) (p : B → Bool) (q : A → Bool) (xs : List A) → All P xs → ((x : A) → P x → q x ≡ p (v x)) → list_any p (map v xs) ≡ list_any q xs
 any_seen P v p q [] all same = refl
-any_seen P v p q (x ∷ xs) all same = any_step (p (v x)) (q x) (list_any p (map v xs)) (list_any q xs) (sym (same x (head P x xs all))) (any_seen P v p q xs (tail P x xs all) same)
-
-same_step : {A : Type 0} (b c : Bool) (x : A) (ys zs : List A) → b ≡ c → ys ≡ zs → cond b (x ∷ ys) ys ≡ cond c (x ∷ zs) zs
-same_step b c x ys zs e f = ap (λ d. cond d (x ∷ ys) ys) e ∙ ap (λ l. cond c (x ∷ l) l) f
-
--- tests that agree leave the same
-pub filter_same : {A : Type 0} (p q : A → Bool) (xs : List A) → ((x : A) → p x ≡ q x) → filter p xs ≡ filter q xs
-filter_same p q [] h = refl
-filter_same p q (x ∷ xs) h = same_step (p x) (q x) x (filter p xs) (filter q xs) (h x) (filter_same p q xs h)
+any_seen P v p q (x ∷ xs) all same = any_step (p (v x)) (q x) (list_any p (map v xs)) (list_any q xs) (sym (same x (All-head P x xs all))) (any_seen P v p q xs (All-tail P x xs all) same)
 
 -- ---- orders
 
@@ -181,14 +169,10 @@ links_by_parent xs p sorted = rises_weakly nat_cmp_total (λ (l : EdgeRow). l.ed
 pub links_by_child : (mine : List EdgeRow) (q : ℕ) → AreByChild mine → IsNonDecreasingBy (λ (l : EdgeRow). ordering_index (nat_cmp l.edge.child q)) mine
 links_by_child mine q by = rises_weakly nat_cmp_total (λ (l : EdgeRow). l.edge.child) mine q (λ i j d l lt. not_high _ _ (by i j d l lt) _ refl)
 
-itself : {A : Type 0} (xs : List A) → map (λ x. x) xs ≡ xs
-itself [] = refl
-itself (x ∷ xs) = ap (λ ys. x ∷ ys) (itself xs)
-
 -- toggled features in order rise by the crate that toggles them
 pub toggled_by_crate : (xs : List ToggledFeature) (p : ℕ) → IsStrictlySortedBy toggled_cmp xs → IsNonDecreasingBy (λ (t : ToggledFeature). ordering_index (nat_cmp t.by p)) xs
 toggled_by_crate xs p sorted =
-    rises_weakly nat_cmp_total (λ (t : ToggledFeature). t.by) xs p (λ i j d l lt. first_low _ _ (below_later toggled_cmp (λ (t : ToggledFeature). t) xs i j d (subst (IsStrictlySortedBy toggled_cmp) (sym (itself xs)) sorted) l lt))
+    rises_weakly nat_cmp_total (λ (t : ToggledFeature). t.by) xs p (λ i j d l lt. first_low _ _ (below_later toggled_cmp (λ (t : ToggledFeature). t) xs i j d (subst (IsStrictlySortedBy toggled_cmp) (sym (map-id xs)) sorted) l lt))
 
 -- those of one crate rise by the crate whose they are
 pub toggled_by_krate : (mine : List ToggledFeature) (q : ℕ) → AreByKrate mine → IsNonDecreasingBy (λ (t : ToggledFeature). ordering_index (nat_cmp t.krate q)) mine
@@ -213,7 +197,7 @@ cut_by_krate xs mine p sorted w i j d l lt =
     let there = stands_in ord xs mine w j d lt in
     let a = get_or xs (w.n + i) d in
     let b = get_or xs (w.n + j) d in
-    let less : toggled_cmp a b ≡ Less = below_later toggled_cmp (λ (t : ToggledFeature). t) xs (w.n + i) (w.n + j) d (subst (IsStrictlySortedBy toggled_cmp) (sym (itself xs)) sorted) (omega (arith, l)) there.within in
+    let less : toggled_cmp a b ≡ Less = below_later toggled_cmp (λ (t : ToggledFeature). t) xs (w.n + i) (w.n + j) d (subst (IsStrictlySortedBy toggled_cmp) (sym (map-id xs)) sorted) (omega (arith, l)) there.within in
     let same : nat_cmp a.by b.by ≡ Equal = equal_both a.by b.by p here.equal there.equal in
     let low : a.krate ≤ b.krate = low_of a.krate b.krate (nat_cmp a.krate b.krate) refl (second_low (nat_cmp a.by b.by) (nat_cmp a.krate b.krate) (slice_cmp nat_cmp (text_view a.name) (text_view b.name)) same less) in
     subst (λ (z : ToggledFeature). z.krate ≤ (get_or mine j d).krate) (sym here.same) (subst (λ (z : ToggledFeature). a.krate ≤ z.krate) (sym there.same) low)
@@ -242,16 +226,16 @@ abbrev pub has_by : ℕ → ToggledFeature → Bool
 has_by by t = t.by == by
 
 pub cut_parent : (xs mine : List EdgeRow) (p : ℕ) → IsCut (λ (l : EdgeRow). nat_cmp l.edge.parent p) xs mine → mine ≡ filter (has_parent p) xs
-cut_parent xs mine p w = cut_is (λ (l : EdgeRow). nat_cmp l.edge.parent p) xs mine w ∙ filter_same (λ (l : EdgeRow). is_eq (nat_cmp l.edge.parent p)) (has_parent p) xs (λ l. sym (unsigned_ties l.edge.parent p))
+cut_parent xs mine p w = cut_is (λ (l : EdgeRow). nat_cmp l.edge.parent p) xs mine w ∙ filter_agree (λ (l : EdgeRow). is_eq (nat_cmp l.edge.parent p)) (has_parent p) (λ l. sym (unsigned_ties l.edge.parent p)) xs
 
 pub cut_child : (xs mine : List EdgeRow) (q : ℕ) → IsCut (λ (l : EdgeRow). nat_cmp l.edge.child q) xs mine → mine ≡ filter (has_child q) xs
-cut_child xs mine q w = cut_is (λ (l : EdgeRow). nat_cmp l.edge.child q) xs mine w ∙ filter_same (λ (l : EdgeRow). is_eq (nat_cmp l.edge.child q)) (has_child q) xs (λ l. sym (unsigned_ties l.edge.child q))
+cut_child xs mine q w = cut_is (λ (l : EdgeRow). nat_cmp l.edge.child q) xs mine w ∙ filter_agree (λ (l : EdgeRow). is_eq (nat_cmp l.edge.child q)) (has_child q) (λ l. sym (unsigned_ties l.edge.child q)) xs
 
 pub cut_by : (xs mine : List ToggledFeature) (p : ℕ) → IsCut (λ (t : ToggledFeature). nat_cmp t.by p) xs mine → mine ≡ filter (has_by p) xs
-cut_by xs mine p w = cut_is (λ (t : ToggledFeature). nat_cmp t.by p) xs mine w ∙ filter_same (λ (t : ToggledFeature). is_eq (nat_cmp t.by p)) (has_by p) xs (λ t. sym (unsigned_ties t.by p))
+cut_by xs mine p w = cut_is (λ (t : ToggledFeature). nat_cmp t.by p) xs mine w ∙ filter_agree (λ (t : ToggledFeature). is_eq (nat_cmp t.by p)) (has_by p) (λ t. sym (unsigned_ties t.by p)) xs
 
 pub cut_krate : (xs mine : List ToggledFeature) (q : ℕ) → IsCut (λ (t : ToggledFeature). nat_cmp t.krate q) xs mine → mine ≡ filter (has_krate q) xs
-cut_krate xs mine q w = cut_is (λ (t : ToggledFeature). nat_cmp t.krate q) xs mine w ∙ filter_same (λ (t : ToggledFeature). is_eq (nat_cmp t.krate q)) (has_krate q) xs (λ t. sym (unsigned_ties t.krate q))
+cut_krate xs mine q w = cut_is (λ (t : ToggledFeature). nat_cmp t.krate q) xs mine w ∙ filter_agree (λ (t : ToggledFeature). is_eq (nat_cmp t.krate q)) (has_krate q) (λ t. sym (unsigned_ties t.krate q)) xs
 
 -- ---- a filter of a filter
 

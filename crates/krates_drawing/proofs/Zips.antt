@@ -1,31 +1,24 @@
 -- Two lists, element by element.
-use Rattle.std.proofs.Common.{◌≡◌, ℕ, ◌<◌, ◌+◌, List, [], ◌∷◌, ◌++◌, All, length, get_or, map, take, refl, sym, ap, subst, ◌∙◌, inl, inr}
-use Rattle.std.proofs.lemmas.List.Elements.{All-contains}
+use Rattle.std.proofs.Common.{◌≡◌, ℕ, ◌<◌, List, [], ◌∷◌, All, None, Option, length, get_or, map, refl, sym, ◌∙◌, inl, inr, ap, subst}
+use Rattle.std.proofs.IntoIterSteps.{takes, taken}
+use Rattle.std.proofs.lemmas.Iterator.{YieldsList}
+use Rattle.std.proofs.lemmas.Iterator.Consumers.{YieldsList-end}
+use Rattle.std.proofs.lemmas.List.{get_or-map, length-map}
+use Rattle.std.specs.Iterator.{Yields}
 use Rattle.std.specs.List.{AllZip}
-use Rattle.std.proofs.lemmas.List.{map_more, take_more}
-use Rattle.krates_rules.proofs.Members.{Member, member_of, contains_of, member_map}
+use Rattle.std.specs.declared.vec.IntoIter.{IntoIter}
+use mathlib.Core.List.{map-id}
+use Rattle.krates_rules.proofs.Members.{Member}
 
-pub AllZip-push : {A B : Type 0} (R : A → B → Type 0) (xs : List A) (ys : List B) (x : A) (y : B) → AllZip R xs ys → R x y → AllZip R (xs ++ x ∷ []) (ys ++ y ∷ [])
-AllZip-push R [] [] x y h r = (r, tt)
-AllZip-push R [] (b ∷ ys) x y h r = absurd h
-AllZip-push R (a ∷ xs) [] x y h r = absurd h
-AllZip-push R (a ∷ xs) (b ∷ ys) x y h r = (h.0, AllZip-push R xs ys x y h.1 r)
-
--- one more element of a list that a loop walks
-pub zip_more : {A B C : Type 0} (v : A → B) (R : B → C → Type 0) (xs : List A) (i : ℕ) (x : A) (ys zs : List C) (y : C) → i < length xs → x ≡ get_or xs i x → AllZip R (map v (take i xs)) ys → R (v x) y → zs ≡ ys ++ y ∷ [] → AllZip R (map v (take (i + 1) xs)) zs
-zip_more v R xs i x ys zs y lt e h r w =
-    let m : map v (take (i + 1) xs) ≡ map v (take i xs) ++ v x ∷ [] = map_more v xs i x lt ∙ ap (λ a. map v (take i xs) ++ v a ∷ []) (sym e) in
-    subst (λ l. AllZip R l zs) (sym m) (subst (AllZip R (map v (take i xs) ++ v x ∷ [])) (sym w) (AllZip-push R (map v (take i xs)) ys (v x) y h r))
+-- a loop that has taken all items of an owned list has yielded the list
+pub all_taken : {X A : Type 0} (start last rest : IntoIter X A) (yielded : List X) (next : Option X) → Yields takes start yielded last → next ≡ None → takes last next rest → yielded ≡ start.rest.items
+all_taken {X} start last rest yielded next so_far none ends =
+    let road : YieldsList takes (λ (x : X). x) start start.rest.items = record { runs = taken start } in
+    sym (map-id yielded) ∙ (YieldsList-end road yielded last so_far next rest none ends).0
 
 -- what holds of each view holds of the element that a loop has reached
 pub seen_at : {A B : Type 0} (P : B → Type 0) (v : A → B) (xs : List A) (i : ℕ) (x : A) → All P (map v xs) → i < length xs → x ≡ get_or xs i x → P (v x)
-seen_at P v xs i x all lt e = All-contains P (map v xs) (v x) all (contains_of (map v xs) (v x) (member_map v xs x (member_of xs x (i, lt, sym e))))
-
--- the same, without a view
-pub zip_next : {A C : Type 0} (R : A → C → Type 0) (xs : List A) (i : ℕ) (x : A) (ys zs : List C) (y : C) → i < length xs → x ≡ get_or xs i x → AllZip R (take i xs) ys → R x y → zs ≡ ys ++ y ∷ [] → AllZip R (take (i + 1) xs) zs
-zip_next R xs i x ys zs y lt e h r w =
-    let m : take (i + 1) xs ≡ take i xs ++ x ∷ [] = take_more xs i x lt ∙ ap (λ a. take i xs ++ a ∷ []) (sym e) in
-    subst (λ l. AllZip R l zs) (sym m) (subst (AllZip R (take i xs ++ x ∷ [])) (sym w) (AllZip-push R (take i xs) ys x y h r))
+seen_at P v xs i x all lt e = subst P (get_or-map v xs i x (v x) lt ∙ ap v (sym e)) (all i (v x) (rw length-map lt))
 
 -- related elements of two lists are related in another way too
 pub zip_there : {A B : Type 0} (R Q : A → B → Type 0) (xs : List A) (ys : List B) → ((x : A) → Member xs x → (y : B) → R x y → Q x y) → AllZip R xs ys → AllZip Q xs ys

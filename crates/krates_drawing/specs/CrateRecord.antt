@@ -9,7 +9,7 @@ use Rattle.krates_drawing.specs.declared.crate_record.CrateRecord.{CrateRecord}
 
 -- it is this crate, with the package and the node that the document has for it
 pub record IsRecordOf (r : Resolved) (i : Identity) (t : CrateRecord) : Type 0 where
-  pub krate : t.krate.now ≡ i
+  pub krate : t.krate ≡ i
   pub pkg : TellsPackage r (id_of i) t.pkg
   pub node : IsNodeOf r (id_of i) (option_map (λ node. node_view node.now) t.node)
 

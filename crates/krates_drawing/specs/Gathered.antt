@@ -11,6 +11,7 @@ use Rattle.krates_text.specs.Texts.{has_text}
 use Rattle.krates_drawing.specs.CrateRecord.{node_at, package_at, package_in}
 use Rattle.krates_drawing.specs.Views.{meaning_view}
 use Rattle.krates_drawing.specs.declared.crate_record.CrateRecord.{CrateRecord}
+use Rattle.krates_drawing.specs.declared.outline.CrateRow.{CrateRow}
 use Rattle.krates_drawing.specs.declared.outline.EdgeRow.{EdgeRow}
 use Rattle.krates_drawing.specs.declared.outline.FeatureRow.{FeatureRow}
 
@@ -21,6 +22,10 @@ declared_in (Some pkg) = length pkg.dependencies
 
 abbrev pub count_in : CrateRecord → ℕ
 count_in t = declared_in (package_in t)
+
+-- the crate, with how many dependencies its package declares
+abbrev pub row_in : CrateRecord → CrateRow
+row_in t = record { id = t.krate; declared = count_in t }
 
 -- the declared dependency at a place; none where there is no package
 abbrev pub dependency_in : Option PackageModel → ℕ → Option DependencyModel
@@ -44,7 +49,7 @@ values_in (Some pkg) name = values_of pkg.features name
 -- what the references of a feature of this name mean for a crate; nothing where there is no such crate
 abbrev pub AreMeant : Resolved → Bool → Option CrateRecord → Text → List Meaning → Type 0
 AreMeant r all None name meanings = meanings ≡ []
-AreMeant r all (Some t) name meanings = AllZip (IsMeaning r all (id_of t.krate.now)) (values_in (package_in t) name) meanings
+AreMeant r all (Some t) name meanings = AllZip (IsMeaning r all (id_of t.krate)) (values_in (package_in t) name) meanings
 
 abbrev pub MeaningsRecorded : Resolved → Bool → List CrateRecord → EnabledFeature → List Meaning → Type 0
 MeaningsRecorded r all records f meanings = AreMeant r all (slice_get records f.krate) (text_view f.name) meanings

@@ -11,10 +11,10 @@ use krates_questions::Document;
 use std::alloc::{AllocError, Global};
 
 /// A kept crate, with what the document has for it.
-#[derive(Clone, Copy)]
-pub struct CrateRecord<'k, 'a> {
+#[derive(Drop)]
+pub struct CrateRecord<'a> {
     /// The crate.
-    pub krate: &'k Kid,
+    pub krate: Kid,
     /// Its package; none where the document has none.
     pub pkg: Option<&'a Package>,
     /// Its node; none where the graph has none.
@@ -24,25 +24,25 @@ pub struct CrateRecord<'k, 'a> {
 /// These crates, each with what the document has for it. The only error is running out of memory.
 ///
 /// Time: O(k log n) for k crates, and n in the document.
-pub fn records_of<'k, 'a>(
+pub fn records_of<'a>(
     alloc: Global,
     document: &Document<'a>,
-    krates: &'k [Kid],
-) -> Result<Vec<CrateRecord<'k, 'a>>, AllocError>
+    krates: Vec<Kid>,
+) -> Result<Vec<CrateRecord<'a>>, AllocError>
     ensures { IfOk result
-        (λ records. AllZip (IsRecordOf (resolved_view document.now)) krates.now records.items) }
+        (λ records. AllZip (IsRecordOf (resolved_view document.now)) krates.items records.items) }
 {
     let mut records = Vec::with_capacity(alloc, krates.len())?;
     for krate in krates {
-        let pkg = document.package_of(krate);
-        let node = document.node_of(krate);
+        let pkg = document.package_of(&krate);
+        let node = document.node_of(&krate);
         records.push(CrateRecord { krate, pkg, node })?;
     }
     Ok(records)
 }
 
 /// The package of the crate of a number.
-pub(crate) fn package_at<'a>(records: &[CrateRecord<'_, 'a>], number: usize) -> Option<&'a Package>
+pub(crate) fn package_at<'a>(records: &[CrateRecord<'a>], number: usize) -> Option<&'a Package>
     ensures { option_map (λ pkg. package_view pkg.now) result ≡ package_recorded records.now number }
 {
     match records.get(number) {
@@ -52,7 +52,7 @@ pub(crate) fn package_at<'a>(records: &[CrateRecord<'_, 'a>], number: usize) -> 
 }
 
 /// The node of the crate of a number.
-pub(crate) fn node_at<'a>(records: &[CrateRecord<'_, 'a>], number: usize) -> Option<&'a Node>
+pub(crate) fn node_at<'a>(records: &[CrateRecord<'a>], number: usize) -> Option<&'a Node>
     ensures { option_map (λ node. node_view node.now) result ≡ node_recorded records.now number }
 {
     match records.get(number) {

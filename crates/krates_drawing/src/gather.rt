@@ -1,12 +1,12 @@
 //! The outline of a selection, gathered: beside what it keeps, what the document says.
 
-ghost use Rattle.std.specs.Prelude.{◌≡◌, Some, map, length, slice_get, option_map, zip, IfOk};
+ghost use Rattle.std.specs.Prelude.{◌≡◌, Some, map, length, slice_get, option_map, IfOk};
 ghost use Rattle.std.specs.List.{AllZip};
 ghost use Rattle.krates_cm.specs.Document.{dependency_view, package_view, text_view};
 ghost use Rattle.krates_questions.specs.Lookup.{IsLookup, resolved_view};
 ghost use Rattle.krates_selection.specs.Selection.{IsSelection};
 ghost use Rattle.krates_drawing.specs.Outline.{IsOutline};
-ghost use Rattle.krates_drawing.specs.Gathered.{IsEdgeWith, IsFeatureWith, MeaningsRecorded, count_in, dependency_in, given_in, values_in};
+ghost use Rattle.krates_drawing.specs.Gathered.{IsEdgeWith, IsFeatureWith, MeaningsRecorded, count_in, dependency_in, given_in, row_in, values_in};
 ghost use Rattle.krates_drawing.specs.CrateRecord.{package_at as package_recorded};
 ghost use Rattle.krates_drawing.specs.Views.{meaning_view, outline_view};
 
@@ -15,7 +15,6 @@ use crate::meanings::{given_of, meanings_of};
 use crate::outline::{CrateRow, EdgeRow, FeatureRow, Meaning, Outline};
 use krates_cm::{Dependency, Package};
 use krates_document::Setting;
-use krates_ids::Kid;
 use krates_questions::Document;
 use krates_selection::{EnabledFeature, KeptEdge, Selection};
 use std::alloc::{AllocError, Global};
@@ -23,7 +22,7 @@ use std::alloc::{AllocError, Global};
 /// How many dependencies the package of a crate declares; none where it has no package.
 ///
 /// Time: O(1).
-pub fn count_of(krate: &CrateRecord<'_, '_>) -> usize
+pub fn count_of(krate: &CrateRecord<'_>) -> usize
     ensures { result ≡ count_in krate.now }
 {
     match krate.pkg {
@@ -38,7 +37,7 @@ pub fn count_of(krate: &CrateRecord<'_, '_>) -> usize
 /// Time: O((a + f) log f) for a features that are asked for, and f that the node lists.
 pub fn given_by(
     alloc: Global,
-    records: &[CrateRecord<'_, '_>],
+    records: &[CrateRecord<'_>],
     edge: &KeptEdge,
 ) -> Result<Vec<String>, AllocError>
     ensures { IfOk result (λ given. map text_view given.items ≡ given_in records.now edge.now) }
@@ -53,7 +52,7 @@ pub fn given_by(
 }
 
 /// The declared dependency of an edge.
-fn dependency_of<'a>(records: &[CrateRecord<'_, 'a>], edge: &KeptEdge) -> Option<&'a Dependency>
+fn dependency_of<'a>(records: &[CrateRecord<'a>], edge: &KeptEdge) -> Option<&'a Dependency>
     ensures { option_map (λ d. dependency_view d.now) result ≡ dependency_in (package_recorded records.now
         edge.now.parent) edge.now.declared }
 {
@@ -80,7 +79,7 @@ pub fn meanings_by<'a>(
     alloc: Global,
     document: &Document<'a>,
     setting: &Setting,
-    records: &[CrateRecord<'_, 'a>],
+    records: &[CrateRecord<'a>],
     feature: &EnabledFeature,
 ) -> Result<Vec<Meaning>, AllocError>
     ensures { let all = setting.now.all_named in
@@ -95,28 +94,17 @@ pub fn meanings_by<'a>(
             alloc,
             document,
             setting,
-            krate.krate,
+            &krate.krate,
             values_of(pkg, feature.name.as_str()),
         ),
         None => Ok(Vec::new(alloc)),
     }
 }
 
-/// How many dependencies the packages of the crates declare.
-fn counts_of(alloc: Global, records: &[CrateRecord<'_, '_>]) -> Result<Vec<usize>, AllocError>
-    ensures { IfOk result (λ counts. counts.items ≡ map count_in records.now) }
-{
-    let mut counts = Vec::with_capacity(alloc, records.len())?;
-    for krate in records {
-        counts.push(count_of(krate))?;
-    }
-    Ok(counts)
-}
-
 /// The edges, each with the features that it gives.
 fn edge_rows(
     alloc: Global,
-    records: &[CrateRecord<'_, '_>],
+    records: &[CrateRecord<'_>],
     edges: Vec<KeptEdge>,
 ) -> Result<Vec<EdgeRow>, AllocError>
     ensures { IfOk result (λ rows. AllZip (IsEdgeWith records.now) edges.items rows.items) }
@@ -134,7 +122,7 @@ fn feature_rows<'a>(
     alloc: Global,
     document: &Document<'a>,
     setting: &Setting,
-    records: &[CrateRecord<'_, 'a>],
+    records: &[CrateRecord<'a>],
     features: Vec<EnabledFeature>,
 ) -> Result<Vec<FeatureRow>, AllocError>
     ensures { let all = setting.now.all_named in
@@ -149,19 +137,16 @@ fn feature_rows<'a>(
     Ok(rows)
 }
 
-/// Each crate with the number at its place.
-fn krates_with(
-    alloc: Global,
-    krates: Vec<Kid>,
-    counts: Vec<usize>,
-) -> Result<Vec<CrateRow>, AllocError>
-    ensures { IfOk result (λ v. v.items ≡ map (λ pair. record { id = pair.0; declared = pair.1 })
-        (zip krates.items counts.items)) }
+/// The crates, each with how many dependencies its package declares.
+fn crate_rows(alloc: Global, records: Vec<CrateRecord<'_>>) -> Result<Vec<CrateRow>, AllocError>
+    ensures { IfOk result (λ rows. rows.items ≡ map row_in records.entry.items) }
 {
-    krates
+    records
         .into_iter()
-        .zip(counts)
-        .map(|(id, declared)| CrateRow { id, declared })
+        .map(|record| CrateRow {
+            declared: count_of(&record),
+            id: record.krate,
+        })
         .collect(alloc)
 }
 
@@ -189,12 +174,10 @@ pub fn outline_of<'a>(
     } = selection;
     // what is made next takes their room
     drop(steps);
-    let records = records_of(alloc, document, &krates)?;
-    let counts = counts_of(alloc, &records)?;
+    let records = records_of(alloc, document, krates)?;
     let links = edge_rows(alloc, &records, edges)?;
     let features = feature_rows(alloc, document, setting, &records, features)?;
-    drop(records);
-    let krates = krates_with(alloc, krates, counts)?;
+    let krates = crate_rows(alloc, records)?;
     Ok(Outline {
         krates,
         links,

@@ -19,7 +19,7 @@ pub mod limits;
 mod meanings;
 pub mod node;
 pub mod nodes;
-mod numbers;
+pub mod numbers;
 pub mod outline;
 pub mod plan;
 pub mod store;

@@ -1,14 +1,13 @@
 //! A selection's graph, drawn within limits to the numbers of its nodes and edges.
-ghost use Rattle.std.specs.Prelude.{◌≡◌, ◌<◌, ◌≤◌, IfErr, IfOk, length, map};
-ghost use Rattle.std.specs.Bool.{MatchBool};
-ghost use Rattle.krates_drawing.specs.Drawing.{planned_edges, planned_nodes};
+ghost use Rattle.std.specs.Prelude.{◌≡◌, IfErr, IfOk, map};
+ghost use Rattle.krates_drawing.specs.Drawing.{planned_edges};
 ghost use Rattle.krates_drawing.specs.Limits.{DrawingRefusal, IsWithin};
 ghost use Rattle.krates_drawing.specs.Views.{ArePlannedNodes, planned_edge_view, outline_view};
 
 use crate::edge::PlannedEdge;
-use crate::nodes::{PlannedNodes, plan_nodes};
+use crate::nodes::PlannedNodes;
+use crate::numbers::NumberedOutline;
 use crate::outline::Outline;
-use crate::plan::plan;
 use krates_ids::Error;
 use std::alloc::Global;
 
@@ -30,16 +29,6 @@ pub struct Plan {
     pub planned_edges: Vec<PlannedEdge>,
 }
 
-/// Whether there may be so many nodes as an outline has.
-fn has_room(outline: &Outline, nodes: u32) -> bool
-    ensures { MatchBool result (length (planned_nodes (outline_view outline.now)) ≤ nodes)
-        (nodes < length (planned_nodes (outline_view outline.now))) }
-{
-    let krates = outline.krates.len();
-    let most = nodes as usize;
-    krates <= most && outline.features.len() <= most - krates
-}
-
 /// Draws the nodes and the edges of an outline. It is refused as `TooMany` exactly where there are more nodes or more edges than the
 /// limits allow; the nodes are counted before they are drawn, and the edges as they are planned. It may instead return
 /// `Memory`.
@@ -52,11 +41,11 @@ pub fn plan_within(alloc: Global, outline: &Outline, limits: Limits) -> Result<P
     ensures within { IfOk result (λ _. IsWithin limits (outline_view outline.now)) }
     ensures refused { IfErr result (DrawingRefusal limits (outline_view outline.now)) }
 {
-    if !has_room(outline, limits.nodes) {
+    let Some(numbered) = NumberedOutline::of(outline, limits.nodes) else {
         return Err(Error::TooMany);
-    }
-    let planned_nodes = plan_nodes(alloc, outline)?;
-    let planned_edges = plan(alloc, outline)?;
+    };
+    let planned_nodes = numbered.plan_nodes(alloc)?;
+    let planned_edges = numbered.plan(alloc)?;
     if planned_edges.len() > limits.edges as usize {
         return Err(Error::TooMany);
     }

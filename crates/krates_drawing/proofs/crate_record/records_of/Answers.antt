@@ -1,10 +1,19 @@
-use Rattle.std.proofs.Common.{refl}
+use Rattle.std.proofs.Common.{◌∙◌, refl, subst}
+use Rattle.std.specs.List.{AllZip}
 use Rattle.krates_questions.specs.Lookup.{resolved_view}
+use Rattle.krates_rules.proofs.Zips.{zip_push}
 use Rattle.krates_drawing.specs.CrateRecord.{IsRecordOf}
-use Rattle.krates_drawing.proofs.Zips.{zip_next}
+use Rattle.krates_drawing.proofs.Zips.{all_taken}
 use Rattle.krates_drawing.proofs.crate_record.records_of.Goals as goal
 
 pub loop-krate-preserved : goal.loop-krate-preserved
 loop-krate-preserved c =
-    zip_next (IsRecordOf (resolved_view c.args.document.now)) c.args.krates.now c.loop-krate.krate-index c.krate-item.result c.loop-krate.records.items c.push.new.self.items _
-    c.loop-krate-test.true c.krate-item.is c.loop-krate.invariant (record { krate = refl; pkg = c.package_of-pkg.ensures; node = c.node_of-node.ensures }) c.in_ok-push.ensures.items
+    let l = c.loop-krate in
+    (tt, tt, rw c.in_ok-push.ensures.items (zip_push (IsRecordOf (resolved_view c.args.document.now)) l.yielded l.records.items c.in-Some.krate _ l.invariant.2 (record { krate = refl; pkg = c.package_of-pkg.ensures; node = c.node_of-node.ensures })))
+
+pub returns : goal.returns
+returns c =
+    let l = c.loop-krate in
+    let start = c.into_iter-krate-iterator in
+    subst (λ ks. AllZip (IsRecordOf (resolved_view c.args.document.now)) ks l.records.items)
+    (all_taken start.result l.krate-iterator c.next.new.self l.yielded c.next.result l.yielded_by c.in-None.is c.next.ensures.steps ∙ start.ensures.into_iter_gives.0) l.invariant.2

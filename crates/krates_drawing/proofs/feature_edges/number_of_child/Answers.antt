@@ -11,7 +11,7 @@ returns-then-leads_to c =
     let t = c.args.outline.now in
     let q = id_of c.args.id.now in
     let n = c.place_of_crate-place.result in
-    let is = c.place_of_crate-place.ensures.place ∙ ap (λ ks. place_of (is_crate q) (map crate_row_view ks)) c.deref.ensures.value in
+    let is = c.place_of_crate-place.ensures ∙ ap (λ ks. place_of (is_crate q) (map crate_row_view ks)) c.deref.ensures.value in
     child_found t c.args.mine.now q n c.args.outline.now.ordered.krates c.requires.ends is (omega (arith, c.if-place-len.true, c.len.ensures, t.krates.ok.0)) (sym c.leads_to.ensures ∙ c.if-leads_to.true)
 
 pub returns-else-place-len : goal.returns-else-place-len
@@ -19,7 +19,7 @@ returns-else-place-len c =
     let t = c.args.outline.now in
     let q = id_of c.args.id.now in
     let n = c.place_of_crate-place.result in
-    let is = c.place_of_crate-place.ensures.place ∙ ap (λ ks. place_of (is_crate q) (map crate_row_view ks)) c.deref.ensures.value in
+    let is = c.place_of_crate-place.ensures ∙ ap (λ ks. place_of (is_crate q) (map crate_row_view ks)) c.deref.ensures.value in
     elim c.else-place-len.branch [
       | else-place-len-via-then-place-len+else-leads_to w ↦ not_led t c.args.mine.now q n c.args.outline.now.ordered.krates c.requires.ends is (omega (arith, w.if-place-len.true, c.len.ensures, t.krates.ok.0)) (sym w.leads_to.ensures ∙ w.if-leads_to.false)
       | else-place-len-via-else-place-len w ↦ not_kept t c.args.mine.now q n c.args.outline.now.ordered.krates c.requires.ends is (omega (arith, w.if-place-len.false, c.len.ensures, t.krates.ok.0))

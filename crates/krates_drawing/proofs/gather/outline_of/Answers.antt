@@ -8,10 +8,9 @@ invariant_of-result c =
     let s = c.args.setting.now in
     let x = c.args.selection in
     let records = c.in_ok-records.records.items in
-    let ns = c.in_ok-counts.counts.items in
-    let those = gathered_by_reading r s x records ns c.in_ok-krates.krates.items c.in_ok-links.links.items c.in_ok-features.features.items c.deref.ensures.value c.deref-2.ensures.value c.deref-3.ensures.value c.deref-4.ensures.value
-    c.in_ok-records.ensures c.in_ok-counts.ensures c.in_ok-krates.ensures c.in_ok-links.ensures c.in_ok-features.ensures in
-    record { ordered = ordered r s x records ns c.in_ok-krates.krates c.in_ok-links.links c.in_ok-features.features c.requires.selected those }
+    let those = gathered_by_reading r s x records c.in_ok-krates.krates.items c.in_ok-links.links.items c.in_ok-features.features.items c.deref.ensures.value c.deref-2.ensures.value
+    c.in_ok-records.ensures c.in_ok-krates.ensures c.in_ok-links.ensures c.in_ok-features.ensures in
+    record { ordered = ordered r s x records c.in_ok-krates.krates c.in_ok-links.links c.in_ok-features.features c.requires.selected those }
 
 pub returns : goal.returns
 returns c =
@@ -19,7 +18,6 @@ returns c =
     let s = c.args.setting.now in
     let x = c.args.selection in
     let records = c.in_ok-records.records.items in
-    let ns = c.in_ok-counts.counts.items in
-    let those = gathered_by_reading r s x records ns c.in_ok-krates.krates.items c.in_ok-links.links.items c.in_ok-features.features.items c.deref.ensures.value c.deref-2.ensures.value c.deref-3.ensures.value c.deref-4.ensures.value
-    c.in_ok-records.ensures c.in_ok-counts.ensures c.in_ok-krates.ensures c.in_ok-links.ensures c.in_ok-features.ensures in
-    gathered r s x records ns c.in_ok-krates.krates c.in_ok-links.links c.in_ok-features.features c.requires.selected those c.agrees.ensures.distinct
+    let those = gathered_by_reading r s x records c.in_ok-krates.krates.items c.in_ok-links.links.items c.in_ok-features.features.items c.deref.ensures.value c.deref-2.ensures.value
+    c.in_ok-records.ensures c.in_ok-krates.ensures c.in_ok-links.ensures c.in_ok-features.ensures in
+    gathered r s x records c.in_ok-krates.krates c.in_ok-links.links c.in_ok-features.features c.requires.selected those c.agrees.ensures.distinct

@@ -1,10 +1,11 @@
 use Rattle.std.proofs.Common.{◌∙◌, ◌+◌, length, ap, sym, subst}
 use Rattle.std.proofs.lemmas.List.{length_push}
+use Rattle.krates_rules.proofs.Zips.{zip_next}
 use Rattle.krates_drawing.specs.Ends.{HasEnds}
 use Rattle.krates_drawing.specs.Stored.{IsStoredAs, Appends}
 use Rattle.krates_drawing.specs.Views.{planned_edge_view}
 use Rattle.krates_drawing.proofs.StoredEdges.{edges_alone}
-use Rattle.krates_drawing.proofs.Zips.{zip_more, seen_at}
+use Rattle.krates_drawing.proofs.Zips.{seen_at}
 use Rattle.krates_drawing.proofs.store.store_edges.Goals as goal
 
 pub loop-x-preserved : goal.loop-x-preserved
@@ -12,7 +13,7 @@ loop-x-preserved g c =
     let i = c.loop-x.invariant in
     let a : Appends g.E.FromEdge.made_from_edge c.loop-x.graph.edges c.store_edge.new.graph.edges (planned_edge_view c.x-item.result) = c.in_ok-store_edge.ensures.drawn in
     record {
-      drawn = zip_more planned_edge_view (IsStoredAs g.E.FromEdge.made_from_edge) c.args.planned_edges.now c.loop-x.x-index c.x-item.result c.loop-x.graph.edges c.store_edge.new.graph.edges a.stored c.loop-x-test.true c.x-item.is i.drawn a.is a.appended;
+      drawn = rw a.appended (zip_next (IsStoredAs g.E.FromEdge.made_from_edge) planned_edge_view c.args.planned_edges.now c.loop-x.x-index c.x-item.result c.loop-x.graph.edges a.stored c.loop-x-test.true c.x-item.is a.is i.drawn);
       count = ap length a.appended ∙ length_push c.loop-x.graph.edges a.stored ∙ ap (λ n. n + 1) i.count;
       rest = edges_alone c.args.graph.now c.loop-x.graph c.store_edge.new.graph i.rest c.store_edge.ensures.rest;
     }
