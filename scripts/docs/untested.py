@@ -45,7 +45,7 @@ SHOWN_BY = {
     # a document that is asked looks its crates, features and names up
     "Document::new": ("lookup_of", "at_number"),
     "Document::is_open": (
-        "Document::node_place Document::child_place Document::crate_number Document::node_number Document::child_number"
+        "Document::node_place Document::child_place Document::crate_number Document::node_number"
         " Document::child_number_at Document::package_place_at Document::package_at Document::node_place_at"
     ).split(),
     "Document::is_root": ("Document::is_member", "Document::is_root_member", "is_same"),
@@ -57,9 +57,10 @@ SHOWN_BY = {
     "select": (
         "select_in numbers_of Context::exclusions Context::availability_at Work::new Work::count_krate"
         " Work::count_feature Reason::by_nothing Reason::by_one Reason::by_two put_krate enable toggle"
-        " Document::packages Document::nodes Document::node_ids Document::crate_ids Document::listed_features Document::agrees"
+        " Document::packages Document::nodes Document::node_ids Document::crate_ids Document::feature_count Document::agrees"
+        " Document::listed_feature"
         " expand expand_entry links_of Links::kept Links::is_asked Links::let_wait kept_edges kept_features"
-        " kept_toggled KeptTables::crate_at"
+        " kept_toggled KeptTables::crate_at KeptTables::new"
     ).split(),
     # the graph of a build: its outline, nodes and edges, and how they are stored
     "build_with_metadata": (
@@ -67,7 +68,7 @@ SHOWN_BY = {
         " store_edges in_order Krates::new divide handed_over"
     ).split(),
     # the steps that a build keeps, and those of them that lead to a node
-    "facts": ("kept_steps",),
+    "facts": ("KeptTables::kept_steps",),
     "why": ("Explanation::derivation_of", "step_of"),
     # what is read as a document is listed, and what is read as a certificate is judged
     "run": ("listing_of", "CertificateSubject::judge", "CertificateSubject::judge_bytes"),
