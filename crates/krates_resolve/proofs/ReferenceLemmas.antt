@@ -1,6 +1,6 @@
 -- What an enabled feature gives by its references, and what it may give.
 use Rattle.std.proofs.Common.{Bor, ◌≡◌, ℕ, ◌+◌, ◌<◌, List, [], ◌∷◌, ◌++◌, length, get_or, take, map, Some, Contains, Result, Ok, Err, OnOk, String, Global, inl, inr, refl, sym, ap, ◌∙◌, subst, arith}
-use Rattle.std.proofs.lemmas.Option.{slice_get-get_or, same_Some}
+use Rattle.std.proofs.lemmas.Option.{same_Some}
 use Rattle.std.proofs.lemmas.List.Sums.{sum_by_push}
 use Rattle.std.specs.List.{AllZip, slice_get, sum}
 use Rattle.krates_cm.specs.Document.{Text, node_dep_view, text_view}
@@ -45,7 +45,7 @@ use Rattle.krates_search.proofs.Growth.{waiter_advances, with_links}
 use Rattle.krates_selection.specs.Trace.{HasStep}
 use Rattle.krates_selection.specs.declared.trace.NumberedStep.{NumberedStep}
 use Rattle.krates_questions.proofs.Lookups.{one_id}
-use Rattle.krates_questions.proofs.NodeParts.{dep_of_child, entry_here}
+use Rattle.krates_questions.proofs.NodeParts.{entry_here}
 use Rattle.krates_rules.proofs.Standings.{contains_at}
 use Rattle.krates_selection.proofs.Steps.{one_way}
 
@@ -98,12 +98,6 @@ may_toggle_weakly r s e name g m referent kept =
       toggled = λ lists. follows (toggled_weakly {e = e} {f = m.feature} {g = g} {c = name} m.refers referent lists) premises;
       listed = λ lacks. follows (lost_toggled_weakly {e = e} {f = m.feature} {g = g} {c = name} m.refers referent lacks) premises;
     }
-
--- ---- the dependency of a child
-
--- the dependency at the place of a child
-pub child_dep : (r : Resolved) (x : NodeParts) (k : ℕ) (d : Identity) → AreParts r x.place x → k < length x.children.now → DepAt r (id_of x.parent.now) (id_of (get_or x.children.now k d)) x.place k
-child_dep r x k d p lt = dep_of_child r x.place x k (get_or x.children.now k d) p (slice_get-get_or x.children.now k d lt)
 
 -- a crate that was found has a node
 pub found_node : (r : Resolved) (x : SearchState) (i : Id) → HasFound r x (Crate i) → NoNode r i → ⊥

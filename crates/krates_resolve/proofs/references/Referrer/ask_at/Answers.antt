@@ -1,4 +1,4 @@
-use Rattle.std.proofs.Common.{get_or, sym, ap, subst}
+use Rattle.std.proofs.Common.{sym, ap, subst}
 use Rattle.std.proofs.lemmas.Result.{on_ok_weaker}
 use Rattle.krates_rules.specs.Facts.{Id, Kept}
 use Rattle.krates_search.specs.SearchState.{IsAny, MayTry}
@@ -12,17 +12,13 @@ use Rattle.krates_search.specs.SearchContext.{FindsEdge}
 use Rattle.krates_search.specs.FollowedReferences.{IsRequestStep}
 use Rattle.krates_search.proofs.Finding.{finds_asked, for_reason}
 use Rattle.krates_resolve.specs.References.{name_of}
-use Rattle.krates_resolve.proofs.ReferenceLemmas.{asked_may_try, child_dep, dep_of_entry, tried_at}
+use Rattle.krates_resolve.proofs.ReferenceLemmas.{asked_may_try, dep_of_entry, tried_at}
 use Rattle.krates_questions.proofs.NodeParts.{deps_long, entry_here, own_long}
 use Rattle.krates_resolve.proofs.references.Referrer.ask_at.Goals.{After-entry_at-entry}
 use Rattle.krates_resolve.proofs.references.Referrer.ask_at.Goals as goal
 
 pub is_asked-requires : goal.is_asked-requires
-is_asked-requires c =
-    let r = resolved_view c.args.self.now.context.document.now in
-    let parts = c.args.self.now.parts in
-    let child = get_or parts.children.now c.args.index parts.parent.now in
-    c.requires.sound.has_links (id_of parts.parent.now) (id_of child) parts.place c.args.index (child_dep r parts c.args.index parts.parent.now c.requires.parts c.requires.within)
+is_asked-requires c = c.requires.sound.has_links (krate_of c.args.self.now.parts) c.requires.demands.refers.child c.args.self.now.parts.place c.args.index c.requires.demands.refers.dep
 
 pub returns-then-is_asked-clause-asked : goal.returns-then-is_asked-clause-asked
 returns-then-is_asked-clause-asked c e same there =
