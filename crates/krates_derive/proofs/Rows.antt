@@ -1,7 +1,7 @@
 -- The rules row by row: what each of them asks.
 use Rattle.std.proofs.Common.{◌≡◌, ◌↔◌, ℕ, [], ◌∷◌, Bool, true, false, inl, inr, refl, sym, subst}
 use Rattle.krates_cm.specs.Document.{Text}
-use Rattle.krates_derive.specs.Following.{MayKeep, MustKeep, AsksForFeature, TogglesOver}
+use Rattle.krates_derive.specs.Following.{MayKeep, AsksForFeature, TogglesOver}
 use Rattle.krates_derive.specs.Referring.{Asks}
 use Rattle.krates_rules.specs.Facts.{Id, Edge, Crate, Feature, Kept, Toggled}
 use Rattle.krates_rules.specs.Features.{HasReference, ListsFeature}
@@ -55,31 +55,31 @@ named_row r s n p c f g = (to, back n c)
     back : (n : ℕ) (c : Id) → Rule (questions r s) n (Feature p f ∷ []) (Feature c g) → (n ≡ 3) × (p ≡ c) × HasReference r p f (simple g) × ListsFeature r p g
     back n c (named refers lists) = (refl, refl, refers, lists)
 
-pub asked_row : (r : Resolved) (s : SettingModel) (n : ℕ) (p : Id) (f : Text) (e : Edge) → ((n ≡ 4) × (p ≡ e.parent) × Asks r s e.parent f e.child × MayKeep r s e) ↔ Rule (questions r s) n (Feature p f ∷ []) (Kept e)
+pub asked_row : (r : Resolved) (s : SettingModel) (n : ℕ) (p : Id) (f : Text) (e : Edge) → ((n ≡ 4) × (p ≡ e.parent) × Asks r s e.parent f e.child × MayKeep r s e true) ↔ Rule (questions r s) n (Feature p f ∷ []) (Kept e)
 unfolding questions
 asked_row r s n p f e = (to, back n p)
   where
-    to : (n ≡ 4) × (p ≡ e.parent) × Asks r s e.parent f e.child × MayKeep r s e → Rule (questions r s) n (Feature p f ∷ []) (Kept e)
+    to : (n ≡ 4) × (p ≡ e.parent) × Asks r s e.parent f e.child × MayKeep r s e true → Rule (questions r s) n (Feature p f ∷ []) (Kept e)
     to (is, same, a, m) =
         subst (λ k. Rule (questions r s) k (Feature p f ∷ []) (Kept e)) (sym is)
         (subst (λ i. Rule (questions r s) 4 (Feature i f ∷ []) (Kept e)) (sym same)
         (asked {e = e} {f = f} {d = m.dependency} (record { reference = a.reference; dep = a.dep; refers = a.refers; asks = a.asks; referent = a.referent }) (record { wanted = m.wanted; stands = m.stands })))
 
-    back : (n : ℕ) (p : Id) → Rule (questions r s) n (Feature p f ∷ []) (Kept e) → (n ≡ 4) × (p ≡ e.parent) × Asks r s e.parent f e.child × MayKeep r s e
-    back n p (asked {d = d} a o) = (refl, refl, record { reference = a.reference; dep = a.dep; refers = a.refers; asks = a.asks; referent = a.referent }, record { dependency = d; wanted = o.wanted; stands = o.stands })
+    back : (n : ℕ) (p : Id) → Rule (questions r s) n (Feature p f ∷ []) (Kept e) → (n ≡ 4) × (p ≡ e.parent) × Asks r s e.parent f e.child × MayKeep r s e true
+    back n p (asked {d = d} a o) = (refl, refl, record { reference = a.reference; dep = a.dep; refers = a.refers; asks = a.asks; referent = a.referent }, record { dependency = d; wanted = o.wanted; taken = tt; stands = o.stands })
 
-pub required_row : (r : Resolved) (s : SettingModel) (n : ℕ) (p : Id) (e : Edge) → ((n ≡ 5) × (p ≡ e.parent) × MustKeep r s e) ↔ Rule (questions r s) n (Crate p ∷ []) (Kept e)
+pub required_row : (r : Resolved) (s : SettingModel) (n : ℕ) (p : Id) (e : Edge) → ((n ≡ 5) × (p ≡ e.parent) × MayKeep r s e false) ↔ Rule (questions r s) n (Crate p ∷ []) (Kept e)
 unfolding questions
 required_row r s n p e = (to, back n p)
   where
-    to : (n ≡ 5) × (p ≡ e.parent) × MustKeep r s e → Rule (questions r s) n (Crate p ∷ []) (Kept e)
+    to : (n ≡ 5) × (p ≡ e.parent) × MayKeep r s e false → Rule (questions r s) n (Crate p ∷ []) (Kept e)
     to (is, same, m) =
         subst (λ k. Rule (questions r s) k (Crate p ∷ []) (Kept e)) (sym is)
         (subst (λ i. Rule (questions r s) 5 (Crate i ∷ []) (Kept e)) (sym same)
-        (required {e = e} {d = m.dependency} (record { wanted = m.wanted; stands = m.stands }) m.required))
+        (required {e = e} {d = m.dependency} (record { wanted = m.wanted; stands = m.stands }) m.taken))
 
-    back : (n : ℕ) (p : Id) → Rule (questions r s) n (Crate p ∷ []) (Kept e) → (n ≡ 5) × (p ≡ e.parent) × MustKeep r s e
-    back n p (required {d = d} o h) = (refl, refl, record { dependency = d; wanted = o.wanted; required = h; stands = o.stands })
+    back : (n : ℕ) (p : Id) → Rule (questions r s) n (Crate p ∷ []) (Kept e) → (n ≡ 5) × (p ≡ e.parent) × MayKeep r s e false
+    back n p (required {d = d} o h) = (refl, refl, record { dependency = d; wanted = o.wanted; taken = h; stands = o.stands })
 
 pub target_row : (q : Questions) (n : ℕ) (e : Edge) (c : Id) → ((n ≡ 5) × (e.child ≡ c)) ↔ Rule q n (Kept e ∷ []) (Crate c)
 target_row q n e c = (to, back n c)

@@ -1,5 +1,5 @@
 -- What a document and a setting say about single facts, for each row of the rules.
-use Rattle.std.specs.Prelude.{◌≡◌, ◌⊎◌, ℕ, Bool, IsTrue, Contains, true, false}
+use Rattle.std.specs.Prelude.{◌≡◌, ◌⊎◌, ℕ, Bool, IsTrue, Contains, true, false, ⊤}
 use Rattle.krates_cm.specs.Document.{Text, DependencyModel}
 use Rattle.krates_derive.specs.Referring.{Asks, Toggles}
 use Rattle.krates_rules.specs.Facts.{Id, Edge}
@@ -32,17 +32,16 @@ IsAskedBy r s rule p f e = (rule ≡ 4) × (p ≡ e.parent) × Asks r s e.parent
 abbrev pub IsChildWith : Resolved → ℕ → Edge → Id → Text → Type 0
 IsChildWith r rule e c g = (rule ≡ 6) × (e.child ≡ c) × ListsFeature r e.child g
 
--- the edge may be kept
-pub record MayKeep (r : Resolved) (s : SettingModel) (e : Edge) : Type 0 where
-  pub dependency : DependencyModel
-  pub wanted : IsWanted r s e dependency
-  pub stands : Stands r s e.child
+-- the dependency is taken: it is asked for, or isn't optional
+abbrev pub IsTaken : Bool → DependencyModel → Type 0
+IsTaken true d = ⊤
+IsTaken false d = d.optional ≡ false
 
--- and it isn't optional
-pub record MustKeep (r : Resolved) (s : SettingModel) (e : Edge) : Type 0 where
+-- the edge may be kept: it is wanted as a dependency that is taken, and its child stands
+pub record MayKeep (r : Resolved) (s : SettingModel) (e : Edge) (asked : Bool) : Type 0 where
   pub dependency : DependencyModel
   pub wanted : IsWanted r s e dependency
-  pub required : dependency.optional ≡ false
+  pub taken : IsTaken asked dependency
   pub stands : Stands r s e.child
 
 -- the dependency enables the feature by default

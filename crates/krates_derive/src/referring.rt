@@ -1,10 +1,9 @@
 //! What the references of a feature ask for.
 
-ghost use Rattle.std.specs.Prelude.{◌↔◌, IsTrue, map};
-ghost use Rattle.krates_cm.specs.Document.{text_view};
+ghost use Rattle.std.specs.Prelude.{◌↔◌, IsTrue};
 ghost use Rattle.krates_questions.specs.Context.{document_of};
 ghost use Rattle.krates_derive.specs.Following.{IsToggleOf};
-ghost use Rattle.krates_derive.specs.Referring.{Asks, AsksAmong, AsksBy, HasSimple, Toggles, TogglesAmong, TogglesBy};
+ghost use Rattle.krates_derive.specs.Referring.{Asks, AsksBy, Toggles, TogglesBy};
 ghost use Rattle.krates_questions.specs.Lookup.{resolved_view};
 ghost use Rattle.krates_rules.specs.Features.{HasReference};
 ghost use Rattle.krates_rules.specs.Resolved.{id_of};
@@ -31,19 +30,8 @@ pub(crate) fn names<'a>(document: &Document<'a>, krate: &'a Kid, feature: &str, 
     ensures { IsTrue result
         ↔ HasReference (resolved_view document.now) (id_of krate.now) feature.now (simple name.now) }
 {
-    has_simple(document.values(krate, feature), name)
-}
-
-/// Whether one of the references is the feature.
-fn has_simple(values: &[String], name: &str) -> bool
-    ensures { IsTrue result ↔ HasSimple (map text_view values.now) name.now }
-{
-    for value in values {
-        if is_simple(value.as_str(), name) {
-            return true;
-        }
-    }
-    false
+    let values = document.values(krate, feature);
+    values.iter().any(|value| is_simple(value.as_str(), name))
 }
 
 /// Whether the reference is the feature.
@@ -69,29 +57,14 @@ pub(crate) fn asks<'a>(
     ensures { IsTrue result
         ↔ Asks (document_of context.now) context.now.setting.now (id_of krate.now) feature.now (id_of child.now) }
 {
-    asks_among(
-        context,
-        krate,
-        context.document.values(krate, feature),
-        child,
-    )
-}
-
-/// Whether one of the references asks for the edges to another crate.
-fn asks_among<'a>(context: &Context<'a, '_>, krate: &'a Kid, values: &[String], child: &Kid) -> bool
-    ensures { let texts = map text_view values.now in
-        IsTrue result ↔ AsksAmong (document_of context.now) context.now.setting.now (id_of krate.now) texts (id_of child.now) }
-{
-    for value in values {
-        if asks_by(context, krate, value.as_str(), child) {
-            return true;
-        }
-    }
-    false
+    let values = context.document.values(krate, feature);
+    values
+        .iter()
+        .any(|value| asks_by(context, krate, value.as_str(), child))
 }
 
 /// Whether the reference asks for the edges to another crate.
-fn asks_by<'a>(context: &Context<'a, '_>, krate: &'a Kid, text: &str, child: &Kid) -> bool
+fn asks_by(context: &Context<'_, '_>, krate: &Kid, text: &str, child: &Kid) -> bool
     ensures { IsTrue result ↔ AsksBy (document_of context.now) context.now.setting.now (id_of krate.now) text.now
         (id_of child.now) }
 {
@@ -120,38 +93,16 @@ pub(crate) fn toggles<'a>(
         IsTrue result ↔ Toggles r s (id_of f.krate.now) weakly f.name.now (id_of g.krate.now) g.name.now }
 {
     let values = context.document.values(feature.krate, feature.name);
-    toggles_among(context, weakly, feature.krate, values, toggled)
-}
-
-/// Whether one of the references is to a feature of another crate, weakly or strongly.
-fn toggles_among<'a>(
-    context: &Context<'a, '_>,
-    weakly: bool,
-    krate: &'a Kid,
-    values: &[String],
-    toggled: &FeatureRef<'a>,
-) -> bool
-    ensures { let texts = map text_view values.now in
-        let r = document_of context.now in
-        let s = context.now.setting.now in
-        let g = toggled.now in
-        IsTrue result ↔ TogglesAmong r s (id_of krate.now) weakly texts (id_of g.krate.now) g.name.now }
-{
-    for value in values {
-        if toggles_by(context, weakly, krate, value.as_str(), toggled) {
-            return true;
-        }
-    }
-    false
+    values.iter().any(|value| toggles_by(context, weakly, feature.krate, value.as_str(), toggled))
 }
 
 /// Whether the reference is to a feature of another crate, weakly or strongly.
-fn toggles_by<'a>(
-    context: &Context<'a, '_>,
+fn toggles_by(
+    context: &Context<'_, '_>,
     weakly: bool,
-    krate: &'a Kid,
+    krate: &Kid,
     text: &str,
-    toggled: &FeatureRef<'a>,
+    toggled: &FeatureRef<'_>,
 ) -> bool
     ensures { let r = document_of context.now in
         let s = context.now.setting.now in
@@ -191,12 +142,12 @@ fn toggles_by<'a>(
 
 /// Whether a reference of the right form is to this feature of a crate: the name of the dependency means the crate, and the
 /// names of the features are the same.
-fn is_toggle<'a>(
-    context: &Context<'a, '_>,
+fn is_toggle(
+    context: &Context<'_, '_>,
     is_form: bool,
-    krate: &'a Kid,
+    krate: &Kid,
     named: &FeatureOfDependency<'_>,
-    toggled: &FeatureRef<'a>,
+    toggled: &FeatureRef<'_>,
 ) -> bool
     ensures { let r = document_of context.now in
         let s = context.now.setting.now in

@@ -8,8 +8,7 @@ use Rattle.krates_derive.proofs.closing.is_child_in.Goals as goal
 pub returns-in-Available : goal.returns-in-Available
 returns-in-Available c =
     let fs = facts_in c.args.check.now in
-    let has = subst (λ (e : Edge). IsTrue c.has.result ↔ Contains fs (Kept e)) c.edge_key.ensures c.has.ensures in
-    child_here (document_in c.args.check.now) c.args.check.now.setting.now fs (edge_of_ref c.args.edge.now) c.has.result c.in-Available.ensures.0 has
+    child_here (document_in c.args.check.now) c.args.check.now.setting.now fs (edge_of_ref c.args.edge.now) c.has.result c.in-Available.ensures.0 c.has.ensures
 
 pub returns-in-Excluded : goal.returns-in-Excluded
 returns-in-Excluded c =
