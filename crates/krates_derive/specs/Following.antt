@@ -1,11 +1,10 @@
 -- What a document and a setting say about single facts, for each row of the rules.
-use Rattle.std.specs.Prelude.{◌≡◌, ◌⊎◌, ℕ, Bool, IsTrue, Contains, true, false, ⊤}
+use Rattle.std.specs.Prelude.{◌≡◌, ◌⊎◌, ℕ, Bool, Contains, true, false, ⊤}
 use Rattle.krates_cm.specs.Document.{Text, DependencyModel}
 use Rattle.krates_derive.specs.Referring.{Asks, Toggles}
 use Rattle.krates_rules.specs.Facts.{Id, Edge}
 use Rattle.krates_rules.specs.Features.{HasReference, ListsFeature}
 use Rattle.krates_rules.specs.Questions.{IsDeclaredAs, IsWanted, Stands}
-use Rattle.krates_rules.specs.Referent.{IsReferent}
 use Rattle.krates_rules.specs.Resolved.{Resolved}
 use Rattle.krates_rules.specs.Roots.{IsRoot}
 use Rattle.krates_rules.specs.Rules.{default_name}
@@ -26,7 +25,7 @@ IsNamedBy r rule p f c g = (rule ≡ 3) × (p ≡ c) × HasReference r p f (simp
 
 -- a feature of the crate asks for the edge
 abbrev pub IsAskedBy : Resolved → SettingModel → ℕ → Id → Text → Edge → Type 0
-IsAskedBy r s rule p f e = (rule ≡ 4) × (p ≡ e.parent) × Asks r s e.parent f e.child
+IsAskedBy r s rule p f e = (rule ≡ 4) × (p ≡ e.parent) × Asks r s p f e.child
 
 -- the edge goes to the crate, which lists the feature
 abbrev pub IsChildWith : Resolved → ℕ → Edge → Id → Text → Type 0
@@ -58,11 +57,7 @@ pub record AsksForFeature (r : Resolved) (e : Edge) (g : Text) : Type 0 where
   pub declared : IsDeclaredAs r e dependency
   pub asks : AsksFeature dependency g
 
--- the reference has the right form, it names this feature, and its dependency's name means the child
-abbrev pub IsToggleOf : Resolved → SettingModel → Bool → Id → Text → Text → Id → Text → Type 0
-IsToggleOf r s is_form p dep g child name = IsTrue is_form × (g ≡ name) × IsReferent r s.all_named p dep child
-
--- a feature of the edge's parent toggles a feature of its child, weakly or strongly
+-- the edge goes from the crate, whose feature toggles a feature of the edge's child, weakly or strongly
 abbrev pub TogglesOver : Resolved → SettingModel → Bool → Id → Text → Edge → Id → Id → Text → Type 0
 TogglesOver r s weakly p f e a c g =
-    (p ≡ e.parent) × (e.parent ≡ a) × (e.child ≡ c) × Toggles r s e.parent weakly f e.child g × ListsFeature r e.child g
+    (p ≡ e.parent) × (e.parent ≡ a) × (e.child ≡ c) × Toggles r s p weakly f c g × ListsFeature r c g

@@ -1,5 +1,5 @@
 -- What the references of a feature ask for.
-use Rattle.std.specs.Prelude.{Bool, true, false}
+use Rattle.std.specs.Prelude.{◌≡◌, Bool, true, false}
 use Rattle.krates_cm.specs.Document.{Text}
 use Rattle.krates_rules.specs.Facts.{Id}
 use Rattle.krates_rules.specs.Features.{HasReference}
@@ -29,6 +29,10 @@ pub record Asks (r : Resolved) (s : SettingModel) (p : Id) (f : Text) (child : I
 abbrev pub toggling : Bool → Text → Text → Reference
 toggling true dep g = weak dep g
 toggling false dep g = strong dep g
+
+-- the reference names this feature, and its dependency's name means the child
+abbrev pub IsToggleOf : Resolved → SettingModel → Id → Text → Text → Id → Text → Type 0
+IsToggleOf r s p dep g child name = (g ≡ name) × IsReferent r s.all_named p dep child
 
 -- the text is a reference of the crate, weak or strong, to this feature of the child
 pub record TogglesBy (r : Resolved) (s : SettingModel) (p : Id) (weakly : Bool) (text : Text) (child : Id) (g : Text) : Type 0 where

@@ -17,7 +17,8 @@ use krates_cm::Dependency;
 use krates_document::Setting;
 use krates_ids::Kid;
 use krates_questions::{Availability, Document, Need};
-use krates_text::{features, laws};
+use krates_text::features::{Feature, ParsedFeature};
+use krates_text::laws;
 use std::alloc::{AllocError, Global};
 
 /// What the check of a list of facts is made against: a document, a setting, and the list.
@@ -186,11 +187,10 @@ fn is_asked_in<'a>(
         (id_of krate.now) text.now) }
 {
     laws::one_reference();
-    match features::ParsedFeature::from(text).feat() {
-        features::Feature::Simple(_) => Ok(true),
-        features::Feature::Krate(dep) => are_edges_to_in(check, krate, dep),
-        features::Feature::Strong { krate: dep, .. } => are_edges_to_in(check, krate, dep),
-        features::Feature::Weak { .. } => Ok(true),
+    match ParsedFeature::from(text).feat() {
+        Feature::Krate(dep) => are_edges_to_in(check, krate, dep),
+        Feature::Strong { krate: dep, .. } => are_edges_to_in(check, krate, dep),
+        _ => Ok(true),
     }
 }
 
@@ -236,11 +236,9 @@ fn is_simple_in<'a>(check: &ClosureCheck<'a, '_>, krate: &'a Kid, text: &'a str)
         ↔ SimpleIn (document_in check.now) (facts_in check.now) (id_of krate.now) text.now }
 {
     laws::one_reference();
-    match features::ParsedFeature::from(text).feat() {
-        features::Feature::Simple(name) => is_named_in(check, krate, name),
-        features::Feature::Krate(_) => true,
-        features::Feature::Strong { .. } => true,
-        features::Feature::Weak { .. } => true,
+    match ParsedFeature::from(text).feat() {
+        Feature::Simple(name) => is_named_in(check, krate, name),
+        _ => true,
     }
 }
 
@@ -273,17 +271,16 @@ fn is_toggling_in<'a>(
         (id_of krate.now) text.now) }
 {
     laws::one_reference();
-    match features::ParsedFeature::from(text).feat() {
-        features::Feature::Simple(_) => Ok(true),
-        features::Feature::Krate(_) => Ok(true),
-        features::Feature::Strong {
+    match ParsedFeature::from(text).feat() {
+        Feature::Strong {
             krate: dep,
             feature,
         } => is_dep_in(check, krate, dep, feature),
-        features::Feature::Weak {
+        Feature::Weak {
             krate: dep,
             feature,
         } => is_dep_in(check, krate, dep, feature),
+        _ => Ok(true),
     }
 }
 

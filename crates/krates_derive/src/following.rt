@@ -14,7 +14,6 @@ ghost use Rattle.krates_rules.specs.StepViews.{fact_view};
 
 use crate::fact_ref::FactRef::{Crate, Feature, Kept, Toggled};
 use crate::fact_ref::{EdgeRef, FactRef, FeatureRef, ToggleRef};
-use crate::referring::{asks, names, toggles};
 use krates_cm::Dependency;
 use krates_document::Setting;
 use krates_ids::Kid;
@@ -147,19 +146,19 @@ fn is_enabled(rule: u8, toggle: &ToggleRef<'_>, feature: &FeatureRef<'_>) -> boo
 
 /// Whether a feature of a crate refers to a listed feature of it.
 fn is_named<'a>(
-    document: &Document<'a>,
+    context: &Context<'a, '_>,
     rule: u8,
     feature: &FeatureRef<'a>,
     other: &FeatureRef<'a>,
 ) -> bool
     ensures { let f = feature.now in
         let g = other.now in
-        IsTrue result ↔ IsNamedBy (resolved_view document.now) rule (id_of f.krate.now) f.name.now (id_of g.krate.now) g.name.now }
+        IsTrue result ↔ IsNamedBy (document_of context.now) rule (id_of f.krate.now) f.name.now (id_of g.krate.now) g.name.now }
 {
     rule == 3
         && is_same(feature.krate, other.krate)
-        && names(document, feature.krate, feature.name, other.name)
-        && document.lists(feature.krate, other.name)
+        && feature.names(context.document, other.name)
+        && context.document.lists(feature.krate, other.name)
 }
 
 /// Whether a feature of a crate asks for an edge.
@@ -172,9 +171,7 @@ fn is_asked<'a>(
     ensures { let f = feature.now in
         IsTrue result ↔ IsAskedBy (document_of context.now) context.now.setting.now rule (id_of f.krate.now) f.name.now (edge_of_ref edge.now) }
 {
-    rule == 4
-        && is_same(feature.krate, edge.parent)
-        && asks(context, edge.parent, feature.name, edge.child)
+    rule == 4 && is_same(feature.krate, edge.parent) && feature.asks(context, edge.child)
 }
 
 /// Whether an edge follows from a feature.
@@ -258,18 +255,7 @@ fn toggles_over<'a>(
     if !is_between(feature.krate, edge, toggle) {
         return false;
     }
-    let by = FeatureRef {
-        krate: edge.parent,
-        name: feature.name,
-    };
-    let toggled = FeatureRef {
-        krate: edge.child,
-        name: toggle.name,
-    };
-    if !toggles(context, weakly, &by, &toggled) {
-        return false;
-    }
-    context.document.lists(edge.child, toggle.name)
+    feature.toggles(context, weakly, toggle) && context.document.lists(toggle.krate, toggle.name)
 }
 
 /// Whether the edge goes from the crate, which toggles, to that whose feature is toggled.
@@ -329,12 +315,7 @@ pub fn from_one<'a>(
     match (FactRef::of(premise), FactRef::of(fact)) {
         (Crate(krate), Kept(edge)) => is_kept_by_crate(context, rule, krate, &edge),
         (Feature(feature), Crate(krate)) => Ok(is_same_by(rule, 2, feature.krate, krate)),
-        (Feature(feature), Feature(other)) => Ok(is_named(
-            context.document,
-            rule,
-            &feature,
-            &other,
-        )),
+        (Feature(feature), Feature(other)) => Ok(is_named(context, rule, &feature, &other)),
         (Feature(feature), Kept(edge)) => is_kept_by_feature(context, rule, &feature, &edge),
         (Kept(edge), Crate(krate)) => Ok(is_same_by(rule, 5, edge.child, krate)),
         (Kept(edge), Feature(feature)) => is_declared(context, rule, &edge, &feature),

@@ -1,7 +1,6 @@
-use Rattle.std.proofs.Common.{◌↔◌, IsTrue, Contains, refl, subst}
+use Rattle.std.proofs.Common.{refl}
 use Rattle.krates_derive.specs.FactRef.{edge_of_ref}
 use Rattle.krates_derive.specs.ClosureCheck.{document_in, facts_in}
-use Rattle.krates_rules.specs.Facts.{Edge, Kept}
 use Rattle.krates_derive.proofs.Givings.{child_here}
 use Rattle.krates_derive.proofs.closing.is_child_in.Goals as goal
 
