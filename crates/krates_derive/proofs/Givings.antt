@@ -1,8 +1,7 @@
 -- What a document gives from single edges and references, and when all of that stands in a list.
 use Rattle.std.proofs.Common.{◌≡◌, ◌↔◌, List, Bool, true, false, IsTrue, Contains, refl, subst}
 use Rattle.krates_cm.specs.Document.{Text, DependencyModel, DepKindInfoModel}
-use Rattle.krates_derive.specs.Following.{IsTaken}
-use Rattle.krates_derive.specs.Giving.{AskedByIn, EdgesToIn, NamedIn, ChildIn, EdgeIn, SimpleIn, TogglingIn, DepIn}
+use Rattle.krates_derive.specs.Giving.{AskedByIn, EdgesToIn, NamedIn, IsTaken, ChildIn, EdgeIn, SimpleIn, TogglingIn, DepIn}
 use Rattle.krates_derive.specs.Referring.{toggling}
 use Rattle.krates_derive.proofs.ReferenceForms.{asks_nothing, not_simple, one_form, same_toggling}
 use Rattle.krates_text.specs.FeatureReference.{Reference, IsReference, HasOneReading, simple}

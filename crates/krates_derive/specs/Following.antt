@@ -1,6 +1,7 @@
 -- What a document and a setting say about single facts, for each row of the rules.
-use Rattle.std.specs.Prelude.{◌≡◌, ◌⊎◌, ℕ, Bool, Contains, true, false, ⊤}
+use Rattle.std.specs.Prelude.{◌≡◌, ◌⊎◌, ℕ, Bool, Contains, true}
 use Rattle.krates_cm.specs.Document.{Text, DependencyModel}
+use Rattle.krates_derive.specs.Giving.{IsTaken}
 use Rattle.krates_derive.specs.Referring.{Asks, Toggles}
 use Rattle.krates_rules.specs.Facts.{Id, Edge}
 use Rattle.krates_rules.specs.Features.{HasReference, ListsFeature}
@@ -30,11 +31,6 @@ IsAskedBy r s rule p f e = (rule ≡ 4) × (p ≡ e.parent) × Asks r s p f e.ch
 -- the edge goes to the crate, which lists the feature
 abbrev pub IsChildWith : Resolved → ℕ → Edge → Id → Text → Type 0
 IsChildWith r rule e c g = (rule ≡ 6) × (e.child ≡ c) × ListsFeature r e.child g
-
--- the dependency is taken: it is asked for, or isn't optional
-abbrev pub IsTaken : Bool → DependencyModel → Type 0
-IsTaken true d = ⊤
-IsTaken false d = d.optional ≡ false
 
 -- the edge may be kept: it is wanted as a dependency that is taken, and its child stands
 pub record MayKeep (r : Resolved) (s : SettingModel) (e : Edge) (asked : Bool) : Type 0 where

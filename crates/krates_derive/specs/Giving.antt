@@ -1,7 +1,6 @@
 -- What single facts give by one rule, and when all of that stands in a list.
 use Rattle.std.specs.Prelude.{◌≡◌, List, Bool, true, false, Contains, ⊤}
 use Rattle.krates_cm.specs.Document.{Text, DependencyModel, DepKindInfoModel}
-use Rattle.krates_derive.specs.Following.{IsTaken}
 use Rattle.krates_derive.specs.Referring.{Asks, AsksBy, toggling}
 use Rattle.krates_rules.specs.Facts.{Id, Edge, Fact, Crate, Feature, Kept, Toggled}
 use Rattle.krates_rules.specs.Features.{ListsFeature, LacksFeature, HasReference}
@@ -24,6 +23,11 @@ pub record NamedIn (r : Resolved) (fs : List Fact) (i : Id) (g : Text) : Type 0 
 pub record ToggledIn (r : Resolved) (fs : List Fact) (p c : Id) (g : Text) : Type 0 where
   pub toggled : ListsFeature r c g → Contains fs (Toggled p c g)
   pub listed : LacksFeature r c g → ⊥
+
+-- the dependency is taken: it is asked for, or isn't optional
+abbrev pub IsTaken : Bool → DependencyModel → Type 0
+IsTaken true d = ⊤
+IsTaken false d = d.optional ≡ false
 
 -- the child of a wanted edge stands and the edge is in the list, or the child is excluded
 pub record ChildIn (r : Resolved) (s : SettingModel) (fs : List Fact) (e : Edge) : Type 0 where

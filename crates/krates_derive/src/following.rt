@@ -3,8 +3,9 @@
 ghost use Rattle.std.specs.Prelude.{◌≡◌, ◌↔◌, ◌∷◌, [], IfOk, IsTrue};
 ghost use Rattle.krates_cm.specs.Document.{dependency_view};
 ghost use Rattle.krates_questions.specs.Context.{document_of, rules_of};
-ghost use Rattle.krates_derive.specs.Following.{AsksDefault, AsksFeature, AsksForFeature, IsAskedBy, IsChildWith, IsNamedBy, IsRooted, IsRootedFeature, IsTaken, MayKeep, TogglesOver};
+ghost use Rattle.krates_derive.specs.Following.{AsksDefault, AsksFeature, AsksForFeature, IsAskedBy, IsChildWith, IsNamedBy, IsRooted, IsRootedFeature, MayKeep, TogglesOver};
 ghost use Rattle.krates_derive.specs.FactRef.{edge_of_ref, feature_of_ref, toggle_of_ref};
+ghost use Rattle.krates_derive.specs.Giving.{IsTaken};
 ghost use Rattle.krates_questions.specs.Lookup.{resolved_view};
 ghost use Rattle.krates_questions.specs.Need.{TellsDeclaration, TellsNeed};
 ghost use Rattle.krates_rules.specs.Facts.{Crate, Feature, Kept};

@@ -3,7 +3,7 @@ use Rattle.krates_cm.specs.Document.{DependencyModel}
 use Rattle.krates_questions.specs.Context.{document_of}
 use Rattle.krates_questions.specs.Need.{TellsNeed}
 use Rattle.krates_derive.specs.FactRef.{edge_of_ref}
-use Rattle.krates_derive.specs.Following.{IsTaken}
+use Rattle.krates_derive.specs.Giving.{IsTaken}
 use Rattle.krates_derive.proofs.fact_ref.EdgeRef.may_be_kept.Goals as goal
 
 pub returns-then-not-is_taken : goal.returns-then-not-is_taken
