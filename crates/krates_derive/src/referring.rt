@@ -18,8 +18,9 @@ use krates_text::laws;
 impl<'a> FeatureRef<'a> {
     /// Whether the feature refers to another feature of its crate.
     pub(crate) fn names(&self, document: &Document<'a>, name: &str) -> bool
-        ensures { let f = self.now in
-            IsTrue result ↔ HasReference (resolved_view document.now) (id_of f.krate.now) f.name.now (simple name.now) }
+        ensures { let r = resolved_view document.now in
+            let f = self.now in
+            IsTrue result ↔ HasReference r (id_of f.krate.now) f.name.now (simple name.now) }
     {
         let values = document.values(self.krate, self.name);
         values.iter().any(|value| is_simple(value.as_str(), name))
@@ -27,9 +28,10 @@ impl<'a> FeatureRef<'a> {
 
     /// Whether the feature asks for the edges to another crate.
     pub(crate) fn asks(&self, context: &Context<'a, '_>, child: &Kid) -> bool
-        ensures { let s = context.now.setting.now in
+        ensures { let r = document_of context.now in
+            let s = context.now.setting.now in
             let f = self.now in
-            IsTrue result ↔ Asks (document_of context.now) s (id_of f.krate.now) f.name.now (id_of child.now) }
+            IsTrue result ↔ Asks r s (id_of f.krate.now) f.name.now (id_of child.now) }
     {
         let krate = self.krate;
         let values = context.document.values(krate, self.name);
@@ -119,9 +121,11 @@ fn is_toggle(
     feature: &str,
     toggle: &ToggleRef<'_>,
 ) -> bool
-    ensures { let s = context.now.setting.now in
+    ensures { let r = document_of context.now in
+        let s = context.now.setting.now in
         let t = toggle.now in
-        IsTrue result ↔ IsToggleOf (document_of context.now) s (id_of krate.now) dep.now feature.now (id_of t.krate.now) t.name.now }
+        IsTrue result
+        ↔ IsToggleOf r s (id_of krate.now) dep.now feature.now (id_of t.krate.now) t.name.now }
 {
     feature == toggle.name
         && context
