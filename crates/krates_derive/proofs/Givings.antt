@@ -3,8 +3,8 @@ use Rattle.std.proofs.Common.{◌≡◌, ◌↔◌, List, Bool, true, false, IsT
 use Rattle.krates_cm.specs.Document.{Text, DependencyModel, DepKindInfoModel}
 use Rattle.krates_derive.specs.Giving.{AskedByIn, EdgesToIn, NamedIn, IsTaken, ChildIn, EdgeIn, SimpleIn, TogglingIn, DepIn}
 use Rattle.krates_derive.specs.Referring.{toggling}
-use Rattle.krates_derive.proofs.ReferenceForms.{asks_nothing, not_simple, one_form}
-use Rattle.krates_text.specs.FeatureReference.{Reference, IsReference, HasOneReading, strong, weak, simple}
+use Rattle.krates_derive.proofs.ReferenceForms.{asks_nothing, not_simple, one_form, same_toggling}
+use Rattle.krates_text.specs.FeatureReference.{Reference, IsReference, HasOneReading, simple}
 use Rattle.krates_rules.specs.Facts.{Id, Edge, Fact, Kept}
 use Rattle.krates_rules.specs.Referent.{IsReferent}
 use Rattle.krates_rules.specs.References.{Demands}
@@ -57,11 +57,6 @@ edge_of_child r s fs p c k ask h = edge_listed r s fs p c k ask (λ l. h (record
 
 -- ---- references of a feature
 
-not_toggling : {text : Text} → HasOneReading text → (a : Reference) → IsReference text a → ((d g : Text) → a ≡ strong d g → ⊥) → ((d g : Text) → a ≡ weak d g → ⊥)
-    → (weakly : Bool) (dep g : Text) → IsReference text (toggling weakly dep g) → ⊥
-not_toggling h a x not_strong not_weak true dep g y = not_weak dep g (one_form h _ _ x y)
-not_toggling h a x not_strong not_weak false dep g y = not_strong dep g (one_form h _ _ x y)
-
 -- a reference that is a feature of its own crate
 pub simple_in : {text : Text} → HasOneReading text → (r : Resolved) (fs : List Fact) (p : Id) (name : Text) (b : Bool) → IsReference text (simple name) → (IsTrue b ↔ NamedIn r fs p name) → IsTrue b ↔ SimpleIn r fs p text
 simple_in {text} h r fs p name b x told = (
@@ -75,30 +70,18 @@ simple_nothing {text} h r fs p a x other g y = absurd (not_simple h a g x other 
 
 -- a reference to no feature of another crate toggles nothing
 pub toggling_nothing : {text : Text} → HasOneReading text → (r : Resolved) (s : SettingModel) (fs : List Fact) (p : Id) (a : Reference) → IsReference text a
-    → ((d g : Text) → a ≡ strong d g → ⊥) → ((d g : Text) → a ≡ weak d g → ⊥) → TogglingIn r s fs p text
-toggling_nothing {text} h r s fs p a x not_strong not_weak weakly dep g y = absurd (not_toggling h a x not_strong not_weak weakly dep g y)
+    → ((weakly : Bool) (dep g : Text) → a ≡ toggling weakly dep g → ⊥) → TogglingIn r s fs p text
+toggling_nothing {text} h r s fs p a x none weakly dep g y = absurd (none weakly dep g (one_form h _ _ x y))
 
-pub toggling_strong : {text : Text} → HasOneReading text → (r : Resolved) (s : SettingModel) (fs : List Fact) (p : Id) (dep g : Text) (b : Bool) → IsReference text (strong dep g) → (IsTrue b ↔ DepIn r s fs p dep g) → IsTrue b ↔ TogglingIn r s fs p text
-toggling_strong {text} h r s fs p dep g b x told = (there, λ v. told.1 (v false dep g x))
-  where
-    there : IsTrue b → (weakly : Bool) (d n : Text) → IsReference text (toggling weakly d n) → DepIn r s fs p d n
-    there t true d n y = absurd (let e : strong dep g ≡ weak d n = one_form h _ _ x y in cc)
-    there t false d n y =
-        let e : strong dep g ≡ strong d n = one_form h _ _ x y in
-        let one : dep ≡ d = cc in
-        let other : g ≡ n = cc in
-        subst (λ m. DepIn r s fs p d m) other (subst (λ m. DepIn r s fs p m g) one (told.0 t))
-
-pub toggling_weak : {text : Text} → HasOneReading text → (r : Resolved) (s : SettingModel) (fs : List Fact) (p : Id) (dep g : Text) (b : Bool) → IsReference text (weak dep g) → (IsTrue b ↔ DepIn r s fs p dep g) → IsTrue b ↔ TogglingIn r s fs p text
-toggling_weak {text} h r s fs p dep g b x told = (there, λ v. told.1 (v true dep g x))
-  where
-    there : IsTrue b → (weakly : Bool) (d n : Text) → IsReference text (toggling weakly d n) → DepIn r s fs p d n
-    there t false d n y = absurd (let e : weak dep g ≡ strong d n = one_form h _ _ x y in cc)
-    there t true d n y =
-        let e : weak dep g ≡ weak d n = one_form h _ _ x y in
-        let one : dep ≡ d = cc in
-        let other : g ≡ n = cc in
-        subst (λ m. DepIn r s fs p d m) other (subst (λ m. DepIn r s fs p m g) one (told.0 t))
+-- and one to a feature of another crate toggles that
+pub toggling_in : {text : Text} → HasOneReading text → (r : Resolved) (s : SettingModel) (fs : List Fact) (p : Id) (form : Bool) (dep g : Text) (b : Bool) → IsReference text (toggling form dep g) → (IsTrue b ↔ DepIn r s fs p dep g)
+    → IsTrue b ↔ TogglingIn r s fs p text
+toggling_in {text} h r s fs p form dep g b x told = (
+  λ t weakly d n y. (
+      let same = same_toggling form weakly dep d g n (one_form h _ _ x y) in
+      subst (λ m. DepIn r s fs p d m) same.2 (subst (λ m. DepIn r s fs p m g) same.1 (told.0 t))),
+  λ v. told.1 (v form dep g x),
+)
 
 -- a reference that asks for what it names
 pub asked_told : {text : Text} → HasOneReading text → (r : Resolved) (s : SettingModel) (fs : List Fact) (p : Id) (a : Reference) (dep : Text) (b : Bool) → IsReference text a → Demands a dep

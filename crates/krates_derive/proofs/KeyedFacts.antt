@@ -1,16 +1,16 @@
 -- A list of facts that is inserted into a set, fact by fact.
-use Rattle.std.proofs.Common.{◌≡◌, ◌↔◌, ◌<◌, ◌≤◌, ℕ, ◌+◌, List, [], ◌∷◌, ◌++◌, length, get_or, take, Bool, true, false, cond, IsTrue, Contains, inl, inr, refl, sym, ap, ◌∙◌, subst, arith}
+use Rattle.std.proofs.Common.{◌≡◌, ◌↔◌, ◌<◌, ◌≤◌, ℕ, ◌+◌, List, [], ◌∷◌, ◌++◌, length, get_or, take, Bool, true, false, cond, IsTrue, Contains, inl, inr, refl, sym, ap, ◌∙◌, subst}
 use Rattle.std.proofs.lemmas.List.{take_more, take_all, map-append}
 use Rattle.std.proofs.lemmas.List.Elements.{Contains-append_left, Contains-push, Contains-push_cases}
 use Rattle.std.specs.BTreeMap.{is_at}
 use Rattle.std.specs.BTreeSet.{BTreeSet, contains}
 use Rattle.std.specs.Ordering.{is_eq}
-use Rattle.krates_derive.specs.FactKey.{key_cmp, key_view, pair_cmp}
-use Rattle.krates_derive.specs.FactSet.{HasBetween, HasKeys, HasPairs}
+use Rattle.krates_derive.specs.FactRef.{fact_cmp, fact_of_ref}
+use Rattle.krates_derive.specs.FactSet.{HasBetween, HasKeys, HasPairs, pair_cmp}
 use Rattle.krates_rules.specs.StepViews.{fact_view, facts_view}
 use Rattle.krates_rules.specs.declared.derivation.Fact.{Fact as ToldFact}
-use Rattle.krates_derive.specs.declared.fact_key.FactKey.{FactKey}
-use Rattle.krates_derive.specs.declared.fact_key.Pair.{Pair}
+use Rattle.krates_derive.specs.declared.fact_ref.FactRef.{FactRef}
+use Rattle.krates_derive.specs.declared.fact_set.Pair.{Pair}
 use Rattle.krates_rules.proofs.DistinctIds.{OrderTellsSame}
 use Rattle.krates_rules.proofs.PutElements.{equal_is, is_equal, none_there, put_step}
 use Rattle.krates_derive.proofs.KeyOrder.{key_from, key_to, order_of_pair, pair_from, pair_to}
@@ -19,14 +19,14 @@ use Rattle.krates_rules.specs.Facts.{Id, Edge, Fact, Kept}
 use Rattle.krates_rules.specs.Resolved.{id_of}
 
 -- a set without keys has no fact
-pub keys_none : (set : BTreeSet FactKey) → set.keys ≡ [] → HasKeys set []
-keys_none set e k = rw e (λ t. absurd cc, λ c. absurd (none_there (key_view k) c))
+pub keys_none : (set : BTreeSet FactRef) → set.keys ≡ [] → HasKeys set []
+keys_none set e k = rw e (λ t. absurd cc, λ c. absurd (none_there (fact_of_ref k) c))
 
-keys_put : OrderTellsSame → (old new : BTreeSet FactKey) (fs : List Fact) (k : FactKey) → ((q : FactKey) → contains key_cmp new q ≡ cond (is_at (key_cmp k) q) true (contains key_cmp old q)) → HasKeys old fs
-    → HasKeys new (fs ++ key_view k ∷ [])
+keys_put : OrderTellsSame → (old new : BTreeSet FactRef) (fs : List Fact) (k : FactRef) → ((q : FactRef) → contains fact_cmp new q ≡ cond (is_at (fact_cmp k) q) true (contains fact_cmp old q)) → HasKeys old fs
+    → HasKeys new (fs ++ fact_of_ref k ∷ [])
 keys_put tells old new fs k grown h q =
-    subst (λ (b : Bool). IsTrue b ↔ Contains (fs ++ key_view k ∷ []) (key_view q)) (sym (grown q))
-    (put_step (is_eq (key_cmp k q)) (contains key_cmp old q) fs (key_view k) (key_view q) (λ t. key_to tells k q (is_equal (key_cmp k q) t)) (λ e. equal_is (key_cmp k q) (key_from tells k q e)) (h q))
+    subst (λ (b : Bool). IsTrue b ↔ Contains (fs ++ fact_of_ref k ∷ []) (fact_of_ref q)) (sym (grown q))
+    (put_step (is_eq (fact_cmp k q)) (contains fact_cmp old q) fs (fact_of_ref k) (fact_of_ref q) (λ t. key_to tells k q (is_equal (fact_cmp k q) t)) (λ e. equal_is (fact_cmp k q) (key_from tells k q e)) (h q))
 
 -- one more fact of the list
 seen_step : (xs : List ToldFact) (i : ℕ) (x : ToldFact) → i < length xs → x ≡ get_or xs i x → facts_view (take i xs) ++ fact_view x ∷ [] ≡ facts_view (take (i + 1) xs)
@@ -34,12 +34,12 @@ seen_step xs i x lt is =
     let more = take_more xs i x lt ∙ ap (λ y. take i xs ++ y ∷ []) (sym is) in
     sym (ap facts_view more ∙ map-append fact_view (take i xs) (x ∷ []))
 
-pub keys_more : OrderTellsSame → (old new : BTreeSet FactKey) (xs : List ToldFact) (i : ℕ) (x : ToldFact) (k : FactKey) → key_view k ≡ fact_view x → i < length xs → x ≡ get_or xs i x
-    → ((q : FactKey) → contains key_cmp new q ≡ cond (is_at (key_cmp k) q) true (contains key_cmp old q)) → HasKeys old (facts_view (take i xs)) → HasKeys new (facts_view (take (i + 1) xs))
+pub keys_more : OrderTellsSame → (old new : BTreeSet FactRef) (xs : List ToldFact) (i : ℕ) (x : ToldFact) (k : FactRef) → fact_of_ref k ≡ fact_view x → i < length xs → x ≡ get_or xs i x
+    → ((q : FactRef) → contains fact_cmp new q ≡ cond (is_at (fact_cmp k) q) true (contains fact_cmp old q)) → HasKeys old (facts_view (take i xs)) → HasKeys new (facts_view (take (i + 1) xs))
 keys_more tells old new xs i x k seen lt is grown h =
     subst (HasKeys new) (ap (λ (f : Fact). facts_view (take i xs) ++ f ∷ []) seen ∙ seen_step xs i x lt is) (keys_put tells old new (facts_view (take i xs)) k grown h)
 
-pub keys_all : (set : BTreeSet FactKey) (xs : List ToldFact) (i : ℕ) → length xs ≤ i → HasKeys set (facts_view (take i xs)) → HasKeys set (facts_view xs)
+pub keys_all : (set : BTreeSet FactRef) (xs : List ToldFact) (i : ℕ) → length xs ≤ i → HasKeys set (facts_view (take i xs)) → HasKeys set (facts_view xs)
 keys_all set xs i le h = subst (λ (ys : List ToldFact). HasKeys set (facts_view ys)) (take_all i xs le) h
 
 -- ---- crates of edges

@@ -1,3 +1,4 @@
+pub mod Answered
 pub mod Givings
 pub mod KeyOrder
 pub mod KeyedFacts

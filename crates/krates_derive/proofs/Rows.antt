@@ -1,8 +1,8 @@
 -- The rules row by row: what each of them asks.
 use Rattle.std.proofs.Common.{◌≡◌, ◌↔◌, ℕ, [], ◌∷◌, Bool, true, false, inl, inr, refl, sym, subst}
 use Rattle.krates_cm.specs.Document.{Text}
-use Rattle.krates_derive.specs.Following.{MayKeep, MustKeep, AsksForFeature, TogglesOver}
-use Rattle.krates_derive.specs.Referring.{Asks}
+use Rattle.krates_derive.specs.Following.{MayKeep, AsksForFeature, TogglesOver}
+use Rattle.krates_derive.specs.Referring.{Asks, Toggles}
 use Rattle.krates_rules.specs.Facts.{Id, Edge, Crate, Feature, Kept, Toggled}
 use Rattle.krates_rules.specs.Features.{HasReference, ListsFeature}
 use Rattle.krates_rules.specs.Questions.{questions, Stands}
@@ -55,31 +55,32 @@ named_row r s n p c f g = (to, back n c)
     back : (n : ℕ) (c : Id) → Rule (questions r s) n (Feature p f ∷ []) (Feature c g) → (n ≡ 3) × (p ≡ c) × HasReference r p f (simple g) × ListsFeature r p g
     back n c (named refers lists) = (refl, refl, refers, lists)
 
-pub asked_row : (r : Resolved) (s : SettingModel) (n : ℕ) (p : Id) (f : Text) (e : Edge) → ((n ≡ 4) × (p ≡ e.parent) × Asks r s e.parent f e.child × MayKeep r s e) ↔ Rule (questions r s) n (Feature p f ∷ []) (Kept e)
+pub asked_row : (r : Resolved) (s : SettingModel) (n : ℕ) (p : Id) (f : Text) (e : Edge) → ((n ≡ 4) × (p ≡ e.parent) × Asks r s p f e.child × MayKeep r s e true) ↔ Rule (questions r s) n (Feature p f ∷ []) (Kept e)
 unfolding questions
 asked_row r s n p f e = (to, back n p)
   where
-    to : (n ≡ 4) × (p ≡ e.parent) × Asks r s e.parent f e.child × MayKeep r s e → Rule (questions r s) n (Feature p f ∷ []) (Kept e)
-    to (is, same, a, m) =
+    to : (n ≡ 4) × (p ≡ e.parent) × Asks r s p f e.child × MayKeep r s e true → Rule (questions r s) n (Feature p f ∷ []) (Kept e)
+    to (is, same, asks, m) =
+        let a = subst (λ i. Asks r s i f e.child) same asks in
         subst (λ k. Rule (questions r s) k (Feature p f ∷ []) (Kept e)) (sym is)
         (subst (λ i. Rule (questions r s) 4 (Feature i f ∷ []) (Kept e)) (sym same)
         (asked {e = e} {f = f} {d = m.dependency} (record { reference = a.reference; dep = a.dep; refers = a.refers; asks = a.asks; referent = a.referent }) (record { wanted = m.wanted; stands = m.stands })))
 
-    back : (n : ℕ) (p : Id) → Rule (questions r s) n (Feature p f ∷ []) (Kept e) → (n ≡ 4) × (p ≡ e.parent) × Asks r s e.parent f e.child × MayKeep r s e
-    back n p (asked {d = d} a o) = (refl, refl, record { reference = a.reference; dep = a.dep; refers = a.refers; asks = a.asks; referent = a.referent }, record { dependency = d; wanted = o.wanted; stands = o.stands })
+    back : (n : ℕ) (p : Id) → Rule (questions r s) n (Feature p f ∷ []) (Kept e) → (n ≡ 4) × (p ≡ e.parent) × Asks r s p f e.child × MayKeep r s e true
+    back n p (asked {d = d} a o) = (refl, refl, record { reference = a.reference; dep = a.dep; refers = a.refers; asks = a.asks; referent = a.referent }, record { dependency = d; wanted = o.wanted; taken = tt; stands = o.stands })
 
-pub required_row : (r : Resolved) (s : SettingModel) (n : ℕ) (p : Id) (e : Edge) → ((n ≡ 5) × (p ≡ e.parent) × MustKeep r s e) ↔ Rule (questions r s) n (Crate p ∷ []) (Kept e)
+pub required_row : (r : Resolved) (s : SettingModel) (n : ℕ) (p : Id) (e : Edge) → ((n ≡ 5) × (p ≡ e.parent) × MayKeep r s e false) ↔ Rule (questions r s) n (Crate p ∷ []) (Kept e)
 unfolding questions
 required_row r s n p e = (to, back n p)
   where
-    to : (n ≡ 5) × (p ≡ e.parent) × MustKeep r s e → Rule (questions r s) n (Crate p ∷ []) (Kept e)
+    to : (n ≡ 5) × (p ≡ e.parent) × MayKeep r s e false → Rule (questions r s) n (Crate p ∷ []) (Kept e)
     to (is, same, m) =
         subst (λ k. Rule (questions r s) k (Crate p ∷ []) (Kept e)) (sym is)
         (subst (λ i. Rule (questions r s) 5 (Crate i ∷ []) (Kept e)) (sym same)
-        (required {e = e} {d = m.dependency} (record { wanted = m.wanted; stands = m.stands }) m.required))
+        (required {e = e} {d = m.dependency} (record { wanted = m.wanted; stands = m.stands }) m.taken))
 
-    back : (n : ℕ) (p : Id) → Rule (questions r s) n (Crate p ∷ []) (Kept e) → (n ≡ 5) × (p ≡ e.parent) × MustKeep r s e
-    back n p (required {d = d} o h) = (refl, refl, record { dependency = d; wanted = o.wanted; required = h; stands = o.stands })
+    back : (n : ℕ) (p : Id) → Rule (questions r s) n (Crate p ∷ []) (Kept e) → (n ≡ 5) × (p ≡ e.parent) × MayKeep r s e false
+    back n p (required {d = d} o h) = (refl, refl, record { dependency = d; wanted = o.wanted; taken = h; stands = o.stands })
 
 pub target_row : (q : Questions) (n : ℕ) (e : Edge) (c : Id) → ((n ≡ 5) × (e.child ≡ c)) ↔ Rule q n (Kept e ∷ []) (Crate c)
 target_row q n e c = (to, back n c)
@@ -126,30 +127,25 @@ number_of false = 4
 pub toggled_row : (r : Resolved) (s : SettingModel) (weakly : Bool) (p : Id) (f : Text) (e : Edge) (a c : Id) (g : Text)
     → TogglesOver r s weakly p f e a c g ↔ Rule (questions r s) (number_of weakly) (Feature p f ∷ Kept e ∷ []) (Toggled a c g)
 unfolding questions
-toggled_row r s true p f e a c g = (to, back 7 refl p a c)
+toggled_row r s weakly p f e a c g = (to, back weakly (number_of weakly) refl p a c)
   where
-    to : TogglesOver r s true p f e a c g → Rule (questions r s) 7 (Feature p f ∷ Kept e ∷ []) (Toggled a c g)
-    to (same, by, child, t, lists) =
-        subst (λ i. Rule (questions r s) 7 (Feature i f ∷ Kept e ∷ []) (Toggled a c g)) (sym same)
-        (subst (λ i. Rule (questions r s) 7 (Feature e.parent f ∷ Kept e ∷ []) (Toggled i c g)) by
-        (subst (λ i. Rule (questions r s) 7 (Feature e.parent f ∷ Kept e ∷ []) (Toggled e.parent i g)) child
-        (toggled_weakly {e = e} {f = f} {g = g} {c = t.dep} t.refers t.referent lists)))
+    gives : (weakly : Bool) → Toggles r s e.parent weakly f e.child g → ListsFeature r e.child g → Rule (questions r s) (number_of weakly) (Feature e.parent f ∷ Kept e ∷ []) (Toggled e.parent e.child g)
+    gives true t lists = toggled_weakly {e = e} {f = f} {g = g} {c = t.dep} t.refers t.referent lists
+    gives false t lists = toggled_strongly {e = e} {f = f} {g = g} {c = t.dep} t.refers t.referent lists
 
-    back : (n : ℕ) → n ≡ 7 → (p a c : Id) → Rule (questions r s) n (Feature p f ∷ Kept e ∷ []) (Toggled a c g) → TogglesOver r s true p f e a c g
-    back n is p a c (toggled_weakly {c = dep} refers referent lists) = (refl, refl, refl, record { dep = dep; refers = refers; referent = referent }, lists)
-    back n is p a c (toggled_strongly refers referent lists) = absurd cc
-toggled_row r s false p f e a c g = (to, back 4 refl p a c)
-  where
-    to : TogglesOver r s false p f e a c g → Rule (questions r s) 4 (Feature p f ∷ Kept e ∷ []) (Toggled a c g)
+    to : TogglesOver r s weakly p f e a c g → Rule (questions r s) (number_of weakly) (Feature p f ∷ Kept e ∷ []) (Toggled a c g)
     to (same, by, child, t, lists) =
-        subst (λ i. Rule (questions r s) 4 (Feature i f ∷ Kept e ∷ []) (Toggled a c g)) (sym same)
-        (subst (λ i. Rule (questions r s) 4 (Feature e.parent f ∷ Kept e ∷ []) (Toggled i c g)) by
-        (subst (λ i. Rule (questions r s) 4 (Feature e.parent f ∷ Kept e ∷ []) (Toggled e.parent i g)) child
-        (toggled_strongly {e = e} {f = f} {g = g} {c = t.dep} t.refers t.referent lists)))
+        let toggles = subst (λ i. Toggles r s i weakly f e.child g) same (subst (λ i. Toggles r s p weakly f i g) (sym child) t) in
+        subst (λ i. Rule (questions r s) (number_of weakly) (Feature i f ∷ Kept e ∷ []) (Toggled a c g)) (sym same)
+        (subst (λ i. Rule (questions r s) (number_of weakly) (Feature e.parent f ∷ Kept e ∷ []) (Toggled i c g)) by
+        (subst (λ i. Rule (questions r s) (number_of weakly) (Feature e.parent f ∷ Kept e ∷ []) (Toggled e.parent i g)) child
+        (gives weakly toggles (subst (λ i. ListsFeature r i g) (sym child) lists))))
 
-    back : (n : ℕ) → n ≡ 4 → (p a c : Id) → Rule (questions r s) n (Feature p f ∷ Kept e ∷ []) (Toggled a c g) → TogglesOver r s false p f e a c g
-    back n is p a c (toggled_weakly refers referent lists) = absurd cc
-    back n is p a c (toggled_strongly {c = dep} refers referent lists) = (refl, refl, refl, record { dep = dep; refers = refers; referent = referent }, lists)
+    back : (weakly : Bool) (n : ℕ) → n ≡ number_of weakly → (p a c : Id) → Rule (questions r s) n (Feature p f ∷ Kept e ∷ []) (Toggled a c g) → TogglesOver r s weakly p f e a c g
+    back true n is p a c (toggled_weakly {c = dep} refers referent lists) = (refl, refl, refl, record { dep = dep; refers = refers; referent = referent }, lists)
+    back true n is p a c (toggled_strongly refers referent lists) = absurd cc
+    back false n is p a c (toggled_weakly refers referent lists) = absurd cc
+    back false n is p a c (toggled_strongly {c = dep} refers referent lists) = (refl, refl, refl, record { dep = dep; refers = refers; referent = referent }, lists)
 
 -- no other rule toggles
 pub no_other_toggle : (q : Questions) (n : ℕ) (p : Id) (f : Text) (e : Edge) (a c : Id) (g : Text) → (n ≡ 4 → ⊥) → (n ≡ 7 → ⊥) → Rule q n (Feature p f ∷ Kept e ∷ []) (Toggled a c g) → ⊥

@@ -1,6 +1,8 @@
--- Facts and edges whose parts are borrowed, as the rules see them.
+-- Facts and edges whose parts are borrowed, as the rules see them, and their order.
 use Rattle.std.specs.Prelude.{option_map}
+use Rattle.std.specs.declared.cmp.Ordering.{Ordering}
 use Rattle.krates_cm.specs.Document.{text_view}
+use Rattle.krates_derive.specs.contracts.fact_ref.FactRefOrd.TheImpl as fact_order
 use Rattle.krates_derive.specs.declared.fact_ref.FactRef.{FactRef}
 use Rattle.krates_derive.specs.declared.fact_ref.FactRef.TheVariants as fact_ref
 use Rattle.krates_derive.specs.declared.fact_ref.EdgeRef.{EdgeRef}
@@ -33,3 +35,7 @@ fact_of_ref (fact_ref.Crate krate) = Crate (id_of krate.now)
 fact_of_ref (fact_ref.Feature feature) = feature_of_ref feature
 fact_of_ref (fact_ref.Kept edge) = Kept (edge_of_ref edge)
 fact_of_ref (fact_ref.Toggled toggle) = toggle_of_ref toggle
+
+-- the derived order
+abbrev pub fact_cmp : FactRef → FactRef → Ordering
+fact_cmp = (fact_order.ghosts).cmp

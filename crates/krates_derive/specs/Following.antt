@@ -1,11 +1,11 @@
 -- What a document and a setting say about single facts, for each row of the rules.
-use Rattle.std.specs.Prelude.{◌≡◌, ◌⊎◌, ℕ, Bool, IsTrue, Contains, true, false}
+use Rattle.std.specs.Prelude.{◌≡◌, ◌⊎◌, ℕ, Bool, Contains, true}
 use Rattle.krates_cm.specs.Document.{Text, DependencyModel}
+use Rattle.krates_derive.specs.Giving.{IsTaken}
 use Rattle.krates_derive.specs.Referring.{Asks, Toggles}
 use Rattle.krates_rules.specs.Facts.{Id, Edge}
 use Rattle.krates_rules.specs.Features.{HasReference, ListsFeature}
 use Rattle.krates_rules.specs.Questions.{IsDeclaredAs, IsWanted, Stands}
-use Rattle.krates_rules.specs.Referent.{IsReferent}
 use Rattle.krates_rules.specs.Resolved.{Resolved}
 use Rattle.krates_rules.specs.Roots.{IsRoot}
 use Rattle.krates_rules.specs.Rules.{default_name}
@@ -26,23 +26,17 @@ IsNamedBy r rule p f c g = (rule ≡ 3) × (p ≡ c) × HasReference r p f (simp
 
 -- a feature of the crate asks for the edge
 abbrev pub IsAskedBy : Resolved → SettingModel → ℕ → Id → Text → Edge → Type 0
-IsAskedBy r s rule p f e = (rule ≡ 4) × (p ≡ e.parent) × Asks r s e.parent f e.child
+IsAskedBy r s rule p f e = (rule ≡ 4) × (p ≡ e.parent) × Asks r s p f e.child
 
 -- the edge goes to the crate, which lists the feature
 abbrev pub IsChildWith : Resolved → ℕ → Edge → Id → Text → Type 0
 IsChildWith r rule e c g = (rule ≡ 6) × (e.child ≡ c) × ListsFeature r e.child g
 
--- the edge may be kept
-pub record MayKeep (r : Resolved) (s : SettingModel) (e : Edge) : Type 0 where
+-- the edge may be kept: it is wanted as a dependency that is taken, and its child stands
+pub record MayKeep (r : Resolved) (s : SettingModel) (e : Edge) (asked : Bool) : Type 0 where
   pub dependency : DependencyModel
   pub wanted : IsWanted r s e dependency
-  pub stands : Stands r s e.child
-
--- and it isn't optional
-pub record MustKeep (r : Resolved) (s : SettingModel) (e : Edge) : Type 0 where
-  pub dependency : DependencyModel
-  pub wanted : IsWanted r s e dependency
-  pub required : dependency.optional ≡ false
+  pub taken : IsTaken asked dependency
   pub stands : Stands r s e.child
 
 -- the dependency enables the feature by default
@@ -59,11 +53,7 @@ pub record AsksForFeature (r : Resolved) (e : Edge) (g : Text) : Type 0 where
   pub declared : IsDeclaredAs r e dependency
   pub asks : AsksFeature dependency g
 
--- the reference has the right form, it names this feature, and its dependency's name means the child
-abbrev pub IsToggleOf : Resolved → SettingModel → Bool → Id → Text → Text → Id → Text → Type 0
-IsToggleOf r s is_form p dep g child name = IsTrue is_form × (g ≡ name) × IsReferent r s.all_named p dep child
-
--- a feature of the edge's parent toggles a feature of its child, weakly or strongly
+-- the edge goes from the crate, whose feature toggles a feature of the edge's child, weakly or strongly
 abbrev pub TogglesOver : Resolved → SettingModel → Bool → Id → Text → Edge → Id → Id → Text → Type 0
 TogglesOver r s weakly p f e a c g =
-    (p ≡ e.parent) × (e.parent ≡ a) × (e.child ≡ c) × Toggles r s e.parent weakly f e.child g × ListsFeature r e.child g
+    (p ≡ e.parent) × (e.parent ≡ a) × (e.child ≡ c) × Toggles r s p weakly f c g × ListsFeature r c g

@@ -24,7 +24,7 @@ pub record ToggledIn (r : Resolved) (fs : List Fact) (p c : Id) (g : Text) : Typ
   pub toggled : ListsFeature r c g → Contains fs (Toggled p c g)
   pub listed : LacksFeature r c g → ⊥
 
--- whether the dependency is taken: it is asked for, or isn't optional
+-- the dependency is taken: it is asked for, or isn't optional
 abbrev pub IsTaken : Bool → DependencyModel → Type 0
 IsTaken true d = ⊤
 IsTaken false d = d.optional ≡ false
@@ -114,13 +114,9 @@ FactIn r s fs _ = ⊤
 
 -- ---- lists of them
 
--- all features that the crate's node lists stand in the list
-abbrev pub FeaturesIn : Resolved → List Fact → Id → Type 0
-FeaturesIn r fs i = (f : Text) → ListsFeature r i f → Contains fs (Feature i f)
-
--- the crate stands in the list with them
+-- the crate stands in the list with all features that its node lists
 abbrev pub StockIn : Resolved → List Fact → Id → Type 0
-StockIn r fs i = Contains fs (Crate i) × FeaturesIn r fs i
+StockIn r fs i = Contains fs (Crate i) × ((f : Text) → ListsFeature r i f → Contains fs (Feature i f))
 
 -- the edges from one crate to another, of all kinds and for all targets
 abbrev pub EdgesIn : Resolved → SettingModel → List Fact → Id → Id → Bool → Type 0

@@ -1,5 +1,4 @@
 pub mod ClosureCheck
-pub mod FactKey
 pub mod FactRef
 pub mod FactSet
 pub mod Following

@@ -1,5 +1,5 @@
 -- What the references of a feature ask for.
-use Rattle.std.specs.Prelude.{Bool, true, false, List, Contains}
+use Rattle.std.specs.Prelude.{◌≡◌, Bool, true, false}
 use Rattle.krates_cm.specs.Document.{Text}
 use Rattle.krates_rules.specs.Facts.{Id}
 use Rattle.krates_rules.specs.Features.{HasReference}
@@ -7,11 +7,7 @@ use Rattle.krates_rules.specs.Referent.{IsReferent}
 use Rattle.krates_rules.specs.References.{Demands}
 use Rattle.krates_rules.specs.Resolved.{Resolved}
 use Rattle.krates_rules.specs.Setting.{SettingModel}
-use Rattle.krates_text.specs.FeatureReference.{Reference, IsReference, simple, strong, weak}
-
--- one of the texts is the feature of this name
-abbrev pub HasSimple : List Text → Text → Type 0
-HasSimple values name = (text : Text) × Contains values text × IsReference text (simple name)
+use Rattle.krates_text.specs.FeatureReference.{Reference, IsReference, strong, weak}
 
 -- the text is a reference of the crate that asks for the edges to the child
 pub record AsksBy (r : Resolved) (s : SettingModel) (p : Id) (text : Text) (child : Id) : Type 0 where
@@ -20,10 +16,6 @@ pub record AsksBy (r : Resolved) (s : SettingModel) (p : Id) (text : Text) (chil
   pub dep : Text
   pub asks : Demands reference dep
   pub referent : IsReferent r s.all_named p dep child
-
--- one of the texts is one
-abbrev pub AsksAmong : Resolved → SettingModel → Id → List Text → Id → Type 0
-AsksAmong r s p values child = (text : Text) × Contains values text × AsksBy r s p text child
 
 -- a reference of the crate's feature asks for the edges to the child
 pub record Asks (r : Resolved) (s : SettingModel) (p : Id) (f : Text) (child : Id) : Type 0 where
@@ -38,15 +30,15 @@ abbrev pub toggling : Bool → Text → Text → Reference
 toggling true dep g = weak dep g
 toggling false dep g = strong dep g
 
+-- the reference names this feature, and its dependency's name means the child
+abbrev pub IsToggleOf : Resolved → SettingModel → Id → Text → Text → Id → Text → Type 0
+IsToggleOf r s p dep g child name = (g ≡ name) × IsReferent r s.all_named p dep child
+
 -- the text is a reference of the crate, weak or strong, to this feature of the child
 pub record TogglesBy (r : Resolved) (s : SettingModel) (p : Id) (weakly : Bool) (text : Text) (child : Id) (g : Text) : Type 0 where
   pub dep : Text
   pub is : IsReference text (toggling weakly dep g)
   pub referent : IsReferent r s.all_named p dep child
-
--- one of the texts is one
-abbrev pub TogglesAmong : Resolved → SettingModel → Id → Bool → List Text → Id → Text → Type 0
-TogglesAmong r s p weakly values child g = (text : Text) × Contains values text × TogglesBy r s p weakly text child g
 
 -- a reference of the crate's feature, weak or strong, is to this feature of the child
 pub record Toggles (r : Resolved) (s : SettingModel) (p : Id) (weakly : Bool) (f : Text) (child : Id) (g : Text) : Type 0 where

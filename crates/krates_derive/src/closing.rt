@@ -5,20 +5,20 @@
 ghost use Rattle.std.specs.Prelude.{◌↔◌, IfOk, IsTrue, map};
 ghost use Rattle.krates_cm.specs.Document.{dependency_view, text_view};
 ghost use Rattle.krates_derive.specs.ClosureCheck.{document_in, facts_in};
-ghost use Rattle.krates_derive.specs.Giving.{AskedAmongIn, AskedByIn, ChildIn, CrateIn, DefaultIn, DepIn, EdgeIn, EdgesIn, EdgesToIn, FeaturesIn, IsTaken, KeptIn, MeantIn, NamedIn, NamesIn, RootIn, SimpleAmongIn, SimpleIn, StockIn, TheseRootsIn, ToggledIn, TogglingAmongIn, TogglingIn, UsedIn};
+ghost use Rattle.krates_derive.specs.Giving.{AskedAmongIn, AskedByIn, ChildIn, CrateIn, DefaultIn, DepIn, EdgeIn, EdgesIn, EdgesToIn, KeptIn, MeantIn, NamedIn, NamesIn, RootIn, SimpleAmongIn, SimpleIn, StockIn, TheseRootsIn, ToggledIn, TogglingAmongIn, TogglingIn, UsedIn};
 ghost use Rattle.krates_derive.specs.FactRef.{edge_of_ref};
 ghost use Rattle.krates_questions.specs.DocumentAnswers.{lent_ids};
 ghost use Rattle.krates_rules.specs.Resolved.{id_of};
 
-use crate::fact_key::{FactKey, Pair, edge_key};
-use crate::fact_ref::{EdgeRef, edge_for};
+use crate::fact_ref::{EdgeRef, FactRef, ToggleRef};
 use crate::fact_set::FactSet;
-use crate::following::{declaration_of, need_of};
+use crate::following::is_taken;
 use krates_cm::Dependency;
 use krates_document::Setting;
 use krates_ids::Kid;
 use krates_questions::{Availability, Document, Need};
-use krates_text::{features, laws};
+use krates_text::features::{Feature, ParsedFeature};
+use krates_text::laws;
 use std::alloc::{AllocError, Global};
 
 /// What the check of a list of facts is made against: a document, a setting, and the list.
@@ -67,19 +67,8 @@ fn is_root_in<'a>(check: &ClosureCheck<'a, '_>, krate: &'a Kid) -> bool
 fn is_stock_in<'a>(check: &ClosureCheck<'a, '_>, krate: &'a Kid) -> bool
     ensures { IsTrue result ↔ StockIn (document_in check.now) (facts_in check.now) (id_of krate.now) }
 {
-    check.facts.has(&FactKey::Crate(krate)) && are_features_in(check, krate)
-}
-
-/// Whether the features of a root stand in the list.
-fn are_features_in<'a>(check: &ClosureCheck<'a, '_>, krate: &'a Kid) -> bool
-    ensures { IsTrue result ↔ FeaturesIn (document_in check.now) (facts_in check.now) (id_of krate.now) }
-{
-    for name in check.document.features(krate) {
-        if !check.facts.has(&FactKey::Feature(krate, name.as_str())) {
-            return false;
-        }
-    }
-    true
+    let names = check.document.features(krate);
+    check.facts.has_crate(krate) && are_names_in(check, krate, names)
 }
 
 // ---- facts
@@ -103,10 +92,10 @@ pub fn is_kept_in<'a>(check: &ClosureCheck<'a, '_>, edge: &EdgeRef<'a>) -> Resul
     ensures { IfOk result
         (λ b. IsTrue b ↔ KeptIn (document_in check.now) (facts_in check.now) (edge_of_ref edge.now)) }
 {
-    if !check.facts.has(&FactKey::Crate(edge.child)) {
+    if !check.facts.has_crate(edge.child) {
         return Ok(false);
     }
-    match declaration_of(check.document, edge)? {
+    match edge.declaration(check.document)? {
         Some(dependency) => Ok(is_used_in(check, edge.child, dependency)),
         None => Ok(true),
     }
@@ -126,7 +115,7 @@ fn are_edges_in<'a>(
         (id_of krate.now) (id_of child.now) asked) }
 {
     for info in check.document.kinds(krate, child) {
-        let edge = edge_for(krate, child, info);
+        let edge = EdgeRef::between(krate, child, info);
         if !is_edge_in(check, &edge, asked)? {
             return Ok(false);
         }
@@ -144,7 +133,7 @@ fn is_edge_in<'a>(
         (λ b. IsTrue b ↔ EdgeIn (document_in check.now) check.now.setting.now (facts_in check.now)
         (edge_of_ref edge.now) asked) }
 {
-    match need_of(check.alloc, check.document, check.setting, edge)? {
+    match edge.need(check.alloc, check.document, check.setting)? {
         Need::Nothing => Ok(true),
         Need::Undeclared => Ok(asked),
         Need::Wanted(dependency) => {
@@ -156,20 +145,13 @@ fn is_edge_in<'a>(
     }
 }
 
-/// Whether a dependency is taken: if it is asked for, or isn't optional.
-fn is_taken(asked: bool, dependency: &Dependency) -> bool
-    ensures { IsTrue result ↔ IsTaken asked (dependency_view dependency.now) }
-{
-    asked || !dependency.optional
-}
-
 /// Whether a wanted edge stands in the list if its child stands, and nothing is lost.
 fn is_child_in<'a>(check: &ClosureCheck<'a, '_>, edge: &EdgeRef<'a>) -> bool
     ensures { IsTrue result
         ↔ ChildIn (document_in check.now) check.now.setting.now (facts_in check.now) (edge_of_ref edge.now) }
 {
     match check.document.availability(check.setting, edge.child) {
-        Availability::Available(_) => check.facts.has(&FactKey::Kept(edge_key(edge))),
+        Availability::Available(_) => check.facts.has(&FactRef::Kept(*edge)),
         Availability::NoPackage => false,
         Availability::NoNode => false,
         Availability::Excluded => true,
@@ -205,11 +187,10 @@ fn is_asked_in<'a>(
         (id_of krate.now) text.now) }
 {
     laws::one_reference();
-    match features::ParsedFeature::from(text).feat() {
-        features::Feature::Simple(_) => Ok(true),
-        features::Feature::Krate(dep) => are_edges_to_in(check, krate, dep),
-        features::Feature::Strong { krate: dep, .. } => are_edges_to_in(check, krate, dep),
-        features::Feature::Weak { .. } => Ok(true),
+    match ParsedFeature::from(text).feat() {
+        Feature::Krate(dep) => are_edges_to_in(check, krate, dep),
+        Feature::Strong { krate: dep, .. } => are_edges_to_in(check, krate, dep),
+        _ => Ok(true),
     }
 }
 
@@ -255,11 +236,9 @@ fn is_simple_in<'a>(check: &ClosureCheck<'a, '_>, krate: &'a Kid, text: &'a str)
         ↔ SimpleIn (document_in check.now) (facts_in check.now) (id_of krate.now) text.now }
 {
     laws::one_reference();
-    match features::ParsedFeature::from(text).feat() {
-        features::Feature::Simple(name) => is_named_in(check, krate, name),
-        features::Feature::Krate(_) => true,
-        features::Feature::Strong { .. } => true,
-        features::Feature::Weak { .. } => true,
+    match ParsedFeature::from(text).feat() {
+        Feature::Simple(name) => is_named_in(check, krate, name),
+        _ => true,
     }
 }
 
@@ -292,17 +271,16 @@ fn is_toggling_in<'a>(
         (id_of krate.now) text.now) }
 {
     laws::one_reference();
-    match features::ParsedFeature::from(text).feat() {
-        features::Feature::Simple(_) => Ok(true),
-        features::Feature::Krate(_) => Ok(true),
-        features::Feature::Strong {
+    match ParsedFeature::from(text).feat() {
+        Feature::Strong {
             krate: dep,
             feature,
         } => is_dep_in(check, krate, dep, feature),
-        features::Feature::Weak {
+        Feature::Weak {
             krate: dep,
             feature,
         } => is_dep_in(check, krate, dep, feature),
+        _ => Ok(true),
     }
 }
 
@@ -359,13 +337,9 @@ fn is_toggled_in<'a>(
     if !check.document.lists(krate, name) {
         return false;
     }
-    check.facts.has(&FactKey::Toggled(
-        Pair {
-            parent: by,
-            child: krate,
-        },
-        name,
-    ))
+    check
+        .facts
+        .has(&FactRef::Toggled(ToggleRef { by, krate, name }))
 }
 
 /// Whether a feature stands in the list if its crate lists it, and isn't lost.
@@ -376,7 +350,7 @@ fn is_named_in<'a>(check: &ClosureCheck<'a, '_>, krate: &'a Kid, name: &'a str) 
     if !check.document.lists(krate, name) {
         return false;
     }
-    check.facts.has(&FactKey::Feature(krate, name))
+    check.facts.has_feature(krate, name)
 }
 
 /// Whether all that a declared dependency asks for stands in the list.
@@ -414,5 +388,5 @@ fn is_default_in<'a>(check: &ClosureCheck<'a, '_>, krate: &'a Kid, uses: bool) -
     if !check.document.lists(krate, "default") {
         return true;
     }
-    check.facts.has(&FactKey::Feature(krate, "default"))
+    check.facts.has_feature(krate, "default")
 }

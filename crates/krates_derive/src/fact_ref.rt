@@ -1,4 +1,4 @@
-//! Facts and their parts, borrowed.
+//! Facts and their parts, borrowed. Two facts compare as equal where they are the same.
 
 ghost use Rattle.std.specs.Prelude.{◌≡◌, IfOk};
 ghost use Rattle.krates_cm.specs.Document.{dep_kind_info_view};
@@ -14,7 +14,7 @@ use krates_rules::{DepKind, Fact};
 use std::alloc::AllocError;
 
 /// An edge, with its parts borrowed.
-#[derive(Clone, Copy)]
+#[derive(Clone, Copy, PartialEq, Eq, PartialOrd, Ord)]
 pub struct EdgeRef<'a> {
     /// The crate that has the dependency.
     pub parent: &'a Kid,
@@ -26,8 +26,33 @@ pub struct EdgeRef<'a> {
     pub cfg: &'a Option<String>,
 }
 
+impl<'a> EdgeRef<'a> {
+    /// The edge between two crates of one kind and for one target.
+    pub(crate) fn between(parent: &'a Kid, child: &'a Kid, info: &'a DepKindInfo) -> EdgeRef<'a>
+        ensures { edge_of_ref result ≡ edge_between (id_of parent.now) (id_of child.now)
+            (dep_kind_info_view info.now) }
+    {
+        EdgeRef {
+            parent,
+            child,
+            kind: DepKind::from(info.kind),
+            cfg: &info.target,
+        }
+    }
+
+    /// Its kind and its target.
+    pub(crate) fn info(&self) -> Result<DepKindInfo, AllocError>
+        ensures { IfOk result (λ info. dep_kind_info_view info ≡ kind_info_of (edge_of_ref self.now)) }
+    {
+        Ok(DepKindInfo {
+            kind: written(self.kind),
+            target: self.cfg.clone()?,
+        })
+    }
+}
+
 /// A feature, with its parts borrowed.
-#[derive(Clone, Copy)]
+#[derive(Clone, Copy, PartialEq, Eq, PartialOrd, Ord)]
 pub(crate) struct FeatureRef<'a> {
     /// The crate.
     pub krate: &'a Kid,
@@ -36,7 +61,7 @@ pub(crate) struct FeatureRef<'a> {
 }
 
 /// A toggled feature, with its parts borrowed.
-#[derive(Clone, Copy)]
+#[derive(Clone, Copy, PartialEq, Eq, PartialOrd, Ord)]
 pub(crate) struct ToggleRef<'a> {
     /// The crate whose feature toggles it.
     pub by: &'a Kid,
@@ -47,7 +72,7 @@ pub(crate) struct ToggleRef<'a> {
 }
 
 /// A fact whose parts are borrowed.
-#[derive(Clone, Copy)]
+#[derive(Clone, Copy, PartialEq, Eq, PartialOrd, Ord)]
 pub(crate) enum FactRef<'a> {
     /// The crate is kept.
     Crate(&'a Kid),
@@ -59,41 +84,43 @@ pub(crate) enum FactRef<'a> {
     Toggled(ToggleRef<'a>),
 }
 
-/// The fact, with its parts borrowed.
-pub(crate) fn fact_ref<'a>(fact: &'a Fact) -> FactRef<'a>
-    ensures { fact_of_ref result ≡ fact_view fact.now }
-{
-    match fact {
-        Fact::Crate(krate) => FactRef::Crate(krate),
-        Fact::Feature { krate, name } => {
-            FactRef::Feature(FeatureRef {
-                krate,
-                name: name.as_str(),
-            })
-        }
-        Fact::Kept {
-            parent,
-            child,
-            kind,
-            cfg,
-        } => {
-            FactRef::Kept(EdgeRef {
+impl<'a> FactRef<'a> {
+    /// The fact, with its parts borrowed.
+    pub(crate) fn of(fact: &'a Fact) -> FactRef<'a>
+        ensures { fact_of_ref result ≡ fact_view fact.now }
+    {
+        match fact {
+            Fact::Crate(krate) => FactRef::Crate(krate),
+            Fact::Feature { krate, name } => {
+                FactRef::Feature(FeatureRef {
+                    krate,
+                    name: name.as_str(),
+                })
+            }
+            Fact::Kept {
                 parent,
                 child,
-                kind: *kind,
+                kind,
                 cfg,
-            })
-        }
-        Fact::Toggled {
-            parent,
-            child,
-            name,
-        } => {
-            FactRef::Toggled(ToggleRef {
-                by: parent,
-                krate: child,
-                name: name.as_str(),
-            })
+            } => {
+                FactRef::Kept(EdgeRef {
+                    parent,
+                    child,
+                    kind: *kind,
+                    cfg,
+                })
+            }
+            Fact::Toggled {
+                parent,
+                child,
+                name,
+            } => {
+                FactRef::Toggled(ToggleRef {
+                    by: parent,
+                    krate: child,
+                    name: name.as_str(),
+                })
+            }
         }
     }
 }
@@ -106,28 +133,5 @@ fn written(kind: DepKind) -> DependencyKind
         DepKind::Normal => DependencyKind::Normal,
         DepKind::Build => DependencyKind::Build,
         DepKind::Dev => DependencyKind::Development,
-    }
-}
-
-/// The kind and the target of an edge.
-pub(crate) fn info_of(edge: &EdgeRef<'_>) -> Result<DepKindInfo, AllocError>
-    ensures { IfOk result (λ info. dep_kind_info_view info ≡ kind_info_of (edge_of_ref edge.now)) }
-{
-    Ok(DepKindInfo {
-        kind: written(edge.kind),
-        target: edge.cfg.clone()?,
-    })
-}
-
-/// The edge between two crates of one kind and for one target.
-pub(crate) fn edge_for<'a>(parent: &'a Kid, child: &'a Kid, info: &'a DepKindInfo) -> EdgeRef<'a>
-    ensures { edge_of_ref result ≡ edge_between (id_of parent.now) (id_of child.now)
-        (dep_kind_info_view info.now) }
-{
-    EdgeRef {
-        parent,
-        child,
-        kind: DepKind::from(info.kind),
-        cfg: &info.target,
     }
 }

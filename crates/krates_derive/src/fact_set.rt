@@ -1,18 +1,27 @@
 //! Whether a list has a fact.
 
 ghost use Rattle.std.specs.Prelude.{◌≡◌, ◌↔◌, ◌∷◌, ◌++◌, [], Contains, IfOk, IsTrue, List, OnOk};
-ghost use Rattle.krates_derive.specs.FactKey.{key_view};
+ghost use Rattle.krates_derive.specs.FactRef.{fact_of_ref};
 ghost use Rattle.krates_derive.specs.FactSet.{HasBetween, HasKeys, HasPairs};
 ghost use Rattle.krates_rules.specs.Facts.{Crate, Fact as FactModel, Feature};
 ghost use Rattle.krates_rules.specs.Resolved.{id_of};
 ghost use Rattle.krates_rules.specs.StepViews.{fact_view, facts_view};
 
-use crate::fact_key::{FactKey, Pair, key_of};
+use crate::fact_ref::{FactRef, FeatureRef};
 use krates_ids::{Kid, laws};
 use krates_rules::Fact;
 use std::alloc::{AllocError, Global};
 use std::collections::BTreeSet;
 use std::marker::Model;
+
+/// Two crates: one, and one that it depends on.
+#[derive(Clone, Copy, PartialEq, Eq, PartialOrd, Ord)]
+struct Pair<'a> {
+    /// The crate that has the dependency.
+    parent: &'a Kid,
+    /// The crate that it depends on.
+    child: &'a Kid,
+}
 
 /// A list of facts in which single facts are looked up, by binary search.
 #[derive(Drop)]
@@ -20,7 +29,7 @@ pub struct FactSet<'a> {
     /// The list.
     facts: &'a [Fact],
     /// Its facts.
-    keys: BTreeSet<FactKey<'a>>,
+    keys: BTreeSet<FactRef<'a>>,
     /// The crates of its edges.
     pairs: BTreeSet<Pair<'a>>,
 }
@@ -49,8 +58,8 @@ impl<'a> FactSet<'a> {
     }
 
     /// Whether the list has the fact.
-    pub(crate) fn has(&self, wanted: &FactKey<'a>) -> bool
-        ensures { IsTrue result ↔ Contains (facts_view self.now) (key_view wanted.now) }
+    pub(crate) fn has(&self, wanted: &FactRef<'a>) -> bool
+        ensures { IsTrue result ↔ Contains (facts_view self.now) (fact_of_ref wanted.now) }
     {
         self.keys.contains(wanted)
     }
@@ -59,14 +68,14 @@ impl<'a> FactSet<'a> {
     pub fn has_crate(&self, krate: &'a Kid) -> bool
         ensures { IsTrue result ↔ Contains (facts_view self.now) (Crate (id_of krate.now)) }
     {
-        self.has(&FactKey::Crate(krate))
+        self.has(&FactRef::Crate(krate))
     }
 
     /// Whether the list says that the feature is enabled.
     pub fn has_feature(&self, krate: &'a Kid, name: &'a str) -> bool
         ensures { IsTrue result ↔ Contains (facts_view self.now) (Feature (id_of krate.now) name.now) }
     {
-        self.has(&FactKey::Feature(krate, name))
+        self.has(&FactRef::Feature(FeatureRef { krate, name }))
     }
 
     /// Whether the list has an edge between two crates.
@@ -78,13 +87,13 @@ impl<'a> FactSet<'a> {
 }
 
 /// The facts of a list.
-fn keys_of<'a>(alloc: Global, facts: &'a [Fact]) -> Result<BTreeSet<FactKey<'a>>, AllocError>
+fn keys_of<'a>(alloc: Global, facts: &'a [Fact]) -> Result<BTreeSet<FactRef<'a>>, AllocError>
     ensures { IfOk result (λ keys. HasKeys keys (facts_view facts.now)) }
 {
     laws::comparison();
     let mut keys = BTreeSet::new(alloc);
     for fact in facts {
-        keys.insert(key_of(fact))?;
+        keys.insert(FactRef::of(fact))?;
     }
     Ok(keys)
 }

@@ -3,8 +3,9 @@
 ghost use Rattle.std.specs.Prelude.{◌≡◌, ◌↔◌, ◌∷◌, [], IfOk, IsTrue};
 ghost use Rattle.krates_cm.specs.Document.{dependency_view};
 ghost use Rattle.krates_questions.specs.Context.{document_of, rules_of};
-ghost use Rattle.krates_derive.specs.Following.{AsksDefault, AsksFeature, AsksForFeature, IsAskedBy, IsChildWith, IsNamedBy, IsRooted, IsRootedFeature, MayKeep, MustKeep, TogglesOver};
-ghost use Rattle.krates_derive.specs.FactRef.{edge_of_ref, feature_of_ref, toggle_of_ref, fact_of_ref};
+ghost use Rattle.krates_derive.specs.Following.{AsksDefault, AsksFeature, AsksForFeature, IsAskedBy, IsChildWith, IsNamedBy, IsRooted, IsRootedFeature, MayKeep, TogglesOver};
+ghost use Rattle.krates_derive.specs.FactRef.{edge_of_ref, feature_of_ref, toggle_of_ref};
+ghost use Rattle.krates_derive.specs.Giving.{IsTaken};
 ghost use Rattle.krates_questions.specs.Lookup.{resolved_view};
 ghost use Rattle.krates_questions.specs.Need.{TellsDeclaration, TellsNeed};
 ghost use Rattle.krates_rules.specs.Facts.{Crate, Feature, Kept};
@@ -12,8 +13,8 @@ ghost use Rattle.krates_rules.specs.Resolved.{id_of};
 ghost use Rattle.krates_rules.specs.Rules.{Rule};
 ghost use Rattle.krates_rules.specs.StepViews.{fact_view};
 
-use crate::fact_ref::{EdgeRef, FactRef, FeatureRef, ToggleRef, fact_ref, info_of};
-use crate::referring::{asks, names, toggles};
+use crate::fact_ref::FactRef::{Crate, Feature, Kept, Toggled};
+use crate::fact_ref::{EdgeRef, FactRef, FeatureRef, ToggleRef};
 use krates_cm::Dependency;
 use krates_document::Setting;
 use krates_ids::Kid;
@@ -26,72 +27,66 @@ use std::alloc::{AllocError, Global};
 
 // ---- edges
 
-/// What is needed for an edge.
-pub(crate) fn need_of<'a>(
-    alloc: Global,
-    document: &Document<'a>,
-    setting: &Setting,
-    edge: &EdgeRef<'a>,
-) -> Result<Need<'a>, AllocError>
-    ensures { IfOk result (TellsNeed (resolved_view document.now) setting.now (edge_of_ref edge.now)) }
-{
-    let info = info_of(edge)?;
-    document.need(alloc, setting, edge.parent, edge.child, &info)
-}
-
-/// The dependency that an edge is declared as.
-pub(crate) fn declaration_of<'a>(
-    document: &Document<'a>,
-    edge: &EdgeRef<'a>,
-) -> Result<Option<&'a Dependency>, AllocError>
-    ensures { IfOk result (TellsDeclaration (resolved_view document.now) (edge_of_ref edge.now)) }
-{
-    let info = info_of(edge)?;
-    Ok(document.declaration(edge.parent, edge.child, &info))
-}
-
-/// Whether an edge may be kept.
-fn may_keep<'a>(context: &Context<'a, '_>, edge: &EdgeRef<'a>) -> Result<bool, AllocError>
-    ensures { IfOk result
-        (λ b. IsTrue b ↔ MayKeep (document_of context.now) context.now.setting.now (edge_of_ref edge.now)) }
-{
-    match need_of(context.alloc, context.document, context.setting, edge)? {
-        Need::Wanted(_) => Ok(context.document.stands(context.setting, edge.child)),
-        Need::Undeclared => Ok(false),
-        Need::Nothing => Ok(false),
+impl<'a> EdgeRef<'a> {
+    /// What is needed for the edge.
+    pub(crate) fn need(
+        &self,
+        alloc: Global,
+        document: &Document<'a>,
+        setting: &Setting,
+    ) -> Result<Need<'a>, AllocError>
+        ensures { IfOk result (TellsNeed (resolved_view document.now) setting.now (edge_of_ref self.now)) }
+    {
+        let info = self.info()?;
+        document.need(alloc, setting, self.parent, self.child, &info)
     }
-}
 
-/// Whether an edge has to be kept if its parent is.
-fn must_keep<'a>(context: &Context<'a, '_>, edge: &EdgeRef<'a>) -> Result<bool, AllocError>
-    ensures { IfOk result
-        (λ b. IsTrue b ↔ MustKeep (document_of context.now) context.now.setting.now (edge_of_ref edge.now)) }
-{
-    match need_of(context.alloc, context.document, context.setting, edge)? {
-        Need::Wanted(dependency) => {
-            if dependency.optional {
-                return Ok(false);
+    /// The dependency that the edge is declared as.
+    pub(crate) fn declaration(
+        &self,
+        document: &Document<'a>,
+    ) -> Result<Option<&'a Dependency>, AllocError>
+        ensures { IfOk result (TellsDeclaration (resolved_view document.now) (edge_of_ref self.now)) }
+    {
+        let info = self.info()?;
+        Ok(document.declaration(self.parent, self.child, &info))
+    }
+
+    /// Whether the edge may be kept, where it is asked for, or by its parent.
+    fn may_be_kept(&self, context: &Context<'a, '_>, asked: bool) -> Result<bool, AllocError>
+        ensures { let r = document_of context.now in
+            let s = context.now.setting.now in
+            IfOk result (λ b. IsTrue b ↔ MayKeep r s (edge_of_ref self.now) asked) }
+    {
+        match self.need(context.alloc, context.document, context.setting)? {
+            Need::Wanted(dependency) => {
+                if !is_taken(asked, dependency) {
+                    return Ok(false);
+                }
+                Ok(context.document.stands(context.setting, self.child))
             }
-            Ok(context.document.stands(context.setting, edge.child))
+            Need::Undeclared => Ok(false),
+            Need::Nothing => Ok(false),
         }
-        Need::Undeclared => Ok(false),
-        Need::Nothing => Ok(false),
+    }
+
+    /// Whether the edge asks for a feature of its child.
+    fn asks_for(&self, document: &Document<'a>, name: &str) -> Result<bool, AllocError>
+        ensures { IfOk result
+            (λ b. IsTrue b ↔ AsksForFeature (resolved_view document.now) (edge_of_ref self.now) name.now) }
+    {
+        match self.declaration(document)? {
+            Some(dependency) => Ok(asks_feature(dependency, name)),
+            None => Ok(false),
+        }
     }
 }
 
-/// Whether an edge asks for a feature of its child.
-fn asks_for_feature<'a>(
-    document: &Document<'a>,
-    edge: &EdgeRef<'a>,
-    name: &str,
-) -> Result<bool, AllocError>
-    ensures { IfOk result
-        (λ b. IsTrue b ↔ AsksForFeature (resolved_view document.now) (edge_of_ref edge.now) name.now) }
+/// Whether a dependency is taken: if it is asked for, or isn't optional.
+pub(crate) fn is_taken(asked: bool, dependency: &Dependency) -> bool
+    ensures { IsTrue result ↔ IsTaken asked (dependency_view dependency.now) }
 {
-    match declaration_of(document, edge)? {
-        Some(dependency) => Ok(asks_feature(dependency, name)),
-        None => Ok(false),
-    }
+    asked || !dependency.optional
 }
 
 /// Whether a declared dependency asks for a feature.
@@ -152,19 +147,19 @@ fn is_enabled(rule: u8, toggle: &ToggleRef<'_>, feature: &FeatureRef<'_>) -> boo
 
 /// Whether a feature of a crate refers to a listed feature of it.
 fn is_named<'a>(
-    document: &Document<'a>,
+    context: &Context<'a, '_>,
     rule: u8,
     feature: &FeatureRef<'a>,
     other: &FeatureRef<'a>,
 ) -> bool
     ensures { let f = feature.now in
         let g = other.now in
-        IsTrue result ↔ IsNamedBy (resolved_view document.now) rule (id_of f.krate.now) f.name.now (id_of g.krate.now) g.name.now }
+        IsTrue result ↔ IsNamedBy (document_of context.now) rule (id_of f.krate.now) f.name.now (id_of g.krate.now) g.name.now }
 {
     rule == 3
         && is_same(feature.krate, other.krate)
-        && names(document, feature.krate, feature.name, other.name)
-        && document.lists(feature.krate, other.name)
+        && feature.names(context.document, other.name)
+        && context.document.lists(feature.krate, other.name)
 }
 
 /// Whether a feature of a crate asks for an edge.
@@ -177,9 +172,7 @@ fn is_asked<'a>(
     ensures { let f = feature.now in
         IsTrue result ↔ IsAskedBy (document_of context.now) context.now.setting.now rule (id_of f.krate.now) f.name.now (edge_of_ref edge.now) }
 {
-    rule == 4
-        && is_same(feature.krate, edge.parent)
-        && asks(context, edge.parent, feature.name, edge.child)
+    rule == 4 && is_same(feature.krate, edge.parent) && feature.asks(context, edge.child)
 }
 
 /// Whether an edge follows from a feature.
@@ -196,7 +189,7 @@ fn is_kept_by_feature<'a>(
     if !is_asked(context, rule, feature, edge) {
         return Ok(false);
     }
-    may_keep(context, edge)
+    edge.may_be_kept(context, true)
 }
 
 /// Whether an edge follows from its parent.
@@ -213,7 +206,7 @@ fn is_kept_by_crate<'a>(
     if !is_same_by(rule, 5, krate, edge.parent) {
         return Ok(false);
     }
-    must_keep(context, edge)
+    edge.may_be_kept(context, false)
 }
 
 /// Whether a crate is the child of an edge and lists a feature.
@@ -243,7 +236,7 @@ fn is_declared<'a>(
     if !is_child(context.document, rule, edge, feature) {
         return Ok(false);
     }
-    asks_for_feature(context.document, edge, feature.name)
+    edge.asks_for(context.document, feature.name)
 }
 
 /// Whether a feature is toggled over an edge, by weak references or by strong ones.
@@ -263,18 +256,7 @@ fn toggles_over<'a>(
     if !is_between(feature.krate, edge, toggle) {
         return false;
     }
-    let by = FeatureRef {
-        krate: edge.parent,
-        name: feature.name,
-    };
-    let toggled = FeatureRef {
-        krate: edge.child,
-        name: toggle.name,
-    };
-    if !toggles(context, weakly, &by, &toggled) {
-        return false;
-    }
-    context.document.lists(edge.child, toggle.name)
+    feature.toggles(context, weakly, toggle) && context.document.lists(toggle.krate, toggle.name)
 }
 
 /// Whether the edge goes from the crate, which toggles, to that whose feature is toggled.
@@ -314,85 +296,10 @@ fn is_toggled<'a>(
 pub fn from_nothing<'a>(context: &Context<'a, '_>, rule: u8, fact: &'a Fact) -> bool
     ensures { IsTrue result ↔ Rule (rules_of context.now) rule [] (fact_view fact.now) }
 {
-    match fact_ref(fact) {
-        FactRef::Crate(krate) => is_rooted(context, rule, krate),
-        FactRef::Feature(feature) => is_rooted_feature(context, rule, feature.krate, feature.name),
-        FactRef::Kept(_) => false,
-        FactRef::Toggled(_) => false,
-    }
-}
-
-/// Whether a fact follows by the rule from a crate.
-fn from_crate<'a>(
-    context: &Context<'a, '_>,
-    rule: u8,
-    krate: &Kid,
-    fact: &FactRef<'a>,
-) -> Result<bool, AllocError>
-    ensures { IfOk result
-        (λ b. IsTrue b ↔ Rule (rules_of context.now) rule (Crate (id_of krate.now) ∷ []) (fact_of_ref fact.now)) }
-{
-    match fact {
-        FactRef::Crate(_) => Ok(false),
-        FactRef::Feature(_) => Ok(false),
-        FactRef::Kept(edge) => is_kept_by_crate(context, rule, krate, edge),
-        FactRef::Toggled(_) => Ok(false),
-    }
-}
-
-/// Whether a fact follows by the rule from a feature.
-fn from_feature<'a>(
-    context: &Context<'a, '_>,
-    rule: u8,
-    feature: &FeatureRef<'a>,
-    fact: &FactRef<'a>,
-) -> Result<bool, AllocError>
-    ensures { IfOk result
-        (λ b. IsTrue b ↔ Rule (rules_of context.now) rule (feature_of_ref feature.now ∷ [])
-        (fact_of_ref fact.now)) }
-{
-    match fact {
-        FactRef::Crate(other) => Ok(is_same_by(rule, 2, feature.krate, other)),
-        FactRef::Feature(other) => Ok(is_named(context.document, rule, feature, other)),
-        FactRef::Kept(edge) => is_kept_by_feature(context, rule, feature, edge),
-        FactRef::Toggled(_) => Ok(false),
-    }
-}
-
-/// Whether a fact follows by the rule from an edge.
-fn from_edge<'a>(
-    context: &Context<'a, '_>,
-    rule: u8,
-    edge: &EdgeRef<'a>,
-    fact: &FactRef<'a>,
-) -> Result<bool, AllocError>
-    ensures { IfOk result
-        (λ b. IsTrue b ↔ Rule (rules_of context.now) rule (Kept (edge_of_ref edge.now) ∷ [])
-        (fact_of_ref fact.now)) }
-{
-    match fact {
-        FactRef::Crate(krate) => Ok(is_same_by(rule, 5, edge.child, krate)),
-        FactRef::Feature(feature) => is_declared(context, rule, edge, feature),
-        FactRef::Kept(_) => Ok(false),
-        FactRef::Toggled(_) => Ok(false),
-    }
-}
-
-/// Whether a fact follows by the rule from a toggled feature.
-fn from_toggle<'a>(
-    context: &Context<'a, '_>,
-    rule: u8,
-    toggle: &ToggleRef<'a>,
-    fact: &FactRef<'a>,
-) -> bool
-    ensures { IsTrue result ↔ Rule (rules_of context.now) rule (toggle_of_ref toggle.now ∷ [])
-        (fact_of_ref fact.now) }
-{
-    match fact {
-        FactRef::Crate(_) => false,
-        FactRef::Feature(feature) => is_enabled(rule, toggle, feature),
-        FactRef::Kept(_) => false,
-        FactRef::Toggled(_) => false,
+    match FactRef::of(fact) {
+        Crate(krate) => is_rooted(context, rule, krate),
+        Feature(feature) => is_rooted_feature(context, rule, feature.krate, feature.name),
+        _ => false,
     }
 }
 
@@ -406,50 +313,15 @@ pub fn from_one<'a>(
     ensures { IfOk result
         (λ b. IsTrue b ↔ Rule (rules_of context.now) rule (fact_view premise.now ∷ []) (fact_view fact.now)) }
 {
-    let given = fact_ref(fact);
-    match fact_ref(premise) {
-        FactRef::Crate(krate) => from_crate(context, rule, krate, &given),
-        FactRef::Feature(feature) => from_feature(context, rule, &feature, &given),
-        FactRef::Kept(edge) => from_edge(context, rule, &edge, &given),
-        FactRef::Toggled(toggle) => Ok(from_toggle(context, rule, &toggle, &given)),
-    }
-}
-
-/// Whether a toggled feature follows by the rule from a feature and another fact.
-fn toggle_from_feature<'a>(
-    context: &Context<'a, '_>,
-    rule: u8,
-    feature: &FeatureRef<'a>,
-    second: &FactRef<'a>,
-    toggle: &ToggleRef<'a>,
-) -> bool
-    ensures { let premises = feature_of_ref feature.now ∷ fact_of_ref second.now ∷ [] in
-        IsTrue result ↔ Rule (rules_of context.now) rule premises (toggle_of_ref toggle.now) }
-{
-    match second {
-        FactRef::Crate(_) => false,
-        FactRef::Feature(_) => false,
-        FactRef::Kept(edge) => is_toggled(context, rule, feature, edge, toggle),
-        FactRef::Toggled(_) => false,
-    }
-}
-
-/// Whether a toggled feature follows by the rule from two facts.
-fn toggle_from_two<'a>(
-    context: &Context<'a, '_>,
-    rule: u8,
-    first: &FactRef<'a>,
-    second: &FactRef<'a>,
-    toggle: &ToggleRef<'a>,
-) -> bool
-    ensures { let premises = fact_of_ref first.now ∷ fact_of_ref second.now ∷ [] in
-        IsTrue result ↔ Rule (rules_of context.now) rule premises (toggle_of_ref toggle.now) }
-{
-    match first {
-        FactRef::Crate(_) => false,
-        FactRef::Feature(feature) => toggle_from_feature(context, rule, feature, second, toggle),
-        FactRef::Kept(_) => false,
-        FactRef::Toggled(_) => false,
+    match (FactRef::of(premise), FactRef::of(fact)) {
+        (Crate(krate), Kept(edge)) => is_kept_by_crate(context, rule, krate, &edge),
+        (Feature(feature), Crate(krate)) => Ok(is_same_by(rule, 2, feature.krate, krate)),
+        (Feature(feature), Feature(other)) => Ok(is_named(context, rule, &feature, &other)),
+        (Feature(feature), Kept(edge)) => is_kept_by_feature(context, rule, &feature, &edge),
+        (Kept(edge), Crate(krate)) => Ok(is_same_by(rule, 5, edge.child, krate)),
+        (Kept(edge), Feature(feature)) => is_declared(context, rule, &edge, &feature),
+        (Toggled(toggle), Feature(feature)) => Ok(is_enabled(rule, &toggle, &feature)),
+        _ => Ok(false),
     }
 }
 
@@ -464,12 +336,10 @@ pub fn from_two<'a>(
     ensures { let premises = fact_view first.now ∷ fact_view second.now ∷ [] in
         IsTrue result ↔ Rule (rules_of context.now) rule premises (fact_view fact.now) }
 {
-    match fact_ref(fact) {
-        FactRef::Crate(_) => false,
-        FactRef::Feature(_) => false,
-        FactRef::Kept(_) => false,
-        FactRef::Toggled(toggle) => {
-            toggle_from_two(context, rule, &fact_ref(first), &fact_ref(second), &toggle)
+    match (FactRef::of(first), FactRef::of(second), FactRef::of(fact)) {
+        (Feature(feature), Kept(edge), Toggled(toggle)) => {
+            is_toggled(context, rule, &feature, &edge, &toggle)
         }
+        _ => false,
     }
 }

@@ -3,7 +3,6 @@
 #![tactic(auto)]
 
 pub mod closing;
-mod fact_key;
 pub mod fact_ref;
 pub mod fact_set;
 pub mod following;

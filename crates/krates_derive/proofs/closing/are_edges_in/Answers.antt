@@ -13,14 +13,14 @@ use Rattle.krates_derive.proofs.closing.are_edges_in.Goals as goal
 pub loop-info-preserved : goal.loop-info-preserved
 loop-info-preserved c =
     let P = λ (x : DepKindInfo). EdgeIn (document_in c.args.check.now) c.args.check.now.setting.now (facts_in c.args.check.now) (edge_between (id_of c.args.krate.now) (id_of c.args.child.now) (dep_kind_info_view x)) c.args.asked in
-    let told = subst (λ (e : Edge). EdgeIn (document_in c.args.check.now) c.args.check.now.setting.now (facts_in c.args.check.now) e c.args.asked) c.edge_for-edge.ensures (c.in_ok-is_edge_in.ensures.0 c.if-not-branch.false) in
+    let told = subst (λ (e : Edge). EdgeIn (document_in c.args.check.now) c.args.check.now.setting.now (facts_in c.args.check.now) e c.args.asked) c.between-edge.ensures (c.in_ok-is_edge_in.ensures.0 c.if-not-branch.false) in
     seen_more P c.kinds-info-items.result.now c.loop-info.info-index c.info-item.result c.loop-info-test.true c.info-item.is c.loop-info.invariant told
 
 pub returns-then-not-branch : goal.returns-then-not-branch
 returns-then-not-branch c = (
   λ t. absurd cc,
   λ all. absurd (
-      let told = subst (λ (e : Edge). EdgeIn (document_in c.args.check.now) c.args.check.now.setting.now (facts_in c.args.check.now) e c.args.asked) (sym c.edge_for-edge.ensures) (all (dep_kind_info_view c.info-item.result)) in
+      let told = subst (λ (e : Edge). EdgeIn (document_in c.args.check.now) c.args.check.now.setting.now (facts_in c.args.check.now) e c.args.asked) (sym c.between-edge.ensures) (all (dep_kind_info_view c.info-item.result)) in
       cc (c.in_ok-is_edge_in.ensures.1 told, c.if-not-branch.true)),
 )
 

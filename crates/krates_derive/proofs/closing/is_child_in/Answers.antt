@@ -1,15 +1,13 @@
-use Rattle.std.proofs.Common.{◌↔◌, IsTrue, Contains, refl, subst}
+use Rattle.std.proofs.Common.{refl}
 use Rattle.krates_derive.specs.FactRef.{edge_of_ref}
 use Rattle.krates_derive.specs.ClosureCheck.{document_in, facts_in}
-use Rattle.krates_rules.specs.Facts.{Edge, Kept}
 use Rattle.krates_derive.proofs.Givings.{child_here}
 use Rattle.krates_derive.proofs.closing.is_child_in.Goals as goal
 
 pub returns-in-Available : goal.returns-in-Available
 returns-in-Available c =
     let fs = facts_in c.args.check.now in
-    let has = subst (λ (e : Edge). IsTrue c.has.result ↔ Contains fs (Kept e)) c.edge_key.ensures c.has.ensures in
-    child_here (document_in c.args.check.now) c.args.check.now.setting.now fs (edge_of_ref c.args.edge.now) c.has.result c.in-Available.ensures.0 has
+    child_here (document_in c.args.check.now) c.args.check.now.setting.now fs (edge_of_ref c.args.edge.now) c.has.result c.in-Available.ensures.0 c.has.ensures
 
 pub returns-in-Excluded : goal.returns-in-Excluded
 returns-in-Excluded c =

@@ -6,4 +6,4 @@ returns-then-not-lists c = (λ t. absurd cc, λ h. absurd (h.listed (λ l. absur
 pub returns : goal.returns
 returns c =
     let here = c.lists.ensures.0 c.if-not-lists.false in
-    (λ t. record { enabled = λ l. c.has.ensures.0 t; listed = λ lacks. lacks here }, λ h. c.has.ensures.1 (h.enabled here))
+    (λ t. record { enabled = λ l. c.has_feature.ensures.0 t; listed = λ lacks. lacks here }, λ h. c.has_feature.ensures.1 (h.enabled here))

@@ -14,4 +14,4 @@ pub returns : goal.returns
 returns c =
     let row = declared_row (document_of c.args.context.now) c.args.context.now.setting.now c.args.rule (edge_of_ref c.args.edge.now) (id_of c.args.feature.now.krate.now) c.args.feature.now.name.now in
     let h = c.is_child.ensures.0 c.if-not-is_child.false in
-    IfOk-weaker c.asks_for_feature.result _ _ (λ b told. through (λ t. (h.0, h.1, told.0 t, h.2), λ w. told.1 w.2) row) c.asks_for_feature.ensures
+    IfOk-weaker c.asks_for.result _ _ (λ b told. through (λ t. (h.0, h.1, told.0 t, h.2), λ w. told.1 w.2) row) c.asks_for.ensures

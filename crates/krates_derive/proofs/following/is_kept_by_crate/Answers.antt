@@ -9,4 +9,4 @@ pub returns : goal.returns
 returns c =
     let row = required_row (document_of c.args.context.now) c.args.context.now.setting.now c.args.rule (id_of c.args.krate.now) (edge_of_ref c.args.edge.now) in
     let h = c.is_same_by.ensures.0 c.if-not-is_same_by.false in
-    IfOk-weaker c.must_keep.result _ _ (λ b told. through (λ t. (h.0, h.1, told.0 t), λ w. told.1 w.2) row) c.must_keep.ensures
+    IfOk-weaker c.may_be_kept.result _ _ (λ b told. through (λ t. (h.0, h.1, told.0 t), λ w. told.1 w.2) row) c.may_be_kept.ensures

@@ -14,4 +14,4 @@ pub returns : goal.returns
 returns c =
     let row = asked_row (document_of c.args.context.now) c.args.context.now.setting.now c.args.rule (id_of c.args.feature.now.krate.now) c.args.feature.now.name.now (edge_of_ref c.args.edge.now) in
     let h = c.is_asked.ensures.0 c.if-not-is_asked.false in
-    IfOk-weaker c.may_keep.result _ _ (λ b told. through (λ t. (h.0, h.1, h.2, told.0 t), λ w. told.1 w.3) row) c.may_keep.ensures
+    IfOk-weaker c.may_be_kept.result _ _ (λ b told. through (λ t. (h.0, h.1, h.2, told.0 t), λ w. told.1 w.3) row) c.may_be_kept.ensures
