@@ -1,4 +1,4 @@
-use Rattle.std.proofs.Common.{List, refl, sym, subst}
+use Rattle.std.proofs.Common.{List, refl, sym, ◌∙◌, subst}
 use Rattle.krates_ids.specs.Identity.{Identity}
 use Rattle.krates_selection.specs.KeptTables.{AreStepsOf, IsKeptIn}
 use Rattle.krates_selection.specs.declared.trace.NumberedStep.{NumberedStep}
@@ -37,8 +37,10 @@ returns-in_err-selection-clause-named c =
     rw (p.1, p.2) named
 
 pub kept_steps-requires-clause-crates : goal.kept_steps-requires-clause-crates
-kept_steps-requires-clause-crates c = λ i derived.
-    subst (λ (ks : List Identity). IsKeptIn ks i) (sym c.deref.ensures.value) (crates_in (resolved_view c.in_ok-document.document) c.args.setting.now c.in_ok-selection.selection c.in_ok-selection.ensures.selected i derived)
+kept_steps-requires-clause-crates c =
+    let x = c.in_ok-selection.field-0.selection in
+    rw (c.new-tables.ensures.context) (λ i derived.
+    subst (λ (ks : List Identity). IsKeptIn ks i) (sym (c.new-tables.ensures.krates ∙ c.deref.ensures.value)) (crates_in (resolved_view c.in_ok-document.document) c.args.setting.now x c.in_ok-selection.ensures.selected i derived))
 
 pub outline_of-requires : goal.outline_of-requires
 outline_of-requires c = record { selected = c.in_ok-selection.ensures.selected }
@@ -47,7 +49,7 @@ pub returns-clause-sketched : goal.returns-clause-sketched
 returns-clause-sketched c =
     let m = metadata_view c.args.metadata.now in
     let s = c.args.setting.now in
-    let x = c.in_ok-selection.selection in
+    let x = c.in_ok-selection.field-0.selection in
     let d = c.in_ok-document.ensures in
     let r = resolved_view c.in_ok-document.document in
     let selected = c.in_ok-selection.ensures.selected in
@@ -55,8 +57,8 @@ returns-clause-sketched c =
     let of : IsSelectionOf m s x = record { graph = d.graph; has_graph = d.has_graph; holds = subst (λ (z : Resolved). IsSelection z s x) d.holds selected } in
     let shown : IsExplainedOf m s x = record { graph = d.graph; has_graph = d.has_graph; holds = subst (λ (z : Resolved). IsExplained z s x) d.holds explained } in
     let steps = c.in_ok-steps.steps.items in
-    let of_krates = subst (λ (ks : List Identity). AreStepsOf r s ks c.deref-2.result.now steps) c.deref.ensures.value c.in_ok-steps.ensures in
-    let of_steps = subst (λ (ts : List NumberedStep). AreStepsOf r s x.krates.items ts steps) c.deref-2.ensures.value of_krates in
+    let of_krates = subst (λ (ks : List Identity). AreStepsOf r s ks c.deref-3.result.now steps) (c.new-tables.ensures.krates ∙ c.deref.ensures.value) (rw (c.new-tables.ensures.context) at c.in_ok-steps.ensures) in
+    let of_steps = subst (λ (ts : List NumberedStep). AreStepsOf r s x.krates.items ts steps) c.deref-3.ensures.value of_krates in
     record {
       selection = x;
       selected = of;
