@@ -87,7 +87,8 @@ impl<'a> Referrer<'a, '_> {
         requires sound { IsRight self.now.context found.old }
         requires kept { Has self.now.context found.old (Crate (krate_of self.now.parts)) }
         requires value { MayFollowText self.now.context (krate_of self.now.parts) text.now }
-        requires step { HasValueStep self.now.context found.old self.now.step (krate_of self.now.parts) text.now }
+        requires step { HasValueStep self.now.context found.old self.now.step (krate_of self.now.parts)
+            text.now }
         ensures advanced { OnOk result (Moves self.now.context found.old found.new) }
         ensures followed { OnOk result (HasFollowedText self.now.context found.new (krate_of self.now.parts)
             text.now) }
@@ -155,32 +156,30 @@ impl<'a> Referrer<'a, '_> {
         requires within { index < length self.now.parts.children.now }
         requires refers { RefersTo self.now found.old (reference_of reference) index }
         ensures advanced { OnOk result (Moves self.now.context found.old found.new) }
-        ensures followed { OnOk result (HasFollowedAt self.now found.new (reference_of reference.entry) index) }
+        ensures followed { OnOk result (HasFollowedAt self.now found.new (reference_of reference.entry)
+            index) }
         ensures refused { IfErr result (Refuses self.now.context) }
     {
         laws::one_reading();
         let place = self.parts.place;
+        let step = self.step;
         match reference {
             Feature::Simple(_) => Ok(()),
             Feature::Krate(_) => self.ask_at(index, found),
-            Feature::Strong { feature, .. } => {
+            Feature::Strong { feature: name, .. } => {
                 self.ask_at(index, found)?;
                 let Some(kept) = found.links.kept(place, index) else {
                     return Ok(());
                 };
-                let reason = Reason::by_two(4, self.step, kept);
-                self.toggle_at(feature, reason, index, found)
+                let reason = Reason::by_two(4, step, kept);
+                self.toggle_at(name, reason, index, found)
             }
-            Feature::Weak { feature, .. } => {
+            Feature::Weak { feature: name, .. } => {
                 if let Some(kept) = found.links.kept(place, index) {
-                    let reason = Reason::by_two(7, self.step, kept);
-                    return self.toggle_at(feature, reason, index, found);
+                    let reason = Reason::by_two(7, step, kept);
+                    return self.toggle_at(name, reason, index, found);
                 }
-                let waiting = Waiting {
-                    name: feature,
-                    step: self.step,
-                };
-                found.links.let_wait(place, index, waiting)?;
+                found.links.let_wait(place, index, Waiting { name, step })?;
                 Ok(())
             }
         }

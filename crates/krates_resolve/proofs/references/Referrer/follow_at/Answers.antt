@@ -29,7 +29,7 @@ toggle_at-requires-clause-may c child there =
     let p = krate_of by.parts in
     let to = rw c.in-Strong.is at c.requires.refers in
     let kept = c.in_ok-ask_at-in-Strong.ensures.advanced.sound.kept p child by.parts.place c.args.index there (c.in-Some.kept, c.in-Some.ensures) in
-    may_toggle_strongly (document_of by.context) by.context.setting.now (edge_between p child kept.0) c.in-Strong.krate.now c.in-Strong.feature.now to.refers.may (to.is child there) kept.1
+    may_toggle_strongly (document_of by.context) by.context.setting.now (edge_between p child kept.0) c.in-Strong.krate.now c.in-Strong.name.now to.refers.may (to.is child there) kept.1
 
 pub toggle_at-requires-clause-step : goal.toggle_at-requires-clause-step
 toggle_at-requires-clause-step c child there lists =
@@ -39,7 +39,7 @@ toggle_at-requires-clause-step c child there lists =
     let p = krate_of by.parts in
     let m = c.in-Some.kept in
     let name = c.in-Strong.krate.now in
-    let g = c.in-Strong.feature.now in
+    let g = c.in-Strong.name.now in
     let to = rw c.in-Strong.is at c.requires.refers in
     let step = c.in_ok-ask_at-in-Strong.ensures.advanced in
     let y = c.ask_at-in-Strong.new.found in
@@ -63,7 +63,7 @@ pub returns-in_default-clause-followed : goal.returns-in_default-clause-followed
 returns-in_default-clause-followed c =
     let by = c.args.self.now in
     let asked = c.in_ok-ask_at-in-Strong.ensures in
-    rw c.in-Strong.is (asked.asked, unmarked_strongly (document_of by.context) by.context.setting.now c.ask_at-in-Strong.new.found (krate_of by.parts) c.in-Strong.feature.now by.parts.place c.args.index asked.advanced.sound asked.asked c.in_default.ensures)
+    rw c.in-Strong.is (asked.asked, unmarked_strongly (document_of by.context) by.context.setting.now c.ask_at-in-Strong.new.found (krate_of by.parts) c.in-Strong.name.now by.parts.place c.args.index asked.advanced.sound asked.asked c.in_default.ensures)
 
 -- ---- or lets it wait
 
@@ -76,7 +76,7 @@ toggle_at-requires-in-Some-kept-clause-may c child there =
     let p = krate_of by.parts in
     let to = rw c.in-Weak.is at c.requires.refers in
     let kept = c.requires.sound.kept p child by.parts.place c.args.index there (c.in-Some-kept.kept, c.in-Some-kept.ensures) in
-    may_toggle_weakly (document_of by.context) by.context.setting.now (edge_between p child kept.0) c.in-Weak.krate.now c.in-Weak.feature.now to.refers.may (to.is child there) kept.1
+    may_toggle_weakly (document_of by.context) by.context.setting.now (edge_between p child kept.0) c.in-Weak.krate.now c.in-Weak.name.now to.refers.may (to.is child there) kept.1
 
 pub toggle_at-requires-in-Some-kept-clause-step : goal.toggle_at-requires-in-Some-kept-clause-step
 toggle_at-requires-in-Some-kept-clause-step c child there lists =
@@ -85,7 +85,7 @@ toggle_at-requires-in-Some-kept-clause-step c child there lists =
     let s = by.context.setting.now in
     let p = krate_of by.parts in
     let m = c.in-Some-kept.kept in
-    let g = c.in-Weak.feature.now in
+    let g = c.in-Weak.name.now in
     let to = rw c.in-Weak.is at c.requires.refers in
     let trace = c.args.found.now.trace.items in
     let has = c.requires.sound.numbered.marked p child by.parts.place c.args.index m there c.in-Some-kept.ensures in
@@ -98,4 +98,4 @@ let_wait-requires c = c.requires.sound.has_links (krate_of c.args.self.now.parts
 pub returns-in_ok-let_wait-in-Weak-clause-advanced : goal.returns-in_ok-let_wait-in-Weak-clause-advanced
 returns-in_ok-let_wait-in-Weak-clause-advanced c =
     let to = rw c.in-Weak.is at c.requires.refers in
-    wait_advances c.one_reading.ensures.once c.args.self.now c.args.found.now c.let_wait.new.self c.in-Weak.krate.now c.in-Weak.feature c.args.index c.requires.sound to c.in_ok-let_wait-in-Weak.ensures c.in_default-kept.ensures
+    wait_advances c.one_reading.ensures.once c.args.self.now c.args.found.now c.let_wait.new.self c.in-Weak.krate.now c.in-Weak.name c.args.index c.requires.sound to c.in_ok-let_wait-in-Weak.ensures c.in_default-kept.ensures
