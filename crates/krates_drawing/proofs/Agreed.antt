@@ -1,6 +1,6 @@
 -- A crate's mapping names exactly the crates to which its edges lead.
 use Rattle.std.proofs.Common.{◌≡◌, ◌⊎◌, inl, inr, ℕ, zero, suc, ◌+◌, ◌<◌, ◌≤◌, true, List, [], ◌∷◌, filter, length, Option, Some, None, option_map, Contains, slice_get, refl, sym, ap, ◌∙◌, subst, arith}
-use Rattle.std.proofs.lemmas.Bool.{cases_lt}
+use Rattle.std.proofs.lemmas.Bool.{cases_lt, and_parts, and_from}
 use Rattle.std.proofs.lemmas.Bool.Decides.{Decides-eqb}
 use Rattle.std.proofs.lemmas.Option.{none-some, same_Some, slice_get_within}
 use Rattle.std.specs.List.{list_any, range_with_len}
@@ -22,7 +22,7 @@ use Rattle.krates_drawing.proofs.Holding.{Holds, holds}
 use Rattle.krates_rules.proofs.Members as members
 use Rattle.krates_rules.proofs.Members.{Member, member_of, contains_of, kept_of, member_filter, mapped_of, member_map, passing_of, member_any, Front, front_of}
 use Rattle.krates_drawing.proofs.Drawn.{has_drawn}
-use Rattle.krates_drawing.proofs.NodeNumbers.{both, and_true, id_is, id_same, HasCrate, Stands, crate_stands, feature_stands, crate_node, feature_node, one_number}
+use Rattle.krates_drawing.proofs.NodeNumbers.{id_is, id_same, HasCrate, Stands, crate_stands, feature_stands, crate_node, feature_node, one_number}
 use Rattle.krates_rules.proofs.OnlyOne.{one_package}
 
 -- ---- ends that belong to one crate
@@ -77,14 +77,14 @@ claim_of : (t : Outline) (p q : Id) (k : ℕ) → list_any (claims_at k q) (from
 claim_of t p q k h =
     let w = passing_of (claims_at k q) (from_crate t p) h in
     let f = from_of t p w.from w.member in
-    let e = both _ _ w.passes in
+    let e = and_parts _ _ w.passes in
     record { between = record { link = w.from; member = f.0; parent = f.1; child = id_is w.from.edge.child q e.0 }; at = (Decides-eqb w.from.place k).0 e.1 }
 
 claim_by : (t : Outline) (p q : Id) (k : ℕ) → Claim t p q k → list_any (claims_at k q) (from_crate t p) ≡ true
 claim_by t p q k w =
     let b = w.between in
     member_any (claims_at k q) (from_crate t p) b.link (in_from t p b.link b.member b.parent)
-    (and_true _ _ (subst (λ i. id_eq b.link.edge.child i ≡ true) b.child (id_same b.link.edge.child)) ((Decides-eqb b.link.place k).1 w.at))
+    (and_from _ _ (subst (λ i. id_eq b.link.edge.child i ≡ true) b.child (id_same b.link.edge.child)) ((Decides-eqb b.link.place k).1 w.at))
 
 pub claimant_of : (t : Outline) (p : Id) (k : ℕ) (q : CrateRow) → claimant t (from_crate t p) k ≡ Some q → Member t.krates q × Claim t p q.id k
 claimant_of t p k q e = elim (last_of None (filter (claims (from_crate t p) k) t.krates) q e) [

@@ -1,6 +1,6 @@
 -- The crates to which sorted edges lead.
 use Rattle.std.proofs.Common.{◌≡◌, ℕ, zero, suc, ◌+◌, ◌-◌, ◌<◌, ◌≤◌, ◌==◌, Bool, true, false, not, ◌||◌, List, [], ◌∷◌, ◌++◌, All, length, get_or, slice_get, take, map, filter, cond, Option, Some, Ordering, Less, Equal, Greater, refl, sym, ap, ◌∙◌, subst, inl, inr, arith, append_assoc}
-use Rattle.std.proofs.lemmas.Bool.{cases_lt}
+use Rattle.std.proofs.lemmas.Bool.{cases_lt, eqb-true, false_from_ne_true, or_right}
 use Rattle.std.proofs.lemmas.List.{flat_map_more, get_or_default, length-map}
 use Rattle.std.proofs.lemmas.List.Elements.{All-take, filter_agree}
 use Rattle.std.proofs.lemmas.List.Folds.{list_any_more}
@@ -24,7 +24,7 @@ use Rattle.krates_drawing.specs.declared.outline.Outline.{Outline}
 use Rattle.krates_drawing.proofs.CratePlaces.{AreInOrder, id_of_krate, ids_compare, led_to, own_number}
 use Rattle.krates_drawing.proofs.Joined.{either, joined}
 use Rattle.krates_drawing.proofs.NodeNumbers.{id_is, id_same}
-use Rattle.krates_drawing.proofs.Tests.{bools_same, equal_is, equal_order, equal_self, not_high, order_total, sorted_as}
+use Rattle.krates_drawing.proofs.Tests.{bools_same, equal_order, equal_self, not_high, order_total, sorted_as}
 
 -- edges between crates of an outline
 abbrev pub AreWithin : List CrateRow → List EdgeRow → Type 0
@@ -144,7 +144,7 @@ before_same : (mine : List EdgeRow) (k : ℕ) (d : EdgeRow) → AreByChild mine 
     → ((get_or mine k d).edge.child == (get_or mine (k + 1) d).edge.child) ≡ true
 before_same mine k d by lt w =
     let n = (get_or mine (k + 1) d).edge.child in
-    let same : (get_or mine w.place d).edge.child ≡ n = equal_is _ n (w.passes d) in
+    let same : (get_or mine w.place d).edge.child ≡ n = eqb-true _ n (w.passes d) in
     let up : (get_or mine k d).edge.child ≤ n = by k (k + 1) d (omega arith) lt in
     let low : n ≤ (get_or mine k d).edge.child = elim (cases_lt w.place k) [
       | inl l ↦ subst (λ m. m ≤ (get_or mine k d).edge.child) same (by w.place k d l (omega (arith, lt)))
@@ -152,10 +152,6 @@ before_same mine k d by lt w =
     ] in
     let is : n ≡ (get_or mine k d).edge.child = omega (arith, up, low) in
     subst (λ m. (m == n) ≡ true) is (equal_self n)
-
-or_right : (a b : Bool) → b ≡ true → (a || b) ≡ true
-or_right true b e = refl
-or_right false b e = e
 
 first_after : (mine : List EdgeRow) (k : ℕ) (d : EdgeRow) → AreByChild mine → k + 1 < length mine
     → list_any (has_child (get_or mine (k + 1) d).edge.child) (take (k + 1) mine) ≡ ((get_or mine k d).edge.child == (get_or mine (k + 1) d).edge.child)
@@ -188,15 +184,11 @@ self_equal a = equal_order a a ∙ id_same a
 others_fail : (c : Id) (x : model.CrateRow) (xs : List model.CrateRow) → is_crate c x ≡ true → AllByRecursion (λ k. id_order x.id k ≡ Less) (map (λ (q : model.CrateRow). q.id) xs) → filter (is_crate c) xs ≡ []
 others_fail c x [] e h = refl
 others_fail c x (y ∷ ys) e h =
-    let fails : is_crate c y ≡ false = not_so (is_crate c y) (λ t. (
+    let fails : is_crate c y ≡ false = false_from_ne_true (is_crate c y) (λ t. (
     let same : x.id ≡ y.id = id_is x.id c e ∙ sym (id_is y.id c t) in
     let less : id_order x.id x.id ≡ Less = ap (id_order x.id) same ∙ h.0 in
     cc (sym (ap is_eq less) ∙ self_equal x.id))) in
     ap (λ b. cond b (y ∷ filter (is_crate c) ys) (filter (is_crate c) ys)) fails ∙ others_fail c x ys e h.1
-  where
-    not_so : (b : Bool) → (b ≡ true → ⊥) → b ≡ false
-    not_so true h = absurd (h refl)
-    not_so false h = refl
 
 only_step : (c : Id) (x : model.CrateRow) (xs : List model.CrateRow) (y : model.CrateRow) (b : Bool) → is_crate c x ≡ b → AllByRecursion (λ k. id_order x.id k ≡ Less) (map (λ (q : model.CrateRow). q.id) xs)
     → (slice_get xs (place_of (is_crate c) xs) ≡ Some y → filter (is_crate c) xs ≡ y ∷ []) → slice_get (x ∷ xs) (cond b 0 (suc (place_of (is_crate c) xs))) ≡ Some y → cond b (x ∷ filter (is_crate c) xs) (filter (is_crate c) xs) ≡ y ∷ []

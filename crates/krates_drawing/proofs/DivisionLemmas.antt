@@ -1,5 +1,6 @@
 -- Dividing packages by their ids.
 use Rattle.std.proofs.Common.{◌≡◌, ◌↔◌, ◌+◌, ◌<◌, List, [], ◌∷◌, length, get_or, map, filter, Contains, Bool, true, false, not, refl, sym, ap, ◌∙◌, subst, inl, inr, arith, Ordering, Less, Equal, Greater, Result, Ok, Err, IfOk}
+use Rattle.std.proofs.lemmas.Bool.{both_ways, false_from_ne_true, not-true, not_from_false}
 use Rattle.std.proofs.lemmas.List.{get_or-map, length-map}
 use Rattle.std.proofs.lemmas.List.Kept.{IsStrictlySortedBy-filter}
 use Rattle.std.proofs.lemmas.List.Sorted.{Contains-permutation, IsPermutation-map, IsPermutation-sym}
@@ -25,6 +26,7 @@ use Rattle.krates_rules.proofs.Members.{Member, member_of, contains_of, mapped_o
 use Rattle.krates_rules.proofs.MappedLists.{map_filter, zip_maps}
 use Rattle.krates_rules.proofs.OrderedIds.{Compares, id_of_equal}
 use Rattle.krates_drawing.proofs.SearchedKrates.{is_among}
+use Rattle.krates_drawing.proofs.EqualRanges.{unequal}
 
 -- a text reads as at most one id
 abbrev pub ReadsOnce : Type 0
@@ -64,11 +66,6 @@ is_eq_true Less h = absurd cc
 is_eq_true Equal h = refl
 is_eq_true Greater h = absurd cc
 
-not_equal : (r : Ordering) → (r ≡ Equal → ⊥) → is_eq r ≡ false
-not_equal Less h = refl
-not_equal Equal h = absurd (h refl)
-not_equal Greater h = refl
-
 is_eq_reverse : (r : Ordering) → is_eq (ordering_reverse r) ≡ is_eq r
 is_eq_reverse Less = refl
 is_eq_reverse Equal = refl
@@ -78,7 +75,7 @@ same_flips : Compares → (a b : Identity) → same a b ≡ same b a
 same_flips o a b = ap is_eq (o.total.antisymm a b) ∙ is_eq_reverse (id_cmp b a)
 
 ids_distinct : Compares → (ids : List Identity) → AreDistinct ids → IsDistinct same ids
-ids_distinct o ids distinct = IsDistinct-from_apart same ids (λ i j d lt within. not_equal _ (λ e. distinct (id_of (get_or ids j d)) (record {
+ids_distinct o ids distinct = IsDistinct-from_apart same ids (λ i j d lt within. unequal _ (λ e. distinct (id_of (get_or ids j d)) (record {
   first = i;
   second = j;
   apart = lt;
@@ -174,18 +171,10 @@ those once ps krates q P are sorted tells =
 
 -- ---- the division
 
-not_true : (b : Bool) → not b ≡ true → b ≡ true → ⊥
-not_true true h e = cc
-not_true false h e = cc
-
-true_of_not : (b : Bool) → (b ≡ true → ⊥) → not b ≡ true
-true_of_not true h = absurd (h refl)
-true_of_not false h = refl
-
 tells_not : Compares → (selected : List Identity) (i : Identity) → (not (has_same selected i) ≡ true) ↔ (IsAmong selected (id_of i) → ⊥)
 tells_not o selected i = (
-  λ h among. not_true (has_same selected i) h ((is_among o selected i).1 among),
-  λ none. true_of_not (has_same selected i) (λ h. none ((is_among o selected i).0 h)),
+  λ h among. both_ways (has_same selected i) (not-true (has_same selected i) h) ((is_among o selected i).1 among),
+  λ none. not_from_false (has_same selected i) (false_from_ne_true (has_same selected i) (λ h. none ((is_among o selected i).0 h))),
 )
 
 pub divides : Compares → ReadsOnce → (ps : List Package) (ids selected : List Identity) (krates : List Krate) (d : Division)

@@ -1,5 +1,6 @@
 -- Which edges are drawn, from which end to which.
 use Rattle.std.proofs.Common.{◌≡◌, inl, inr, List, [], ◌∷◌, map, filter, true, refl, sym, ap, ◌∙◌, subst}
+use Rattle.std.proofs.lemmas.Bool.{and_parts, and_from}
 use Rattle.std.specs.List.{flat_map}
 use Rattle.krates_cm.specs.Document.{Text}
 use Rattle.krates_rules.specs.Facts.{Id}
@@ -7,7 +8,7 @@ use Rattle.krates_rules.specs.Kind.{kind_of}
 use Rattle.krates_drawing.specs.Drawing.{id_eq, Endpoint, AtCrate, AtFeature, EdgeModel, Dep, DepFeature, Feature, PlannedEdge, line, uses, is_from, is_to, is_between, from_crate, pair_lines, leads_to, children_lines, crate_lines, targets, meaning_lines, feature_lines, planned_edges}
 use Rattle.krates_drawing.specs.Outline.{CrateRow, EdgeRow, Meaning, OwnFeature, Crates, FeatureOf, FeatureRow, Toggle, Outline}
 use Rattle.krates_rules.proofs.Members.{Member, member_append, member_left, member_right, mapped_of, member_map, kept_of, member_filter, spread_of, member_spread, passing_of, member_any}
-use Rattle.krates_drawing.proofs.NodeNumbers.{both, and_true, id_is, id_same, HasCrate}
+use Rattle.krates_drawing.proofs.NodeNumbers.{id_is, id_same, HasCrate}
 
 -- an edge is drawn from one end to another, with this weight
 pub data IsDrawnEdge (t : Outline) : Endpoint → Endpoint → EdgeModel → Type 0 where
@@ -78,7 +79,7 @@ pair_of t p q x b m = elim (member_append (flat_map (λ l. uses t l l.given) (fi
   | inr more ↦ (
       let w = mapped_of (λ (g : Toggle). line t (AtCrate p) (AtFeature q.id g.name) Feature) (filter (is_between p q.id) t.toggled) x more in
       let k = kept_of (is_between p q.id) t.toggled w.from w.member in
-      let same = both _ _ k.1 in
+      let same = and_parts _ _ k.1 in
       let by = id_is w.from.by p same.0 in
       let krate = id_is w.from.krate q.id same.1 in
       record {
@@ -167,7 +168,7 @@ toggle_in t g l ends at kept by theirs = between_in t g.by g.krate x ends (recor
 
     there : (k : CrateRow) → k.id ≡ g.krate → Member (pair_lines t g.by (from_crate t g.by) k) x
     there k e =
-        let passes : is_between g.by k.id g ≡ true = and_true _ _ (id_same g.by) (subst (λ i. id_eq g.krate i ≡ true) (sym e) (id_same g.krate)) in
+        let passes : is_between g.by k.id g ≡ true = and_from _ _ (id_same g.by) (subst (λ i. id_eq g.krate i ≡ true) (sym e) (id_same g.krate)) in
         let here = member_map (λ (z : Toggle). line t (AtCrate g.by) (AtFeature k.id z.name) Feature) (filter (is_between g.by k.id) t.toggled) g (member_filter (is_between g.by k.id) t.toggled g passes at) in
         let same : line t (AtCrate g.by) (AtFeature k.id g.name) Feature ≡ x = ap (λ i. line t (AtCrate g.by) (AtFeature i g.name) Feature) e in
         member_right (flat_map (λ z. uses t z z.given) (filter (is_to k.id) (from_crate t g.by))) _ x (subst (Member (map (λ z. line t (AtCrate g.by) (AtFeature k.id z.name) Feature) (filter (is_between g.by k.id) t.toggled))) same here)

@@ -165,7 +165,7 @@ no_place : {A : Type 0} (p : A → Bool) (xs : List A) → ((k : ℕ) (d : A) �
 no_place p [] h = refl
 no_place p (x ∷ xs) h = ap (λ b. cond b 0 (suc (place_of p xs))) (h zero x (omega arith)) ∙ ap suc (no_place p xs (λ k d lt. h (suc k) d (omega (arith, lt))))
 
-unequal : (r : Ordering) → (r ≡ Equal → ⊥) → is_eq r ≡ false
+pub unequal : (r : Ordering) → (r ≡ Equal → ⊥) → is_eq r ≡ false
 unequal Less h = refl
 unequal Equal h = absurd (h refl)
 unequal Greater h = refl

@@ -1,5 +1,6 @@
 -- Filtering a sorted list by either of two tests.
 use Rattle.std.proofs.Common.{◌≡◌, Bool, true, false, ◌||◌, List, [], ◌∷◌, ◌++◌, map, filter, cond, Option, Some, Ordering, Less, Equal, Greater, refl, sym, ap, ◌∙◌}
+use Rattle.std.proofs.lemmas.Bool.{false_from_ne_true}
 use Rattle.std.specs.Cmp.{IsTotalOrder}
 use Rattle.std.specs.List.{AllByRecursion}
 use Rattle.std.specs.List.Sorted.{IsStrictlySortedBy}
@@ -9,13 +10,6 @@ use Rattle.krates_drawing.specs.Drawing.{last_from}
 -- either of two tests
 abbrev pub either : {A : Type 0} → (A → Bool) → (A → Bool) → A → Bool
 either p q x = p x || q x
-
-joined_false : (b c : Bool) → b ≡ false → c ≡ false → (b || c) ≡ false
-joined_false b c e f = rw (e, f) refl
-
-not_true : (b : Bool) → (b ≡ true → ⊥) → b ≡ false
-not_true true h = absurd (h refl)
-not_true false h = refl
 
 none_pass : {A : Type 0} (p : A → Bool) (xs : List A) → AllByRecursion (λ y. p y ≡ false) xs → filter p xs ≡ []
 none_pass p [] h = refl
@@ -36,7 +30,7 @@ module _ {K : Type 0} {R : K → K → Ordering} (o : IsTotalOrder R) where
 
   -- after an equal element nothing passes that would have to be below or equal
   behind : {A : Type 0} (key : A → K) (p : A → Bool) (c : K) (x : A) (xs : List A) → ((z : A) → p z ≡ true → R (key z) c ≡ Greater → ⊥) → R (key x) c ≡ Equal → AllByRecursion (λ y. R (key x) y ≡ Less) (map key xs) → filter p xs ≡ []
-  behind key p c x xs low e all = none_pass p xs (each_from (λ z. R (key x) (key z) ≡ Less) (λ z. p z ≡ false) xs (λ z l. not_true (p z) (λ t. low z t (above_equal (key x) c (key z) e l))) (each_under key (λ k. R (key x) k ≡ Less) xs all))
+  behind key p c x xs low e all = none_pass p xs (each_from (λ z. R (key x) (key z) ≡ Less) (λ z. p z ≡ false) xs (λ z l. false_from_ne_true (p z) (λ t. low z t (above_equal (key x) c (key z) e l))) (each_under key (λ k. R (key x) k ≡ Less) xs all))
 
   is_equal_low : {A : Type 0} (key : A → K) (c : K) (z : A) → is_eq (R (key z) c) ≡ true → R (key z) c ≡ Greater → ⊥
   is_equal_low key c z t g = cc (t, ap is_eq g)

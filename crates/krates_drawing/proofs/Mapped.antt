@@ -1,5 +1,6 @@
 -- Which crate a declared dependency is mapped to, edge by edge.
 use Rattle.std.proofs.Common.{◌≡◌, ℕ, ◌+◌, ◌<◌, ◌≤◌, ◌==◌, Bool, true, false, ◌||◌, ◌&&◌, List, [], ◌∷◌, length, get_or, take, map, filter, arith, cond, Option, Some, None, option_map, slice_get, replicate, set, Greater, refl, sym, ap, ◌∙◌}
+use Rattle.std.proofs.lemmas.Bool.{and_parts, ne_eqb}
 use Rattle.std.proofs.lemmas.List.{get_or-map}
 use Rattle.std.proofs.lemmas.List.Elements.{filter_agree}
 use Rattle.std.specs.List.{range_with_len}
@@ -17,8 +18,7 @@ use Rattle.krates_drawing.proofs.Children.{AreWithin, crates_in_order, not_above
 use Rattle.krates_drawing.proofs.CratePlaces.{AreInOrder, id_of_krate}
 use Rattle.krates_drawing.proofs.Entries.{all_alike, entries_changed, entries_kept, entry_changed, same_entries}
 use Rattle.krates_drawing.proofs.Joined.{either, last_joined}
-use Rattle.krates_drawing.proofs.NodeNumbers.{both}
-use Rattle.krates_drawing.proofs.Tests.{equal_self, order_total, unequal_is}
+use Rattle.krates_drawing.proofs.Tests.{equal_self, order_total}
 
 seen_last : {A B : Type 0} (f : A → B) (o : Option A) (xs : List A) → option_map f (last_from o xs) ≡ last_from (option_map f o) (map f xs)
 seen_last f o [] = refl
@@ -48,7 +48,7 @@ more_step s mine i x place true e sorted within by lt is =
     let next : model.CrateRow → Bool = claims (map v (take (i + 1) mine)) place in
     let equal : model.CrateRow → Bool = λ q. is_eq (id_order q.id c) in
     let low : (q : model.CrateRow) → now q ≡ true → id_order q.id c ≡ Greater → ⊥ = λ q h.
-    not_above s.krates.items (claims_at place q.id) mine i x q.id sorted within by lt is (seen_as v (claims_at place q.id) mine i h) (λ l t. (both _ _ t).0) in
+    not_above s.krates.items (claims_at place q.id) mine i x q.id sorted within by lt is (seen_as v (claims_at place q.id) mine i h) (λ l t. (and_parts _ _ t).0) in
     let filtered : filter next t.krates ≡ filter (either now equal) t.krates = filter_agree next (either now equal) (λ q.
     seen_more v (claims_at place q.id) mine i x lt is ∙ ap (λ b. now q || (is_to q.id (v x) && b)) e ∙ always (now q) (is_to q.id (v x)) ∙ ap (λ b. now q || b) (to_next c q)) t.krates in
     let last = last_joined order_total (λ (q : model.CrateRow). q.id) now c t.krates None (crates_in_order s.krates.items sorted) low in
@@ -100,7 +100,7 @@ claimed_here : (t : model.Outline) (l : model.EdgeRow) (found : Option ℕ) → 
 claimed_here t l found = ap (λ b. cond b (number_of t l.edge.child found) found) (equal_self l.place)
 
 claimed_elsewhere : (t : model.Outline) (l : model.EdgeRow) (place : ℕ) (found : Option ℕ) → (place ≡ l.place → ⊥) → claimed_of t l place found ≡ found
-claimed_elsewhere t l place found apart = ap (λ b. cond b (number_of t l.edge.child found) found) (unequal_is l.place place (λ e. apart (sym e)))
+claimed_elsewhere t l place found apart = ap (λ b. cond b (number_of t l.edge.child found) found) (ne_eqb l.place place (λ e. apart (sym e)))
 
 -- its number is written
 pub claimed_by : (s : Outline) (l : EdgeRow) (old : List (Option ℕ)) (n : ℕ) → AreInOrder s.krates.items → l.edge.child < length s.krates.items → n ≡ crate_number (outline_view s) (id_at (kids_in s) l.edge.child) → l.edge.declared < length old

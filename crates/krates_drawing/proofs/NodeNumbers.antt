@@ -1,5 +1,6 @@
 -- The numbers of nodes: each node has its own.
-use Rattle.std.proofs.Common.{◌≡◌, ◌⊎◌, inl, inr, ℕ, zero, suc, ◌+◌, ◌<◌, Bool, true, false, ◌&&◌, List, [], ◌∷◌, ◌++◌, length, map, option_map, Some, slice_get, cond, refl, sym, ap, ◌∙◌, subst, arith}
+use Rattle.std.proofs.Common.{◌≡◌, ◌⊎◌, inl, inr, ℕ, zero, suc, ◌+◌, ◌<◌, Bool, true, false, List, [], ◌∷◌, ◌++◌, length, map, option_map, Some, slice_get, cond, refl, sym, ap, ◌∙◌, subst, arith}
+use Rattle.std.proofs.lemmas.Bool.{and_from, and_parts}
 use Rattle.std.proofs.lemmas.Option.{slice_get-map, slice_get_within, same_Some}
 use Rattle.std.specs.Cmp.Lexicographic.{bytes_decides}
 use Rattle.std.specs.Str.{bytes_eq}
@@ -11,14 +12,6 @@ use Rattle.krates_rules.proofs.Members.{Member}
 
 -- ---- equal ids and names
 
-pub both : (p q : Bool) → (p && q) ≡ true → (p ≡ true) × (q ≡ true)
-both true q h = (refl, h)
-both false q h = absurd cc
-
-pub and_true : (p q : Bool) → p ≡ true → q ≡ true → (p && q) ≡ true
-and_true true q a b = b
-and_true false q a b = absurd cc
-
 pub text_is : (s t : Text) → bytes_eq s t ≡ true → s ≡ t
 text_is s t e = (bytes_decides s t).0 e
 
@@ -27,15 +20,15 @@ text_same t = (bytes_decides t t).1 refl
 
 pub id_is : (a b : Id) → id_eq a b ≡ true → a ≡ b
 id_is a b e =
-    let outer = both _ _ e in
-    let inner = both _ _ outer.1 in
+    let outer = and_parts _ _ e in
+    let inner = and_parts _ _ outer.1 in
     let name = text_is a.name b.name outer.0 in
     let version = text_is a.version b.version inner.0 in
     let source = text_is a.source b.source inner.1 in
     ap (λ (t : Text). record a { name = t }) name ∙ ap (λ (t : Text). record a { name = b.name; version = t }) version ∙ ap (λ (t : Text). record b { source = t }) source
 
 pub id_same : (a : Id) → id_eq a a ≡ true
-id_same a = and_true _ _ (text_same a.name) (and_true _ _ (text_same a.version) (text_same a.source))
+id_same a = and_from _ _ (text_same a.name) (and_from _ _ (text_same a.version) (text_same a.source))
 
 -- ---- the crates and features of an outline
 
@@ -53,13 +46,13 @@ pub record HasFeature (t : Outline) (p : Id) (f : Text) : Type 0 where
   pub name : named.name ≡ f
 
 pub feature_is : (q : Id) (f : Text) (n : FeatureRow) → is_feature q f n ≡ true → (n.krate ≡ q) × (n.name ≡ f)
-feature_is q f n e = let w = both _ _ e in (id_is n.krate q w.0, text_is n.name f w.1)
+feature_is q f n e = let w = and_parts _ _ e in (id_is n.krate q w.0, text_is n.name f w.1)
 
 crate_passes : (t : Outline) (p : Id) (h : HasCrate t p) → is_crate p h.krate ≡ true
 crate_passes t p h = subst (λ i. id_eq h.krate.id i ≡ true) h.id (id_same h.krate.id)
 
 pub feature_passes : (t : Outline) (p : Id) (f : Text) (h : HasFeature t p f) → is_feature p f h.named ≡ true
-feature_passes t p f h = and_true _ _ (subst (λ i. id_eq h.named.krate i ≡ true) h.krate (id_same h.named.krate)) (subst (λ x. bytes_eq h.named.name x ≡ true) h.name (text_same h.named.name))
+feature_passes t p f h = and_from _ _ (subst (λ i. id_eq h.named.krate i ≡ true) h.krate (id_same h.named.krate)) (subst (λ x. bytes_eq h.named.name x ≡ true) h.name (text_same h.named.name))
 
 -- ---- places
 

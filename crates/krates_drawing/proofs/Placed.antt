@@ -1,5 +1,6 @@
 -- Crates and features of an outline stand under their numbers: what their mappings name and where their edges lead.
 use Rattle.std.proofs.Common.{◌≡◌, ◌⊎◌, inl, inr, ℕ, zero, suc, ◌+◌, Bool, true, false, cond, List, [], ◌∷◌, ◌++◌, map, length, Option, Some, Contains, slice_get, Ordering, Less, Equal, Greater, refl, sym, ap, ◌∙◌, subst, arith, nat_cmp}
+use Rattle.std.proofs.lemmas.Bool.{and_parts, and_from, false_from_ne_true}
 use Rattle.std.proofs.lemmas.Cmp.{nat_list_cmp_total}
 use Rattle.std.proofs.lemmas.Option.{get_or_from_slice_get, none-some, same_Some, slice_get-map, slice_get_within}
 use Rattle.std.specs.Cmp.Lexicographic.{slice_cmp}
@@ -26,7 +27,7 @@ use Rattle.krates_drawing.proofs.ById.{feature_by_id, feature_order, features_so
 use Rattle.krates_drawing.proofs.Closed.{keeps_ends}
 use Rattle.krates_drawing.proofs.Holding.{holds}
 use Rattle.krates_rules.proofs.Members.{Member, member_of, contains_of, mapped_of}
-use Rattle.krates_drawing.proofs.NodeNumbers.{both, and_true, id_is, id_same, text_is, text_same, HasCrate, crate_node}
+use Rattle.krates_drawing.proofs.NodeNumbers.{id_is, id_same, text_is, text_same, HasCrate, crate_node}
 
 -- ---- nothing is below itself
 
@@ -44,10 +45,6 @@ then_less : (x y : Ordering) → is_eq x ≡ true → ordering_then x y ≡ Less
 then_less Less y e h = absurd (cc e)
 then_less Equal y e h = h
 then_less Greater y e h = absurd (cc e)
-
-not_same : (b : Bool) → (b ≡ true → ⊥) → b ≡ false
-not_same true h = absurd (h refl)
-not_same false h = refl
 
 self_equal : (a : Id) → is_eq (id_order a a) ≡ true
 self_equal a = ap is_eq (equal_self ids_total a)
@@ -81,7 +78,7 @@ own_crate r (i ∷ is) (x ∷ xs) z sorted zero k at =
     ap (λ b. cond b 0 (suc (place_of (is_crate k.id) xs))) here
 own_crate r (i ∷ is) (x ∷ xs) z sorted (suc p) k at =
     let below = crate_below r i is xs p k z.1 sorted.0 at in
-    let fails : is_crate k.id x ≡ false = not_same (is_crate k.id x) (λ h. id_not_below (id_of i) k.id (sym z.0.id ∙ id_is x.id k.id h) below) in
+    let fails : is_crate k.id x ≡ false = false_from_ne_true (is_crate k.id x) (λ h. id_not_below (id_of i) k.id (sym z.0.id ∙ id_is x.id k.id h) below) in
     ap (λ b. cond b 0 (suc (place_of (is_crate k.id) xs))) fails ∙ ap suc (own_crate r is xs z.1 sorted.1 p k at)
 
 -- ---- features under theirs
@@ -99,12 +96,12 @@ pub own_feature : (ns : List FeatureRow) → IsStrictlySortedBy feature_order (m
 unfolding IsStrictlySortedBy
 own_feature [] sorted j n at = absurd (none-some n at)
 own_feature (x ∷ xs) sorted zero n at =
-    let here : is_feature n.krate n.name x ≡ true = subst (λ (q : FeatureRow). is_feature q.krate q.name x ≡ true) (same_Some x n at) (and_true _ _ (id_same x.krate) (text_same x.name)) in
+    let here : is_feature n.krate n.name x ≡ true = subst (λ (q : FeatureRow). is_feature q.krate q.name x ≡ true) (same_Some x n at) (and_from _ _ (id_same x.krate) (text_same x.name)) in
     ap (λ b. cond b 0 (suc (place_of (is_feature n.krate n.name) xs))) here
 own_feature (x ∷ xs) sorted (suc j) n at =
     let below = feature_below (key x) xs j n sorted.0 at in
-    let fails : is_feature n.krate n.name x ≡ false = not_same (is_feature n.krate n.name x) (λ h. (
-    let w = both _ _ h in
+    let fails : is_feature n.krate n.name x ≡ false = false_from_ne_true (is_feature n.krate n.name x) (λ h. (
+    let w = and_parts _ _ h in
     feature_not_below x.krate n.krate x.name n.name (id_is x.krate n.krate w.0) (text_is x.name n.name w.1) below)) in
     ap (λ b. cond b 0 (suc (place_of (is_feature n.krate n.name) xs))) fails ∙ ap suc (own_feature xs sorted.1 j n at)
 

@@ -12,11 +12,7 @@ use Rattle.krates_rules.specs.Resolved.{id_of}
 use Rattle.krates_drawing.specs.Division.{has_same, IsAmong}
 use Rattle.krates_rules.proofs.Members.{Member, member_of, contains_of}
 use Rattle.krates_rules.proofs.OrderedIds.{Compares, equal_of, id_of_equal, sorted_weakly, weakly_by, none_equal}
-
-unequal : (r : Ordering) → (r ≡ Equal → ⊥) → is_eq r ≡ false
-unequal Less h = refl
-unequal Equal h = absurd (h refl)
-unequal Greater h = refl
+use Rattle.krates_drawing.proofs.EqualRanges.{unequal}
 
 not_at : Compares → {X : Type 0} (key : X → Identity) (xs : List X) (x : Identity) (i : ℕ) → IsPartitionPoint (λ y. id_cmp (key y) x ≡ Less) (λ y. id_cmp (key y) x ≡ Greater) xs i
     → (k : ℕ) (d : Identity) → k < length xs → id_cmp (get_or (map key xs) k d) x ≡ Equal → ⊥

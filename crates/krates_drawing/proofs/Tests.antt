@@ -48,24 +48,8 @@ equal_ids a b =
 pub equal_named : (m n : ℕ) (f g : Text) → is_eq (ordering_then (nat_cmp m n) (slice_cmp nat_cmp f g)) ≡ ((m == n) && bytes_eq f g)
 equal_named m n f g = then_eq (nat_cmp m n) (slice_cmp nat_cmp f g) ∙ and_same _ _ _ _ (sym (unsigned_ties m n)) (is_eq-slice_cmp f g)
 
--- numbers that pass are equal
-pub equal_is : (m n : ℕ) → (m == n) ≡ true → m ≡ n
-equal_is m n t = by (nat_cmp m n) refl (sym (unsigned_ties m n) ∙ t)
-  where
-    by : (r : Ordering) → r ≡ nat_cmp m n → is_eq r ≡ true → m ≡ n
-    by Less e h = absurd cc
-    by Equal e h = ranked m n Equal e
-    by Greater e h = absurd cc
-
 pub equal_self : (n : ℕ) → (n == n) ≡ true
 equal_self n = search rules
-
-pub unequal_is : (m n : ℕ) → (m ≡ n → ⊥) → (m == n) ≡ false
-unequal_is m n h = by (m == n) refl
-  where
-    by : (b : Bool) → (m == n) ≡ b → b ≡ false
-    by true e = absurd (h (equal_is m n e))
-    by false e = refl
 
 pub bools_same : (a b : Bool) → (a ≡ true → b ≡ true) → (b ≡ true → a ≡ true) → a ≡ b
 bools_same true b f g = sym (f refl)

@@ -1,9 +1,9 @@
 //! The outline of a selection, gathered: beside what it keeps, what the document says.
 
-ghost use Rattle.std.specs.Prelude.{◌≡◌, Some, map, length, slice_get, option_map, IfOk};
+ghost use Rattle.std.specs.Prelude.{◌≡◌, Some, map, option_map, IfOk};
 ghost use Rattle.std.specs.List.{AllZip};
 ghost use Rattle.krates_cm.specs.Document.{dependency_view, package_view, text_view};
-ghost use Rattle.krates_questions.specs.Lookup.{IsLookup, resolved_view};
+ghost use Rattle.krates_questions.specs.Lookup.{resolved_view};
 ghost use Rattle.krates_selection.specs.Selection.{IsSelection};
 ghost use Rattle.krates_drawing.specs.Outline.{IsOutline};
 ghost use Rattle.krates_drawing.specs.Gathered.{IsEdgeWith, IsFeatureWith, MeaningsRecorded, count_in, dependency_in, given_in, row_in, values_in};
