@@ -9,7 +9,9 @@ use Rattle.krates_derive.specs.FactRef.{fact_cmp, fact_of_ref}
 use Rattle.krates_derive.specs.FactSet.{HasBetween, HasKeys, HasPairs, pair_cmp}
 use Rattle.krates_rules.specs.StepViews.{fact_view, facts_view}
 use Rattle.krates_rules.specs.declared.derivation.Fact.{Fact as ToldFact}
+use Rattle.krates_derive.specs.declared.fact_ref.EdgeRef.{EdgeRef}
 use Rattle.krates_derive.specs.declared.fact_ref.FactRef.{FactRef}
+use Rattle.krates_derive.specs.declared.fact_ref.FactRef.TheVariants as keys
 use Rattle.krates_derive.specs.declared.fact_set.Pair.{Pair}
 use Rattle.krates_rules.proofs.DistinctIds.{OrderTellsSame}
 use Rattle.krates_rules.proofs.PutElements.{equal_is, is_equal, none_there, put_step}
@@ -78,6 +80,17 @@ pairs_same set fs f other h q = (
 
 pub pairs_more : (new : BTreeSet Pair) (xs : List ToldFact) (i : ℕ) (x : ToldFact) → i < length xs → x ≡ get_or xs i x → HasPairs new (facts_view (take i xs) ++ fact_view x ∷ []) → HasPairs new (facts_view (take (i + 1) xs))
 pairs_more new xs i x lt is h = subst (HasPairs new) (seen_step xs i x lt is) h
+
+-- a fact is an edge only where it is read as one
+never_kept : (k : FactRef) → ((e : EdgeRef) → k ≡ keys.Kept e → ⊥) → (e : Edge) → fact_of_ref k ≡ Kept e → ⊥
+never_kept (keys.Crate i) other e same = absurd cc
+never_kept (keys.Feature f) other e same = absurd cc
+never_kept (keys.Kept d) other e same = other d refl
+never_kept (keys.Toggled t) other e same = absurd cc
+
+pub pairs_past : (set : BTreeSet Pair) (xs : List ToldFact) (i : ℕ) (x : ToldFact) (k : FactRef) → fact_of_ref k ≡ fact_view x → ((e : EdgeRef) → k ≡ keys.Kept e → ⊥) → i < length xs → x ≡ get_or xs i x
+    → HasPairs set (facts_view (take i xs)) → HasPairs set (facts_view (take (i + 1) xs))
+pairs_past set xs i x k seen other lt is h = pairs_more set xs i x lt is (pairs_same set (facts_view (take i xs)) (fact_view x) (λ e same. never_kept k other e (seen ∙ same)) h)
 
 pub pairs_all : (set : BTreeSet Pair) (xs : List ToldFact) (i : ℕ) → length xs ≤ i → HasPairs set (facts_view (take i xs)) → HasPairs set (facts_view xs)
 pairs_all set xs i le h = subst (λ (ys : List ToldFact). HasPairs set (facts_view ys)) (take_all i xs le) h

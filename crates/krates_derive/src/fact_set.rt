@@ -1,13 +1,13 @@
 //! Whether a list has a fact.
 
-ghost use Rattle.std.specs.Prelude.{◌≡◌, ◌↔◌, ◌∷◌, ◌++◌, [], Contains, IfOk, IsTrue, List, OnOk};
+ghost use Rattle.std.specs.Prelude.{◌≡◌, ◌↔◌, Contains, IfOk, IsTrue, List};
 ghost use Rattle.krates_derive.specs.FactRef.{fact_of_ref};
 ghost use Rattle.krates_derive.specs.FactSet.{HasBetween, HasKeys, HasPairs};
-ghost use Rattle.krates_rules.specs.Facts.{Crate, Fact as FactModel, Feature};
+ghost use Rattle.krates_rules.specs.Facts.{Crate, Feature};
 ghost use Rattle.krates_rules.specs.Resolved.{id_of};
-ghost use Rattle.krates_rules.specs.StepViews.{fact_view, facts_view};
+ghost use Rattle.krates_rules.specs.StepViews.{facts_view};
 
-use crate::fact_ref::{FactRef, FeatureRef};
+use crate::fact_ref::{EdgeRef, FactRef, FeatureRef};
 use krates_ids::{Kid, laws};
 use krates_rules::Fact;
 use std::alloc::{AllocError, Global};
@@ -102,26 +102,12 @@ fn keys_of<'a>(alloc: Global, facts: &'a [Fact]) -> Result<BTreeSet<FactRef<'a>>
 fn pairs_of<'a>(alloc: Global, facts: &'a [Fact]) -> Result<BTreeSet<Pair<'a>>, AllocError>
     ensures { IfOk result (λ pairs. HasPairs pairs (facts_view facts.now)) }
 {
+    laws::comparison();
     let mut pairs = BTreeSet::new(alloc);
     for fact in facts {
-        put_pair(fact, &mut pairs)?;
-    }
-    Ok(pairs)
-}
-
-/// Adds the crates of a fact that is an edge.
-fn put_pair<'a>(fact: &'a Fact, pairs: &mut BTreeSet<Pair<'a>>) -> Result<(), AllocError>
-    ensures { OnOk result ((fs : List FactModel)
-        → HasPairs pairs.old fs → HasPairs pairs.new (fs ++ fact_view fact.now ∷ [])) }
-{
-    laws::comparison();
-    match fact {
-        Fact::Crate(_) => {}
-        Fact::Feature { .. } => {}
-        Fact::Kept { parent, child, .. } => {
+        if let FactRef::Kept(EdgeRef { parent, child, .. }) = FactRef::of(fact) {
             pairs.insert(Pair { parent, child })?;
         }
-        Fact::Toggled { .. } => {}
     }
-    Ok(())
+    Ok(pairs)
 }
