@@ -154,7 +154,8 @@ impl<'a, 's> ClosureCheck<'a, 's> {
     pub fn are_asked_in(&self, krate: &'a Kid, values: &'a [String]) -> Result<bool, AllocError>
         ensures { let texts = map text_view values.now in
             IfOk result (λ b. IsTrue b
-            ↔ AskedAmongIn (document_in self.now) self.now.setting.now (facts_in self.now) (id_of krate.now) texts) }
+            ↔ AskedAmongIn (document_in self.now) self.now.setting.now (facts_in self.now)
+            (id_of krate.now) texts) }
     {
         for value in values {
             if !self.is_asked_in(krate, value.as_str())? {
@@ -226,7 +227,8 @@ impl<'a, 's> ClosureCheck<'a, 's> {
     pub fn are_toggling_in(&self, krate: &'a Kid, values: &'a [String]) -> Result<bool, AllocError>
         ensures { let texts = map text_view values.now in
             IfOk result (λ b. IsTrue b
-            ↔ TogglingAmongIn (document_in self.now) self.now.setting.now (facts_in self.now) (id_of krate.now) texts) }
+            ↔ TogglingAmongIn (document_in self.now) self.now.setting.now (facts_in self.now)
+            (id_of krate.now) texts) }
     {
         for value in values {
             if !self.is_toggling_in(krate, value.as_str())? {
@@ -276,7 +278,8 @@ impl<'a, 's> ClosureCheck<'a, 's> {
     /// Whether a feature of a crate is toggled, if the list has an edge there.
     fn is_meant_in(&self, krate: &'a Kid, child: &'a Kid, name: &'a str) -> bool
         ensures { IsTrue result
-            ↔ MeantIn (document_in self.now) (facts_in self.now) (id_of krate.now) (id_of child.now) name.now }
+            ↔ MeantIn (document_in self.now) (facts_in self.now)
+            (id_of krate.now) (id_of child.now) name.now }
     {
         if !self.facts.has_between(krate, child) {
             return true;
@@ -336,7 +339,8 @@ impl<'a, 's> ClosureCheck<'a, 's> {
 
     /// Whether the default feature stands in the list, if a declared dependency uses it.
     fn is_default_in(&self, krate: &'a Kid, uses: bool) -> bool
-        ensures { IsTrue result ↔ DefaultIn (document_in self.now) (facts_in self.now) (id_of krate.now) uses }
+        ensures { IsTrue result ↔ DefaultIn (document_in self.now) (facts_in self.now)
+            (id_of krate.now) uses }
     {
         if !uses {
             return true;
