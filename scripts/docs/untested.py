@@ -32,8 +32,9 @@ SHOWN_BY = {
     "ignores": ("IgnoredKinds::with", "IgnoredKinds::has"),
     # a checker with an index looks at the corrected document, and asks what each fact of a list gives
     "check_closed": (
-        "corrected Document::means are_roots_in is_crate_in is_kept_in are_simple_in are_toggling_in are_asked_in"
-        " FactSet::of FactSet::has_crate FactSet::has_feature"
+        "corrected Document::means FactSet::of FactSet::has_crate FactSet::has_feature ClosureCheck::are_roots_in"
+        " ClosureCheck::is_crate_in ClosureCheck::is_kept_in ClosureCheck::are_simple_in ClosureCheck::are_toggling_in"
+        " ClosureCheck::are_asked_in"
     ).split(),
     # one step is asked by the number of its premises
     "check": ("from_nothing", "from_one", "from_two"),

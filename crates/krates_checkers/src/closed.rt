@@ -11,10 +11,7 @@ ghost use Rattle.krates_rules.specs.Derivation.{IsClosed};
 ghost use Rattle.krates_rules.specs.Resolved.{id_of};
 ghost use Rattle.krates_rules.specs.StepViews.{fact_view, facts_view};
 
-use krates_derive::closing::{
-    ClosureCheck, are_asked_in, are_roots_in, are_simple_in, are_toggling_in, is_crate_in,
-    is_kept_in,
-};
+use krates_derive::closing::ClosureCheck;
 use krates_derive::fact_ref::EdgeRef;
 use krates_derive::fact_set::FactSet;
 use krates_ids::Kid;
@@ -37,7 +34,7 @@ pub(crate) fn is_closed<'a>(
         setting: context.setting,
         facts: &set,
     };
-    if !are_roots_in(&check, &roots) {
+    if !check.are_roots_in(&roots) {
         return Ok(false);
     }
     are_facts_in(&check, facts)
@@ -64,7 +61,7 @@ fn is_fact_in<'a>(check: &ClosureCheck<'a, '_>, fact: &'a Fact) -> Result<bool, 
         (fact_view fact.now)) }
 {
     match fact {
-        Fact::Crate(krate) => is_crate_in(check, krate),
+        Fact::Crate(krate) => check.is_crate_in(krate),
         Fact::Feature { krate, name } => is_feature_in(check, krate, name.as_str()),
         Fact::Kept {
             parent,
@@ -78,7 +75,7 @@ fn is_fact_in<'a>(check: &ClosureCheck<'a, '_>, fact: &'a Fact) -> Result<bool, 
                 kind: *kind,
                 cfg,
             };
-            is_kept_in(check, &edge)
+            check.is_kept_in(&edge)
         }
         Fact::Toggled { child, name, .. } => { Ok(check.facts.has_feature(child, name.as_str())) }
     }
@@ -98,11 +95,11 @@ fn is_feature_in<'a>(
         return Ok(false);
     }
     let values = check.document.values(krate, feature);
-    if !are_simple_in(check, krate, values) {
+    if !check.are_simple_in(krate, values) {
         return Ok(false);
     }
-    if !are_toggling_in(check, krate, values)? {
+    if !check.are_toggling_in(krate, values)? {
         return Ok(false);
     }
-    are_asked_in(check, krate, values)
+    check.are_asked_in(krate, values)
 }

@@ -1,9 +1,0 @@
-use Rattle.krates_derive.specs.Giving.{RootIn}
-use Rattle.krates_rules.proofs.Seen.{SeenBelow}
-use Rattle.krates_derive.specs.ClosureCheck.{document_in, facts_in}
-use Rattle.krates_rules.specs.Resolved.{id_of}
-use Rattle.krates_derive.proofs.closing.are_roots_in.Given as goal
-
--- it holds of the roots so far
-abbrev pub invariant-loop-root : goal.invariant-loop-root
-invariant-loop-root l = SeenBelow (λ x. RootIn (document_in l.check) l.check.setting.now (facts_in l.check) (id_of x.now)) l.roots l.root-index
