@@ -1,15 +1,13 @@
 -- The counts of a search are the counts of its selection.
-use Rattle.std.proofs.Common.{◌≡◌, ◌≢◌, ℕ, zero, suc, ◌<◌, ◌≤◌, List, [], ◌∷◌, length, get_or, Bool, true, false, ◌==◌, Some, Contains, option_map, refl, sym, ap, ◌∙◌, subst, eqb-true, arith}
-use Rattle.std.proofs.lemmas.List.{length-map}
+use Rattle.std.proofs.Common.{◌≡◌, ◌≢◌, ℕ, zero, suc, ◌<◌, ◌≤◌, List, [], ◌∷◌, length, get_or, Bool, true, false, ◌==◌, Some, Contains, refl, sym, ap, ◌∙◌, subst, eqb-true, arith}
 use Rattle.std.proofs.lemmas.List.Sorted.{length_permutation}
-use Rattle.std.proofs.lemmas.Option.{slice_get-get_or, slice_get-map, slice_get_within, same_Some}
+use Rattle.std.proofs.lemmas.Option.{slice_get-get_or, slice_get_within, same_Some}
 use Rattle.std.specs.List.{AllPairs, AllZip, IsDistinct, slice_get}
-use Rattle.std.specs.List.Sorted.{IsPermutation}
 use Rattle.krates_cm.specs.Document.{Text, text_view}
-use Rattle.krates_ids.specs.Identity.{Identity, Reads, same_id}
-use Rattle.krates_rules.specs.Admission.{NoneDoubled, node_texts}
+use Rattle.krates_ids.specs.Identity.{Identity}
+use Rattle.krates_rules.specs.Admission.{NoneDoubled}
 use Rattle.krates_rules.specs.Facts.{Id}
-use Rattle.krates_rules.specs.Resolved.{NodeAt, Resolved, id_of}
+use Rattle.krates_rules.specs.Resolved.{NodeAt, Resolved}
 use Rattle.krates_resolve.specs.Counting.{HasCountedAll}
 use Rattle.krates_questions.specs.ListedFeatures.{listed_features}
 use Rattle.krates_questions.specs.Numbering.{FeatureAt, IsOwn}
@@ -19,18 +17,14 @@ use Rattle.krates_selection.specs.Work.{CountsEach, HasReferences, counted}
 use Rattle.krates_search.specs.declared.search_state.SearchState.{SearchState}
 use Rattle.krates_selection.specs.declared.selection.EnabledFeature.{EnabledFeature}
 use Rattle.krates_selection.specs.declared.work.Work.{Work}
-use Rattle.krates_rules.proofs.DistinctIds.{id_of_same}
-use Rattle.krates_rules.proofs.FirstPlaces.{seen_at}
 use Rattle.krates_rules.proofs.OnlyOne.{one_node_place}
 use Rattle.krates_rules.proofs.Readings.{left_of}
 use Rattle.krates_rules.proofs.Standings.{contains_at}
 use Rattle.krates_rules.proofs.Distinct.{distinct_from, zip_shuffled}
-use Rattle.krates_questions.proofs.NodeParts.{node_here}
 use Rattle.krates_selection.specs.CrateNumbers.{id_at}
 use Rattle.krates_search.specs.KeptFeatures.{AreSorted, IsFeatureOf}
 use Rattle.krates_rules.proofs.Elements.{both}
 use Rattle.krates_search.proofs.KeptFeatures.{same_name}
-use Rattle.krates_resolve.proofs.Selected.{AreAt, EqualityTellsSame}
 
 -- a boolean that isn't true is false
 is_false : (b : Bool) → (b ≡ true → ⊥) → b ≡ false
@@ -44,23 +38,6 @@ apart xs j k n distinct lt a b =
     let first = same_Some n (get_or xs j n) (sym a ∙ slice_get-get_or xs j n (omega (arith, lt, long))) in
     let second = same_Some n (get_or xs k n) (sym b ∙ slice_get-get_or xs k n long) in
     distinct j k n lt long (sym first ∙ second)
-
--- the place where the id stands
-place_of : (ids : List Identity) (places : List ℕ) (kids : List Identity) (j : ℕ) (kid : Identity) → AreAt ids places kids → slice_get kids j ≡ Some kid → (p : ℕ) × (slice_get places j ≡ Some p) × (slice_get ids p ≡ Some kid)
-place_of ids places kids j kid same at =
-    let here = ap (λ xs. slice_get xs j) same ∙ slice_get-map (λ (k : Identity). Some k) kids j ∙ ap (option_map (λ (k : Identity). Some k)) at in
-    let s = seen_at (slice_get ids) places j (Some kid) here in
-    (get_or places j s.0, slice_get-get_or places j s.0 s.1, s.2)
-
--- no crate was put twice
-distinct_kids : EqualityTellsSame → (r : Resolved) (ids : List Identity) (places : List ℕ) (kids : List Identity) → NoneDoubled r.metadata r.graph → AllZip Reads (node_texts r.graph) ids → AllPairs (λ a b. a ≢ b) places → AreAt ids places kids
-    → IsDistinct same_id kids
-distinct_kids tells r ids places kids none reads distinct at = distinct_from same_id kids (λ j k a b lt x y. is_false (same_id a b) (λ same.
-    (let p = place_of ids places kids j a at x in
-    let q = place_of ids places kids k b at y in
-    let one : id_of a ≡ id_of b = id_of_same a b ((tells a b).0 same) in
-    let e : p.0 ≡ q.0 = one_node_place r (id_of b) p.0 q.0 none (subst (λ (i : Id). NodeAt r i p.0) one (node_here r ids p.0 a reads p.2)) (node_here r ids q.0 b reads q.2) in
-    apart places j k q.0 distinct lt (subst (λ (n : ℕ). slice_get places j ≡ Some n) e p.1) q.1)))
 
 neither_less : (n m : ℕ) → m ≤ n → n ≤ m → n ≡ m
 neither_less n m low high = omega (arith, low, high)
@@ -99,27 +76,21 @@ numbers_long r kids (n ∷ ns) [] z = absurd z
 numbers_long r kids (n ∷ ns) (x ∷ xs) z = ap suc (numbers_long r kids ns xs z.1)
 
 -- what was found, and counted
-pub record IsCountedWhole (r : Resolved) (s : SettingModel) (ids : List Identity) (found : SearchState) (put kids : List Identity) (work : Work) : Type 0 where
+pub record IsCountedWhole (r : Resolved) (s : SettingModel) (found : SearchState) (kids : List Identity) (work : Work) : Type 0 where
   pub none_doubled : NoneDoubled r.metadata r.graph
-  pub reads : AllZip Reads (node_texts r.graph) ids
-  pub krates : AreAt ids found.krates.put put
-  pub krates_once : AllPairs (λ a b. a ≢ b) found.krates.put
-  pub krates_moved : IsDistinct same_id put → IsPermutation put kids
+  pub krates_long : length kids ≡ length found.krates.put
   pub features_once : AllPairs (λ a b. a ≢ b) found.features.put
   pub own : (n : ℕ) → Contains found.features.put n → IsOwn r n
   pub counted : HasCountedAll r s found work
 
-pub counts_each : EqualityTellsSame → (r : Resolved) (s : SettingModel) (ids : List Identity) (found : SearchState) (put kids : List Identity) (features : List EnabledFeature) (work : Work) → IsCountedWhole r s ids found put kids work
-    → AreSorted r kids found.features.put features → CountsEach r s kids features work
-counts_each tells r s ids found put kids features work whole sorted =
+pub counts_each : (r : Resolved) (s : SettingModel) (found : SearchState) (kids : List Identity) (features : List EnabledFeature) (work : Work) → IsCountedWhole r s found kids work → AreSorted r kids found.features.put features → CountsEach r s kids features work
+counts_each r s found kids features work whole sorted =
     let refers : EnabledFeature → ℕ → Type 0 = λ f k. HasReferences r s (id_at kids f.krate) (text_view f.name) k in
     let enabled = sorted.enabled in
     let c = whole.counted in
     let t = c.counted.references.1 in
-    let p = whole.krates_moved (distinct_kids tells r ids found.krates.put put whole.none_doubled whole.reads whole.krates_once whole.krates) in
     let q = sorted.whole (distinct_enabled r kids found.features.put enabled whole.none_doubled whole.own whole.features_once sorted.numbered) in
-    let put_long : length put ≡ length found.krates.put = sym (length-map put (λ (k : Identity). Some k)) ∙ ap length (sym whole.krates) ∙ length-map found.krates.put (slice_get ids) in
-    let krates : found.krates.taken ≡ length kids = c.krates ∙ sym put_long ∙ sym (length_permutation put kids p) in
+    let krates : found.krates.taken ≡ length kids = c.krates ∙ sym whole.krates_long in
     let enabled_long = numbers_long r kids found.features.put enabled sorted.numbered in
     let taken : found.features.taken ≡ length features = c.features ∙ sym enabled_long ∙ sym (length_permutation enabled features q) in
     let zip : AllZip refers enabled t.counts = zip_from refers enabled t.counts (t.long ∙ c.features ∙ sym enabled_long) (λ k x n at count.

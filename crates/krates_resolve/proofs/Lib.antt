@@ -1,5 +1,6 @@
 pub mod Counted
 pub mod CountedSelection
+pub mod KeptCrates
 pub mod ReferenceLemmas
 pub mod Referred
 pub mod Rooted

@@ -1,17 +1,18 @@
 -- A selection that is made of the crates, edges and features that were found.
-use Rattle.std.proofs.Common.{◌≡◌, ◌↔◌, ℕ, ◌+◌, ◌<◌, List, [], ◌∷◌, ◌++◌, length, get_or, map, take, Bool, true, All, Contains, Some, option_map, inl, inr, refl, sym, ap, ◌∙◌, subst, arith}
-use Rattle.std.proofs.lemmas.List.{length-map, map-append, take_more}
+use Rattle.std.proofs.Common.{◌≡◌, ◌↔◌, ℕ, ◌<◌, List, length, get_or, map, All, Contains, Option, Some, option_map, inl, inr, sym, ap, ◌∙◌, subst, arith}
+use Rattle.std.proofs.lemmas.List.{length-map}
 use Rattle.std.proofs.lemmas.List.Elements.{Contains-append_left, Contains-append_right, Contains-append_cases}
-use Rattle.std.proofs.lemmas.Option.{slice_get-map, slice_get_read}
+use Rattle.std.proofs.lemmas.Option.{slice_get-map}
 use Rattle.std.specs.List.{AllZip, slice_get}
-use Rattle.std.specs.List.Sorted.{IsStrictlySortedBy}
+use Rattle.std.specs.List.Sorted.{IsPermutation, IsStrictlySortedBy}
+use Rattle.std.proofs.lemmas.List.Sorted.{Contains-permutation, IsPermutation-sym}
 use Rattle.krates_cm.specs.Document.{NodeModel, text_view}
-use Rattle.krates_ids.specs.Identity.{Identity, Reads, IsSameId, same_id, id_cmp}
+use Rattle.krates_ids.specs.Identity.{Identity, Reads, id_cmp}
 use Rattle.krates_rules.specs.Admission.{NoneDoubled, node_texts}
 use Rattle.krates_rules.specs.Derivation.{Derivable}
 use Rattle.krates_rules.specs.Facts.{Id, Edge, Fact, Crate, Feature, Kept, Toggled, Lost}
 use Rattle.krates_rules.specs.Questions.{questions}
-use Rattle.krates_rules.specs.Resolved.{Resolved, id_of}
+use Rattle.krates_rules.specs.Resolved.{NodeAt, Resolved, id_of}
 use Rattle.krates_rules.specs.Setting.{SettingModel}
 use Rattle.krates_selection.specs.CrateNumbers.{id_at}
 use Rattle.krates_search.specs.SearchState.{HasFound}
@@ -28,7 +29,7 @@ use Rattle.krates_search.specs.declared.found_edge.FoundEdge.{FoundEdge}
 use Rattle.krates_search.specs.declared.found_toggle.FoundToggle.{FoundToggle}
 use Rattle.krates_selection.specs.declared.selection.Selection.{Selection}
 use Rattle.krates_rules.proofs.Readings.{ReadsOnce}
-use Rattle.krates_rules.proofs.DistinctIds.{id_of_same}
+use Rattle.krates_resolve.specs.KeptCrates.{AreAt, AreKept}
 use Rattle.krates_rules.proofs.FirstPlaces.{seen_at}
 use Rattle.krates_questions.proofs.Lookups.{one_id}
 use Rattle.krates_questions.proofs.FeatureNumbers.{listed_place}
@@ -45,17 +46,6 @@ use Rattle.krates_rules.proofs.Standings.{contains_at}
 
 -- ---- the ids at places
 
--- the ids are those at the places
-abbrev pub AreAt : List Identity → List ℕ → List Identity → Type 0
-AreAt ids places kids = map (slice_get ids) places ≡ map (λ k. Some k) kids
-
-pub at_more : (ids : List Identity) (places : List ℕ) (i : ℕ) (kid : Identity) (kids more : List Identity) → i < length places → get_or places i 0 < length ids → kid ≡ get_or ids (get_or places i 0) kid → more ≡ kids ++ kid ∷ []
-    → AreAt ids (take i places) kids → AreAt ids (take (i + 1) places) more
-at_more ids places i kid kids more lt below is grown h =
-    let here : slice_get ids (get_or places i 0) ≡ Some kid = slice_get_read ids (length ids) (get_or places i 0) kid refl below is in
-    ap (map (slice_get ids)) (take_more places i 0 lt) ∙ map-append (slice_get ids) (take i places) (get_or places i 0 ∷ []) ∙ ap (λ z. z ++ slice_get ids (get_or places i 0) ∷ []) h
-    ∙ ap (λ o. map (λ k. Some k) kids ++ o ∷ []) here ∙ sym (map-append (λ k. Some k) kids (kid ∷ [])) ∙ ap (map (λ k. Some k)) (sym grown)
-
 kid_at : (ids : List Identity) (places : List ℕ) (kids : List Identity) (p : ℕ) → AreAt ids places kids → Contains places p → (kid : Identity) × Contains kids kid × (slice_get ids p ≡ Some kid)
 kid_at ids places kids p same c =
     let at = place_in places p c in
@@ -70,79 +60,73 @@ place_of_kid ids places kids kid same c =
     let s = seen_at (slice_get ids) places at.0 (Some kid) here in
     (get_or places at.0 s.0, contains_or places at.0 s.0 s.1, s.2)
 
--- ---- what compares as equal
-
--- what `==` of ids says
-abbrev pub EqualityTellsSame : Type 0
-EqualityTellsSame = (a b : Identity) → (same_id a b ≡ true) ↔ IsSameId a b
-
 -- ---- the kept crates
 
--- one list sorted: each of its elements is from the other, and each of the other has an equal one in it
-pub record IsOrdered {A : Type 0} (eq : A → A → Bool) (old new : List A) : Type 0 where
-  pub from : (x : A) → Contains new x → Contains old x
-  pub kept : (x : A) → Contains old x → (y : A) × Contains new y × (eq x y ≡ true)
-
--- what was found is exactly what is derivable, and these are the ids of its crates, and these ids in order
-pub record IsWhole (r : Resolved) (s : SettingModel) (ids : List Identity) (found : SearchState) (put kids : List Identity) : Type 0 where
+-- what was found is exactly what is derivable, and these are the ids of its crates, in order
+pub record IsWhole (r : Resolved) (s : SettingModel) (ids : List Identity) (found : SearchState) (kids : List Identity) : Type 0 where
   pub none_doubled : NoneDoubled r.metadata r.graph
   pub reads : AllZip Reads (node_texts r.graph) ids
   pub exact : (f : Fact) → Derivable (questions r s) f ↔ HasFound r found f
-  pub krates : AreAt ids found.krates.put put
+  pub order : List ℕ
+  pub whole : IsPermutation found.krates.put order
+  pub krates : AreAt ids order kids
   pub some : 0 < length found.krates.put
-  pub ordered : IsOrdered same_id put kids
   pub rise : IsStrictlySortedBy id_cmp kids
 
 -- as the search's result is read
-pub whole_of : (look : Lookup) (s : SettingModel) (found : SearchState) (nodes : List Identity) (places : List ℕ) (put kids : List Identity) → IsLookup look → ((f : Fact) → Derivable (questions (resolved_view look) s) f ↔ HasFound (resolved_view look) found f)
-    → nodes ≡ look.ids.now.nodes.items → places ≡ found.krates.put → AreAt nodes places put → 0 < length found.krates.put → IsOrdered same_id put kids → IsStrictlySortedBy id_cmp kids
-    → IsWhole (resolved_view look) s look.ids.now.nodes.items found put kids
-whole_of look s found nodes places put kids h exact read taken at some ordered rise = record {
+pub whole_of : (look : Lookup) (s : SettingModel) (found : SearchState) (kids : List Identity) (numbers : List (Option ℕ)) → IsLookup look → ((f : Fact) → Derivable (questions (resolved_view look) s) f ↔ HasFound (resolved_view look) found f)
+    → AreKept look found.krates.put kids numbers → 0 < length found.krates.put → IsWhole (resolved_view look) s look.ids.now.nodes.items found kids
+whole_of look s found kids numbers h exact kept some = record {
   none_doubled = h.distinct;
   reads = h.ids.nodes;
   exact = exact;
-  krates = subst (λ (ps : List ℕ). AreAt look.ids.now.nodes.items ps put) taken (subst (λ (is : List Identity). AreAt is places put) read at);
+  order = kept.order;
+  whole = kept.whole;
+  krates = kept.krates;
   some = some;
-  ordered = ordered;
-  rise = rise;
+  rise = kept.ascending;
 }
 
+-- the crate at a place where one was found
+kept_at : (r : Resolved) (s : SettingModel) (ids : List Identity) (found : SearchState) (kids : List Identity) (p : ℕ) → IsWhole r s ids found kids → Contains found.krates.put p → (kid : Identity) × Contains kids kid × NodeAt r (id_of kid) p
+kept_at r s ids found kids p whole c =
+    let k = kid_at ids whole.order kids p whole.krates (Contains-permutation found.krates.put whole.order p whole.whole c) in
+    (k.0, k.1, node_here r ids p k.0 whole.reads k.2)
+
 -- a derivable crate is kept
-crate_kept : ReadsOnce → EqualityTellsSame → (r : Resolved) (s : SettingModel) (ids : List Identity) (found : SearchState) (put kids : List Identity) → IsWhole r s ids found put kids → (i : Id) → Derivable (questions r s) (Crate i) → IsKeptIn kids i
-crate_kept once tells r s ids found put kids whole i d =
+crate_kept : ReadsOnce → (r : Resolved) (s : SettingModel) (ids : List Identity) (found : SearchState) (kids : List Identity) → IsWhole r s ids found kids → (i : Id) → Derivable (questions r s) (Crate i) → IsKeptIn kids i
+crate_kept once r s ids found kids whole i d =
     let there = (whole.exact (Crate i)).0 d in
-    let k = kid_at ids found.krates.put put there.place whole.krates there.among in
-    let y = whole.ordered.kept k.0 k.1 in
-    let id : id_of y.0 ≡ i = sym (id_of_same k.0 y.0 ((tells k.0 y.0).0 y.2)) ∙ one_id once r (id_of k.0) i there.place (node_here r ids there.place k.0 whole.reads k.2) there.node in
-    let at = place_in kids y.0 y.1 in
-    (at.0, record { there = y.0; at = at.1; same = id })
+    let k = kept_at r s ids found kids there.place whole there.among in
+    let at = place_in kids k.0 k.1 in
+    (at.0, record { there = k.0; at = at.1; same = one_id once r (id_of k.0) i there.place k.2 there.node })
 
 -- and so are the crates of what was found
-ends_kept : ReadsOnce → EqualityTellsSame → (r : Resolved) (s : SettingModel) (ids : List Identity) (found : SearchState) (put kids : List Identity) → IsWhole r s ids found put kids → (e : FoundEdge) → Contains found.edges.items e → IsFoundEdge r s e
+ends_kept : ReadsOnce → (r : Resolved) (s : SettingModel) (ids : List Identity) (found : SearchState) (kids : List Identity) → IsWhole r s ids found kids → (e : FoundEdge) → Contains found.edges.items e → IsFoundEdge r s e
     → HasKeptNodes r kids e
-ends_kept once tells r s ids found put kids whole e c is =
+ends_kept once r s ids found kids whole e c is =
     let d = (whole.exact (Kept (found_view e))).1 (contains_image found_view found.edges.items e c) in
     let q = questions r s in record {
       parent = is.parent;
       child = is.child;
-      parent_kept = crate_kept once tells r s ids found put kids whole (id_of e.parent.now) (parent_kept q (found_view e) d).0;
-      child_kept = crate_kept once tells r s ids found put kids whole (id_of e.child.now) (child_kept q (found_view e) d);
+      parent_kept = crate_kept once r s ids found kids whole (id_of e.parent.now) (parent_kept q (found_view e) d).0;
+      child_kept = crate_kept once r s ids found kids whole (id_of e.child.now) (child_kept q (found_view e) d);
     }
 
-toggle_kept : ReadsOnce → EqualityTellsSame → (r : Resolved) (s : SettingModel) (ids : List Identity) (found : SearchState) (put kids : List Identity) → IsWhole r s ids found put kids → (t : FoundToggle) → Contains found.toggled.items t → IsFoundToggle r t
+toggle_kept : ReadsOnce → (r : Resolved) (s : SettingModel) (ids : List Identity) (found : SearchState) (kids : List Identity) → IsWhole r s ids found kids → (t : FoundToggle) → Contains found.toggled.items t → IsFoundToggle r t
     → HasKeptCrates r kids t
-toggle_kept once tells r s ids found put kids whole t c is =
+toggle_kept once r s ids found kids whole t c is =
     let d = (whole.exact (found_toggled t)).1 (contains_image found_toggled found.toggled.items t c) in
     let k = toggled_kept (questions r s) (id_of t.by.now) (id_of t.krate.now) t.name.now d in record {
       by = is.by;
       krate = is.krate;
-      by_kept = crate_kept once tells r s ids found put kids whole (id_of t.by.now) k.0;
-      krate_kept = crate_kept once tells r s ids found put kids whole (id_of t.krate.now) k.1;
+      by_kept = crate_kept once r s ids found kids whole (id_of t.by.now) k.0;
+      krate_kept = crate_kept once r s ids found kids whole (id_of t.krate.now) k.1;
     }
 
-feature_kept : ReadsOnce → EqualityTellsSame → (r : Resolved) (s : SettingModel) (ids : List Identity) (found : SearchState) (put kids : List Identity) → IsWhole r s ids found put kids → (n : ℕ) → Contains found.features.put n → n < length (listed_features r)
+feature_kept : ReadsOnce → (r : Resolved) (s : SettingModel) (ids : List Identity) (found : SearchState) (kids : List Identity) → IsWhole r s ids found kids → (n : ℕ) → Contains found.features.put n → n < length (listed_features r)
     → HasKeptHome r kids n
-feature_kept once tells r s ids found put kids whole n c lt =
+feature_kept once r s ids found kids whole n c lt =
     let listed = there_is (listed_features r) n lt in
     let place = listed.0.0 in
     let name = listed.0.1 in
@@ -152,27 +136,27 @@ feature_kept once tells r s ids found put kids whole n c lt =
     let kid = there_is ids place (omega (arith, within, long, texts)) in
     let at : FeatureAt r (id_of kid.0) name n = record { place = place; at = listed.1; node = node_here r ids place kid.0 whole.reads kid.1 } in
     let d = (whole.exact (Feature (id_of kid.0) name)).1 (record { number = n; among = c; at = at }) in
-    let kept = crate_kept once tells r s ids found put kids whole (id_of kid.0) (crate_of_feature (questions r s) (id_of kid.0) name d) in
+    let kept = crate_kept once r s ids found kids whole (id_of kid.0) (crate_of_feature (questions r s) (id_of kid.0) name d) in
     record { krate = id_of kid.0; name = name; at = at; kept = kept }
 
 -- all of them, by the names that the search's result has where it is read
-pub edges_kept : ReadsOnce → EqualityTellsSame → (r : Resolved) (s : SettingModel) (ids : List Identity) (found : SearchState) (put kids : List Identity) → IsWhole r s ids found put kids → All (IsFoundEdge r s) found.edges.items
+pub edges_kept : ReadsOnce → (r : Resolved) (s : SettingModel) (ids : List Identity) (found : SearchState) (kids : List Identity) → IsWhole r s ids found kids → All (IsFoundEdge r s) found.edges.items
     → (ks : List Identity) (es : List FoundEdge) → ks ≡ kids → es ≡ found.edges.items → All (HasKeptNodes r ks) es
-edges_kept once tells r s ids found put kids whole right ks es same is =
+edges_kept once r s ids found kids whole right ks es same is =
     subst (All (HasKeptNodes r ks)) (sym is) (subst (λ (js : List Identity). All (HasKeptNodes r js) found.edges.items) (sym same) (λ k d lt.
-    ends_kept once tells r s ids found put kids whole (get_or found.edges.items k d) (contains_or found.edges.items k d lt) (right k d lt)))
+    ends_kept once r s ids found kids whole (get_or found.edges.items k d) (contains_or found.edges.items k d lt) (right k d lt)))
 
-pub toggles_kept : ReadsOnce → EqualityTellsSame → (r : Resolved) (s : SettingModel) (ids : List Identity) (found : SearchState) (put kids : List Identity) → IsWhole r s ids found put kids → All (IsFoundToggle r) found.toggled.items
+pub toggles_kept : ReadsOnce → (r : Resolved) (s : SettingModel) (ids : List Identity) (found : SearchState) (kids : List Identity) → IsWhole r s ids found kids → All (IsFoundToggle r) found.toggled.items
     → (ks : List Identity) (ts : List FoundToggle) → ks ≡ kids → ts ≡ found.toggled.items → All (HasKeptCrates r ks) ts
-toggles_kept once tells r s ids found put kids whole right ks ts same is =
+toggles_kept once r s ids found kids whole right ks ts same is =
     subst (All (HasKeptCrates r ks)) (sym is) (subst (λ (js : List Identity). All (HasKeptCrates r js) found.toggled.items) (sym same) (λ k d lt.
-    toggle_kept once tells r s ids found put kids whole (get_or found.toggled.items k d) (contains_or found.toggled.items k d lt) (right k d lt)))
+    toggle_kept once r s ids found kids whole (get_or found.toggled.items k d) (contains_or found.toggled.items k d lt) (right k d lt)))
 
-pub features_kept : ReadsOnce → EqualityTellsSame → (r : Resolved) (s : SettingModel) (ids : List Identity) (found : SearchState) (put kids : List Identity) → IsWhole r s ids found put kids → All (λ n. n < length (listed_features r)) found.features.put
+pub features_kept : ReadsOnce → (r : Resolved) (s : SettingModel) (ids : List Identity) (found : SearchState) (kids : List Identity) → IsWhole r s ids found kids → All (λ n. n < length (listed_features r)) found.features.put
     → (ks : List Identity) (ns : List ℕ) → ks ≡ kids → ns ≡ found.features.put → All (HasKeptHome r ks) ns
-features_kept once tells r s ids found put kids whole below ks ns same is =
+features_kept once r s ids found kids whole below ks ns same is =
     subst (All (HasKeptHome r ks)) (sym is) (subst (λ (js : List Identity). All (HasKeptHome r js) found.features.put) (sym same) (λ k d lt.
-    feature_kept once tells r s ids found put kids whole (get_or found.features.put k d) (contains_or found.features.put k d lt) (below k d lt)))
+    feature_kept once r s ids found kids whole (get_or found.features.put k d) (contains_or found.features.put k d lt) (below k d lt)))
 
 -- ---- the facts of a selection
 
@@ -182,9 +166,9 @@ pub record IsInOrder (r : Resolved) (s : SettingModel) (found : SearchState) (x 
   pub features : AreSorted r x.krates.items found.features.put x.features.items
   pub toggled : AreToggled x.krates.items found.toggled.items x.toggled.items
 
-pub selected : ReadsOnce → EqualityTellsSame → (r : Resolved) (s : SettingModel) (ids : List Identity) (found : SearchState) (put : List Identity) (x : Selection) → IsWhole r s ids found put x.krates.items → IsInOrder r s found x
+pub selected : ReadsOnce → (r : Resolved) (s : SettingModel) (ids : List Identity) (found : SearchState) (x : Selection) → IsWhole r s ids found x.krates.items → IsInOrder r s found x
     → CountsEach r s x.krates.items x.features.items x.work → IsSelection r s x
-selected once tells r s ids found put x whole order counts = record {
+selected once r s ids found x whole order counts = record {
   facts = λ f. (forth f, back f);
   some = root;
   krates = whole.rise;
@@ -213,14 +197,14 @@ selected once tells r s ids found put x whole order counts = record {
     -- the crate at the first place
     root : (i : Id) × Derivable (questions r s) (Crate i)
     root =
-        let places = found.krates.put in
-        let among = contains_or places 0 0 whole.some in
-        let k = kid_at ids places put (get_or places 0 0) whole.krates among in
-        (id_of k.0, (whole.exact (Crate (id_of k.0))).1 (record { place = get_or places 0 0; among = among; node = node_here r ids (get_or places 0 0) k.0 whole.reads k.2 }))
+        let place = get_or found.krates.put 0 0 in
+        let among = contains_or found.krates.put 0 0 whole.some in
+        let k = kept_at r s ids found kids place whole among in
+        (id_of k.0, (whole.exact (Crate (id_of k.0))).1 (record { place = place; among = among; node = k.2 }))
 
     forth : (f : Fact) → Derivable (questions r s) f → Contains (facts_of x) f
     forth (Crate i) d =
-        let k = crate_kept once tells r s ids found put kids whole i d in
+        let k = crate_kept once r s ids found kids whole i d in
         let among = contains_at kids k.0 k.1.there k.1.at in
         Contains-append_left crates _ (Crate i) (subst (λ (j : Id). Contains crates (Crate j)) k.1.same (contains_image crate_fact kids k.1.there among))
     forth (Kept e) d =
@@ -238,8 +222,9 @@ selected once tells r s ids found put x whole order counts = record {
     crate_back : (f : Fact) → Contains crates f → Derivable (questions r s) f
     crate_back f h =
         let a = contains_source crate_fact kids f h in
-        let p = place_of_kid ids found.krates.put put a.0 whole.krates (whole.ordered.from a.0 a.1) in
-        subst (Derivable (questions r s)) a.2 ((whole.exact (crate_fact a.0)).1 (record { place = p.0; among = p.1; node = node_here r ids p.0 a.0 whole.reads p.2 }))
+        let p = place_of_kid ids whole.order kids a.0 whole.krates a.1 in
+        let among = Contains-permutation whole.order found.krates.put p.0 (IsPermutation-sym found.krates.put whole.order whole.whole) p.1 in
+        subst (Derivable (questions r s)) a.2 ((whole.exact (crate_fact a.0)).1 (record { place = p.0; among = among; node = node_here r ids p.0 a.0 whole.reads p.2 }))
 
     edge_back : (f : Fact) → Contains edges f → Derivable (questions r s) f
     edge_back f h =

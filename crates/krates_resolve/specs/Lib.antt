@@ -1,4 +1,5 @@
 pub mod Counting
+pub mod KeptCrates
 pub mod Progress
 pub mod References
 pub mod Saturation

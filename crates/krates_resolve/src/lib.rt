@@ -3,6 +3,7 @@
 //! The questions of the rules, which a search asks too, and the types of a selection are re-exported from the crates below.
 #![tactic(auto)]
 
+mod kept_crates;
 mod references;
 pub mod resolution;
 mod roots;

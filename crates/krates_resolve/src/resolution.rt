@@ -1,7 +1,6 @@
 //! Resolution: from an admitted document and a setting to what is kept of it.
 
-ghost use Rattle.std.proofs.Common.{rules};
-ghost use Rattle.std.specs.Prelude.{◌≡◌, ◌<◌, All, IfOk, IfErr, Some, length, map, slice_get};
+ghost use Rattle.std.specs.Prelude.{◌≡◌, ◌<◌, IfOk, IfErr, length, map};
 ghost use Rattle.krates_cm.specs.Document.{metadata_view};
 ghost use Rattle.krates_rules.specs.Admission.{IsAdmitted};
 ghost use Rattle.krates_selection.specs.Explained.{IsExplained, IsExplainedOf};
@@ -18,15 +17,14 @@ ghost use Rattle.krates_rules.specs.Questions.{questions};
 ghost use Rattle.krates_rules.specs.Resolved.{id_of};
 ghost use Rattle.krates_rules.specs.SelectionRefusals.{SelectionRefusal};
 
+use crate::kept_crates::KeptCrates;
 use crate::saturation::saturate;
 use krates_cm::Metadata;
 use krates_document::ids::Ids;
 use krates_document::setting::Setting;
-use krates_ids::{Error, Kid, laws};
+use krates_ids::{Error, laws};
 use krates_questions::Document;
 use krates_questions::context::Context;
-use krates_questions::crate_table::numbers_of;
-use krates_questions::sorted::in_order;
 use krates_search::kept_edges::kept_edges;
 use krates_search::kept_features::kept_features;
 use krates_search::kept_toggled::kept_toggled;
@@ -117,11 +115,9 @@ fn selection_of<'a>(
 {
     context.document.agrees();
     laws::one_reading();
-    laws::comparison();
     let alloc = context.alloc;
     let document = context.document;
-    let krates = in_order(kids_at(alloc, document.node_ids(), found.krates.numbers())?)?;
-    let numbers = numbers_of(alloc, &krates, document.crate_ids())?;
+    let KeptCrates { krates, numbers } = KeptCrates::new(alloc, document, found.krates.numbers())?;
     let tables = KeptTables::new(*context, &krates, &numbers);
     let edges = kept_edges(&tables, &found.edges)?;
     let features = kept_features(&tables, found.features.numbers())?;
@@ -144,16 +140,4 @@ fn trace_of(found: SearchState<'_>) -> Vec<NumberedStep>
     let mut steps = found.trace;
     steps.shrink_to_fit();
     steps
-}
-
-/// The ids at these places of a list.
-fn kids_at(alloc: Global, ids: &[Kid], places: &[usize]) -> Result<Vec<Kid>, AllocError>
-    requires { All (λ place. place < length ids.now) places.now }
-    ensures { IfOk result (λ kids. map (slice_get ids.now) places.now ≡ map Some kids.items) }
-{
-    let mut kids = Vec::with_capacity(alloc, places.len())?;
-    for place in places {
-        kids.push(ids[*place].clone()?)?;
-    }
-    Ok(kids)
 }
