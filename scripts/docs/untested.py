@@ -56,7 +56,7 @@ SHOWN_BY = {
     "Document::roots": ("Document::root_choice",),
     # a selection is made of what a document has
     "select": (
-        "select_in numbers_of Context::exclusions Context::availability_at Work::new Work::count_krate"
+        "select_in Context::exclusions Context::availability_at Work::new Work::count_krate"
         " Work::count_feature Reason::by_nothing Reason::by_one Reason::by_two put_krate enable toggle"
         " Document::packages Document::nodes Document::node_ids Document::crate_ids Document::feature_count Document::agrees"
         " Document::listed_feature"

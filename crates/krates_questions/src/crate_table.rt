@@ -122,14 +122,8 @@ fn places_of(
     Ok(places)
 }
 
-/// The number of each id of the list among these ids, which are in order, where it has one. The only error is running out of memory.
-///
-/// Time: O(n log n).
-pub fn numbers_of(
-    alloc: Global,
-    ids: &[Kid],
-    list: &[Kid],
-) -> Result<Vec<Option<usize>>, AllocError>
+/// The number of each id of the list among these ids, which are in order, where it has one.
+fn numbers_of(alloc: Global, ids: &[Kid], list: &[Kid]) -> Result<Vec<Option<usize>>, AllocError>
     requires { AreNumbered (map id_of ids.now) }
     ensures { IfOk result (λ numbers. AreNumbersOf (map id_of ids.now) list.now numbers.items) }
 {

@@ -1,7 +1,6 @@
 -- The features of a list of numbers.
-use Rattle.std.proofs.Common.{◌≡◌, ◌↔◌, ℕ, ◌<◌, List, [], length, get_or, map, Some, Contains, option_map, refl, sym, ap, ◌∙◌, subst}
-use Rattle.std.proofs.lemmas.List.{get_or_default}
-use Rattle.std.proofs.lemmas.Option.{slice_get-map, slice_get-get_or, slice_get_read, same_Some}
+use Rattle.std.proofs.Common.{◌≡◌, ◌↔◌, ℕ, List, get_or, map, Some, Contains, option_map, refl, sym, ap, ◌∙◌, subst}
+use Rattle.std.proofs.lemmas.Option.{slice_get-map, slice_get-get_or, same_Some}
 use Rattle.std.specs.List.{AllZip, slice_get}
 use Rattle.krates_cm.specs.Document.{Text, NodeModel, text_view}
 use Rattle.krates_ids.specs.Identity.{Identity, Reads}
@@ -10,7 +9,6 @@ use Rattle.krates_questions.specs.FeatureTable.{listed_view}
 use Rattle.krates_search.specs.SearchState.{IsEnabled}
 use Rattle.krates_questions.specs.ListedFeatures.{listed_features}
 use Rattle.krates_rules.specs.Resolved.{NodeAt, Resolved, id_of}
-use Rattle.krates_questions.specs.Lookup.{IsLookup, resolved_view}
 use Rattle.krates_questions.specs.Numbering.{FeatureAt}
 use Rattle.krates_selection.specs.CrateNumbers.{id_at}
 use Rattle.krates_search.specs.KeptFeatures.{HasKeptHome, IsFeatureOf}
@@ -18,7 +16,6 @@ use Rattle.krates_selection.specs.KeptTables.{IsKeptNode, IsNumberAt, document_i
 use Rattle.krates_selection.specs.declared.kept_tables.KeptTables.{KeptTables}
 use Rattle.krates_selection.specs.Selection.{feature_fact}
 use Rattle.krates_questions.specs.declared.feature_table.ListedFeature.{ListedFeature}
-use Rattle.krates_questions.specs.declared.lookup.Lookup.{Lookup}
 use Rattle.krates_selection.specs.declared.selection.EnabledFeature.{EnabledFeature}
 use Rattle.krates_rules.proofs.Readings.{ReadsOnce, left_of, right_of}
 use Rattle.krates_questions.proofs.FeatureNumbers.{one_feature}

@@ -1,31 +1,21 @@
 -- The numbers of kept crates, and what stands at the places of a document.
-use Rattle.std.proofs.Common.{◌≡◌, ℕ, ◌<◌, List, length, get_or, map, Option, Some, None, IfSome, option_map, refl, sym, ap, ◌∙◌, subst, arith}
+use Rattle.std.proofs.Common.{◌≡◌, ℕ, ◌<◌, List, length, map, Option, Some, None, IfSome, option_map, refl, sym, ap, ◌∙◌, subst, arith}
 use Rattle.std.proofs.lemmas.List.{length-map}
-use Rattle.std.proofs.lemmas.Option.{slice_get-map, slice_get_read, slice_get_within, get_or_from_slice_get, same_Some}
+use Rattle.std.proofs.lemmas.Option.{slice_get-map, slice_get_within, get_or_from_slice_get, same_Some}
 use Rattle.std.specs.List.{slice_get}
 use Rattle.std.specs.Option.{IsSome}
-use Rattle.std.specs.List.Sorted.{IsStrictlySortedBy}
-use Rattle.krates_cm.specs.Document.{NodeModel, NodeDepModel, Text}
+use Rattle.krates_cm.specs.Document.{NodeModel, NodeDepModel}
 use Rattle.krates_selection.specs.CrateNumbers.{id_at, no_id}
-use Rattle.krates_selection.specs.KeptTables.{IsChildAt, IsKeptChild, IsKeptIn, IsKeptNode, IsKeptWithNode, IsNumberAt, document_in, kids_in}
+use Rattle.krates_selection.specs.KeptTables.{IsChildAt, IsKeptChild, IsKeptIn, IsKeptNode, IsNumberAt, document_in, kids_in}
 use Rattle.krates_selection.specs.declared.kept_tables.KeptTables.{KeptTables}
 use Rattle.krates_selection.proofs.FactPlaces.{zip_long}
-use Rattle.krates_ids.specs.Identity.{Identity, Reads, id_cmp}
+use Rattle.krates_ids.specs.Identity.{Identity}
 use Rattle.krates_questions.proofs.Lookups.{one_id}
-use Rattle.krates_questions.specs.CrateTable.{AreNumbered, AreNumbersOf, IsNumberOf, at_number}
-use Rattle.krates_questions.specs.FeatureTable.{listed_view}
-use Rattle.krates_questions.specs.ListedFeatures.{listed_features}
-use Rattle.krates_questions.specs.Lookup.{IsLookup, IsNumberIn, resolved_view}
-use Rattle.krates_questions.specs.declared.feature_table.ListedFeature.{ListedFeature}
-use Rattle.krates_questions.specs.declared.lookup.Lookup.{Lookup}
-use Rattle.krates_rules.proofs.OnlyOne.{place_in}
+use Rattle.krates_questions.specs.CrateTable.{IsNumberOf, at_number}
+use Rattle.krates_questions.specs.Lookup.{IsNumberIn}
 use Rattle.krates_rules.proofs.Readings.{ReadsOnce, right_of}
-use Rattle.krates_rules.proofs.SeenInOrder.{sorted_same}
-use Rattle.krates_rules.proofs.Standings.{contains_at}
-use Rattle.krates_rules.specs.Admission.{node_texts}
 use Rattle.krates_rules.specs.Facts.{Id}
-use Rattle.krates_rules.specs.Referent.{id_order}
-use Rattle.krates_rules.specs.Resolved.{DepAt, HasNode, ReadsAs, Resolved, id_of}
+use Rattle.krates_rules.specs.Resolved.{DepAt, ReadsAs, Resolved, id_of}
 
 -- ---- what a search answers
 

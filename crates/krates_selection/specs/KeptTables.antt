@@ -18,7 +18,7 @@ use Rattle.krates_selection.specs.declared.trace.NumberedFact.{NumberedFact}
 use Rattle.krates_selection.specs.declared.trace.NumberedStep.{NumberedStep}
 use Rattle.krates_rules.specs.Facts.{Id, Edge, Fact, Crate, Feature, Kept, Toggled, Lost}
 use Rattle.krates_rules.specs.Questions.{questions}
-use Rattle.krates_rules.specs.Resolved.{DepAt, HasNode, NodeAt, Resolved, StandsAt, id_of}
+use Rattle.krates_rules.specs.Resolved.{DepAt, HasNode, NodeAt, Resolved, StandsAt}
 use Rattle.krates_rules.specs.Setting.{SettingModel}
 use Rattle.krates_rules.specs.StepParts.{HaveOwnFacts}
 use Rattle.krates_rules.specs.Steps.{EachFollows}

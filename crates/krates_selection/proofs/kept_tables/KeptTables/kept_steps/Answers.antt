@@ -1,4 +1,4 @@
-use Rattle.std.proofs.Common.{◌≡◌, ◌<◌, ℕ, All, List, length, map, refl, sym, ap, ◌∙◌, subst}
+use Rattle.std.proofs.Common.{◌≡◌, ◌<◌, ℕ, All, List, length, map, sym, ap, ◌∙◌, subst}
 use Rattle.std.proofs.lemmas.List.{length-map}
 use Rattle.std.proofs.lemmas.Result.{IfOk-weaker}
 use Rattle.std.specs.Global.{Vec}
@@ -11,13 +11,8 @@ use Rattle.krates_selection.specs.Keys.{AreFactNumbers, home, key_view}
 use Rattle.krates_selection.specs.KeptTables.{AreStepsOf, IsKeyOf, numbered_facts}
 use Rattle.krates_selection.specs.declared.kept.KeptStep.{KeptStep}
 use Rattle.krates_selection.specs.declared.key.KeptFactKey.{KeptFactKey}
-use Rattle.krates_selection.specs.declared.kept_tables.KeptTables.{KeptTables}
-use Rattle.krates_rules.proofs.SeenInOrder.{sorted_same}
 use Rattle.krates_questions.specs.Context.{document_of, rules_of}
-use Rattle.krates_ids.specs.Identity.{id_cmp}
 use Rattle.krates_selection.specs.declared.trace.NumberedStep.{NumberedStep}
-use Rattle.krates_rules.specs.Referent.{id_order}
-use Rattle.krates_rules.specs.Resolved.{id_of}
 use Rattle.krates_selection.specs.PartOfSteps.{AreBackward, SameFact}
 use Rattle.krates_selection.proofs.kept_tables.KeptTables.kept_steps.Goals as goal
 
