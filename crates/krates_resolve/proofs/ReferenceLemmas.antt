@@ -1,5 +1,5 @@
 -- What an enabled feature gives by its references, and what it may give.
-use Rattle.std.proofs.Common.{Bor, ◌≡◌, ℕ, ◌+◌, ◌<◌, List, [], ◌∷◌, ◌++◌, length, get_or, take, map, Some, Contains, Result, Ok, Err, OnOk, String, Global, inl, inr, refl, sym, ap, ◌∙◌, subst, arith}
+use Rattle.std.proofs.Common.{Bor, ◌≡◌, ℕ, ◌+◌, ◌<◌, List, [], ◌∷◌, ◌++◌, length, get_or, take, map, Some, Contains, Result, Ok, Err, OnOk, String, Global, inl, inr, refl, sym, ap, ◌∙◌, subst}
 use Rattle.std.proofs.lemmas.Option.{same_Some}
 use Rattle.std.proofs.lemmas.List.Sums.{sum_by_push}
 use Rattle.std.specs.List.{AllZip, slice_get, sum}
@@ -15,7 +15,6 @@ use Rattle.krates_search.specs.FollowedReferences.{IsAskedAt, IsToggledStronglyA
 use Rattle.krates_rules.specs.Resolved.{DepAt, NodeAt, Resolved, NoNode, id_of}
 use Rattle.krates_search.specs.Links.{IsMarked, HasWaiter}
 use Rattle.krates_questions.specs.ListedFeatures.{listed_features}
-use Rattle.krates_questions.specs.Lookup.{IsLookup, resolved_view}
 use Rattle.krates_questions.specs.NodeEntry.{AreParts, IsEntry, IsEntryOf, parent_of, child_of, krate_of}
 use Rattle.krates_questions.specs.Numbering.{FeatureAt}
 use Rattle.krates_rules.specs.Questions.{Stands, questions}
@@ -23,11 +22,9 @@ use Rattle.krates_rules.specs.Referent.{IsReferent}
 use Rattle.krates_rules.specs.Rules.{Questions, IsAskedFor, feature_crate, named, lost_named, asked, toggled_strongly, lost_asked_package, lost_asked_node, lost_toggled_strongly, toggled_weakly, lost_toggled_weakly}
 use Rattle.krates_rules.specs.Setting.{SettingModel}
 use Rattle.krates_selection.specs.Work.{CountsText, HasReferences, counted}
-use Rattle.krates_questions.specs.declared.feature_table.ListedFeature.{ListedFeature}
 use Rattle.krates_questions.proofs.StandingLaws.{derivable_stands}
 use Rattle.krates_search.specs.declared.search_state.SearchState.{SearchState}
 use Rattle.krates_search.specs.declared.links.Links.{Links}
-use Rattle.krates_questions.specs.declared.lookup.Lookup.{Lookup}
 use Rattle.krates_questions.specs.declared.node_entry.NodeEntry.{NodeEntry}
 use Rattle.krates_questions.specs.declared.node_entry.NodeParts.{NodeParts}
 use Rattle.krates_rules.proofs.Readings.{ReadsOnce}

@@ -1,4 +1,4 @@
-use Rattle.std.proofs.Common.{ℕ, String, Global, get_or, map, refl, sym, subst, arith, string_bytes}
+use Rattle.std.proofs.Common.{ℕ, String, Global, map, refl, sym, subst, arith, string_bytes}
 use Rattle.krates_cm.specs.Document.{Text, text_view}
 use Rattle.krates_text.specs.FeatureReference.{Reference, IsReference}
 use Rattle.krates_rules.specs.Facts.{Id, Crate, Feature}

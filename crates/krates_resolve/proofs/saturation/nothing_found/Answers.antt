@@ -1,8 +1,7 @@
-use Rattle.std.proofs.Common.{ℕ, List, length, sym, ap, ◌∙◌}
+use Rattle.std.proofs.Common.{length, sym, ap, ◌∙◌}
 use Rattle.std.proofs.lemmas.List.{length-map}
-use Rattle.krates_cm.specs.Document.{Text, node_view}
+use Rattle.krates_cm.specs.Document.{node_view}
 use Rattle.krates_graph.specs.Agenda.{PutNumbers}
-use Rattle.krates_questions.specs.FeatureTable.{listed_view}
 use Rattle.krates_questions.specs.Lookup.{resolved_view}
 use Rattle.krates_resolve.proofs.Saturated.{sound_start}
 use Rattle.krates_resolve.proofs.saturation.nothing_found.Goals as goal
