@@ -11,7 +11,7 @@ LINE = re.compile(r"(file|old|error): (.+)|new:(?: (.*))?$")
 
 def fault(at, edit):
     """What keeps an edit of the crate in a folder from being applied; None where nothing does."""
-    name, old, texts = "", "", {}
+    name, old, texts, changes = "", "", {}, 0
     for line in edit.read_text(encoding="utf-8").splitlines():
         read = LINE.match(line)
         if not read:
@@ -24,11 +24,13 @@ def fault(at, edit):
         elif read[1] == "old":
             old = read[2]
         elif read[1] is None:
-            count = texts.get(name, "").count(old)
+            if not name or not old:
+                return f"no file and old text before: {line}"
+            count = texts[name].count(old)
             if count != 1:
                 return f"stands {count} times in {name}: {old}"
-            texts[name] = texts[name].replace(old, read[3] or "")
-    return None if texts else "changes no file"
+            texts[name], old, changes = texts[name].replace(old, read[3] or ""), "", changes + 1
+    return "an old text without a new one" if old else None if changes else "changes nothing"
 
 
 def do_apply(room, crates):
