@@ -11,7 +11,7 @@ use Rattle.krates_rules.proofs.Members.{contains_of, member_of}
 use Rattle.krates_drawing.specs.Views.{outline_view}
 use Rattle.krates_drawing.specs.declared.edge.Edge.{Edge}
 use Rattle.krates_drawing.specs.declared.outline.Outline.{Outline}
-use Rattle.krates_selection.proofs.KeptCrates.{same_in}
+use Rattle.krates_selection.proofs.KeptFactLemmas.{same_in}
 use Rattle.krates_selection.proofs.PickedSteps.{seen_back}
 use Rattle.krates_selection.specs.Explanation.{AreBelow}
 use Rattle.krates_selection.specs.CrateNumbers.{id_at, no_id}

@@ -33,7 +33,7 @@ use Rattle.krates_queries.specs.KratesFiltered.{AreReached, IsReached, line_view
 use Rattle.krates_drawing.specs.Node.{CratesFirst, crate_ids}
 use Rattle.krates_drawing.specs.declared.node.Node.{Node}
 use Rattle.krates_drawing.specs.declared.node.Node.TheVariants.{Krate, Feature}
-use Rattle.krates_queries.proofs.PathLemmas.{reaches_more}
+use Rattle.krates_queries.proofs.EdgePaths.{reaches_more}
 use Rattle.krates_build_tests.specs.Rebuilt.{AreRebuilt, HoldsRebuilt, IgnoresToo, IsListed, Keeps, ListsRebuilt}
 
 -- ---- stored edges are the drawn ones

@@ -2,5 +2,5 @@ pub mod IdLemmas
 pub mod ItemLemmas
 pub mod NeverBoth
 pub mod OneReading
-pub mod ReadAgain
+pub mod PartsAgain
 pub mod TextLemmas

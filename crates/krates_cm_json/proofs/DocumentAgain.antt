@@ -10,7 +10,7 @@ use Rattle.krates_cm_json.specs.Reading.{text, whole, any, list, map_of, refused
 use Rattle.krates_cm_json.specs.Tables.{edition, version, rust_version, dependency, target, about, settings, package_reader, resolve, metadata}
 use Rattle.krates_cm_json.specs.Objects.{Writer, TextWritten, AnyWritten, WholeWritten, OptionWritten, EachWritten, ListWritten, MapWritten}
 use Rattle.krates_cm_json.specs.RoundTrip.{RequirementReads, PackageRequirementsRead, RequirementsRead}
-use Rattle.krates_cm_json.specs.Texts.{EditionWritten, VersionWritten, RustVersionWritten}
+use Rattle.krates_cm_json.specs.WrittenTexts.{EditionWritten, VersionWritten, RustVersionWritten}
 use Rattle.krates_cm_json.specs.WrittenTables.{package_table, metadata_table, DependencyWritten, TargetWritten, PackageWritten, ResolveWritten, MetadataWritten}
 use Rattle.krates_cm_json.proofs.ReadAgain.{ReadsBack, NeverNull, text_again, whole_again, any_again, edition_again, list_again, map_again, nullable_again, text_never_null, list_never_null, found_again, required_again, default_again, optional_again, only_some_again, present_again, told, object_again, dependency_again, target_again, resolve_again, resolve_never_null}
 use Rattle.krates_cm_json.proofs.ReadBefore.{RustNamed, PackageNamed, EachNamed}

@@ -19,7 +19,7 @@ use Rattle.krates_cm_json.specs.Reading as reading
 use Rattle.krates_cm_json.specs.Tables.{dependency_kind, target_kind, crate_type, edition, requirement, dep_kind_info, node_dep, node, resolve, dependency, target}
 use Rattle.krates_cm_json.specs.Objects.{Writer, TextWritten, BooleanWritten, WholeWritten, AnyWritten, OptionWritten, EachWritten, ListWritten, EntriesWritten, MapWritten, Table, no_more, row, MembersWritten, ObjectWritten}
 use Rattle.krates_cm_json.specs.RoundTrip.{RequirementReads}
-use Rattle.krates_cm_json.specs.Texts.{KindWritten, TargetKindWritten, CrateTypeWritten, EditionWritten}
+use Rattle.krates_cm_json.specs.WrittenTexts.{KindWritten, TargetKindWritten, CrateTypeWritten, EditionWritten}
 use Rattle.krates_cm_json.specs.WrittenTables.{dep_kind_info_table, node_dep_table, node_table, resolve_table, dependency_table, target_table, DepKindInfoWritten, NodeDepWritten, NodeWritten, ResolveWritten, DependencyWritten, TargetWritten}
 
 -- whatever may be written for a value reads as it

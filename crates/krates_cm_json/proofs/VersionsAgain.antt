@@ -15,7 +15,7 @@ use Rattle.semver.specs.Parse.{version_parts}
 use Rattle.semver.proofs.Grammar.{version_parts-sound, version_parts-complete}
 use Rattle.krates_cm.specs.Document.{Text, VersionModel}
 use Rattle.krates_cm.specs.Names.{version_named, rust_version_named, has_extra, with_patch}
-use Rattle.krates_cm_json.specs.Texts.{rust_version_text}
+use Rattle.krates_cm_json.specs.WrittenTexts.{rust_version_text}
 
 -- ---- versions
 

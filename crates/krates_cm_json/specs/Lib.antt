@@ -8,5 +8,5 @@ pub mod Readable
 pub mod Reading
 pub mod RoundTrip
 pub mod Tables
-pub mod Texts
 pub mod WrittenTables
+pub mod WrittenTexts

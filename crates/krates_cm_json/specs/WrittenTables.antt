@@ -3,7 +3,7 @@
 use Rattle.std.specs.Prelude.{◌==◌, length, not, is_some, codes}
 use Rattle.krates_cm.specs.Document.{DepKindInfoModel, NodeDepModel, NodeModel, ResolveModel, DependencyModel, TargetModel, PackageModel, MetadataModel}
 use Rattle.krates_cm_json.specs.Objects.{Writer, TextWritten, BooleanWritten, WholeWritten, AnyWritten, OptionWritten, ListWritten, MapWritten, Table, ObjectWritten, ◌also◌, always, only_where, no_more}
-use Rattle.krates_cm_json.specs.Texts.{KindWritten, TargetKindWritten, CrateTypeWritten, EditionWritten, VersionWritten, RustVersionWritten, RequirementWritten}
+use Rattle.krates_cm_json.specs.WrittenTexts.{KindWritten, TargetKindWritten, CrateTypeWritten, EditionWritten, VersionWritten, RustVersionWritten, RequirementWritten}
 
 -- ---- the resolved graph
 

@@ -7,7 +7,7 @@ use Rattle.krates_derive.proofs.ReferenceForms.{asks_nothing, not_simple, one_fo
 use Rattle.krates_text.specs.FeatureReference.{Reference, IsReference, HasOneReading, simple}
 use Rattle.krates_rules.specs.Facts.{Id, Edge, Fact, Kept}
 use Rattle.krates_rules.specs.Referent.{IsReferent}
-use Rattle.krates_rules.specs.References.{Demands}
+use Rattle.krates_rules.specs.Demands.{Demands}
 use Rattle.krates_questions.specs.Need.{IsWantedAs, NotWanted, ListsKind, HasChild}
 use Rattle.krates_rules.specs.Questions.{edge_between, Stands, IsLoose}
 use Rattle.krates_rules.specs.Resolved.{Resolved}

@@ -1,6 +1,6 @@
 pub mod Answered
+pub mod FactRefOrder
+pub mod FactSetLemmas
 pub mod Givings
-pub mod KeyOrder
-pub mod KeyedFacts
 pub mod ReferenceForms
 pub mod Rows

@@ -4,7 +4,7 @@ use Rattle.krates_cm.specs.Document.{Text}
 use Rattle.krates_rules.specs.Facts.{Id}
 use Rattle.krates_rules.specs.Features.{HasReference}
 use Rattle.krates_rules.specs.Referent.{IsReferent}
-use Rattle.krates_rules.specs.References.{Demands}
+use Rattle.krates_rules.specs.Demands.{Demands}
 use Rattle.krates_rules.specs.Resolved.{Resolved}
 use Rattle.krates_rules.specs.Setting.{SettingModel}
 use Rattle.krates_text.specs.FeatureReference.{Reference, IsReference, strong, weak}

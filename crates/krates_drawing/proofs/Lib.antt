@@ -8,7 +8,6 @@ pub mod DivisionLemmas
 pub mod DocumentOutlines
 pub mod Drawn
 pub mod DrawnEdges
-pub mod Entries
 pub mod EqualRanges
 pub mod FeatureLines
 pub mod FeaturePlaces
@@ -34,4 +33,3 @@ pub mod Standing
 pub mod StoredEdges
 pub mod Storing
 pub mod Tests
-pub mod Zips

@@ -16,7 +16,7 @@ use Rattle.krates_drawing.specs.declared.outline.EdgeRow.{EdgeRow}
 use Rattle.krates_drawing.specs.declared.outline.Outline.{Outline}
 use Rattle.krates_drawing.proofs.Children.{AreWithin, crates_in_order, not_above, number_found, seen_as, seen_more, these, to_next}
 use Rattle.krates_drawing.proofs.CratePlaces.{AreInOrder, id_of_krate}
-use Rattle.krates_drawing.proofs.Entries.{all_alike, entries_changed, entries_kept, entry_changed, same_entries}
+use Rattle.krates_rules.proofs.ListEntries.{all_alike, entries_changed, entries_kept, entry_changed, same_entries}
 use Rattle.krates_drawing.proofs.Joined.{either, last_joined}
 use Rattle.krates_drawing.proofs.Tests.{equal_self, order_total}
 

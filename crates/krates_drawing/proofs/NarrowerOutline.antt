@@ -26,7 +26,7 @@ use Rattle.krates_drawing.proofs.OneOutline.{SameCrate, SameEdge, SameFeature, C
 use Rattle.krates_drawing.proofs.Ordered.{itself}
 use Rattle.krates_drawing.proofs.Parts.{LikePart, likes_part, made_part}
 use Rattle.krates_drawing.proofs.SaidAlike.{SaidAlike, declared_alike, place_alike}
-use Rattle.krates_drawing.proofs.Zips.{zip_there}
+use Rattle.krates_rules.proofs.Zips.{zip_there}
 
 -- ---- a document says the same as itself
 

@@ -31,7 +31,7 @@ use Rattle.krates_drawing.proofs.OneOutline.{listed_same}
 use Rattle.std.proofs.lemmas.List.Elements.{filter_agree}
 use Rattle.krates_drawing.proofs.SaidAlike.{SaidAlike, said_alike, dependencies_same}
 use Rattle.krates_drawing.proofs.Standing.{each}
-use Rattle.krates_drawing.proofs.Zips.{zip_there}
+use Rattle.krates_rules.proofs.Zips.{zip_there}
 
 -- a selection of the first of two documents that say the same
 record Carried (r u : Resolved) (s : SettingModel) (x : Selection) : Type 0 where

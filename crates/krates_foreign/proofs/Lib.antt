@@ -1,7 +1,7 @@
 pub mod AskedLemmas
 pub mod CallLemmas
 pub mod ChosenLemmas
-pub mod DrawnLemmas
+pub mod DrawnLinesLemmas
 pub mod HandingLemmas
 pub mod LawLemmas
 pub mod LineLemmas

@@ -1,13 +1,13 @@
 pub mod AllDependentsLemmas
+pub mod CrateIds
 pub mod DependentLemmas
 pub mod EdgeNumbers
+pub mod EdgePaths
 pub mod FeatureNodes
 pub mod JoinedLemmas
 pub mod KrateNodeLemmas
-pub mod CrateIds
 pub mod MatchLemmas
-pub mod NodeLemmas
 pub mod NeighbourLemmas
-pub mod PathLemmas
+pub mod NodeLemmas
 pub mod ReachedLemmas
 pub mod WhyLemmas

@@ -1,9 +1,10 @@
 pub mod AllReferents
 pub mod Asked
 pub mod ChildPlaces
+pub mod CratesOfNodes
 pub mod Declared
 pub mod DepPlaces
-pub mod Entries
+pub mod EntryEdges
 pub mod FeatureNames
 pub mod FeatureNumbers
 pub mod FeatureValues
@@ -13,7 +14,6 @@ pub mod ListPlaces
 pub mod ListedFeatures
 pub mod Lookups
 pub mod Needs
-pub mod NodeNumbers
 pub mod NodeParts
 pub mod NumberedOnce
 pub mod NumberedPlaces

@@ -23,7 +23,7 @@ use Rattle.krates_rules.proofs.FirstPlaces.{seen_at}
 use Rattle.krates_rules.proofs.OnlyOne.{one_dep, one_node, place_in}
 use Rattle.krates_rules.proofs.Standings.{contains_at}
 use Rattle.krates_questions.proofs.Asked.{declared_told}
-use Rattle.krates_questions.proofs.Entries.{Heeds, loose, not_loose, own_dep, wanted, wanted_one}
+use Rattle.krates_questions.proofs.EntryEdges.{Heeds, loose, not_loose, own_dep, wanted, wanted_one}
 
 -- the node's dependency doesn't list the kind and target
 pub unlisted_need : (r : Resolved) (s : SettingModel) (x : NodeEntry) (k : DepKindInfoModel) → NoneDoubled r.metadata r.graph → IsEntry r x

@@ -1,1 +1,1 @@
-pub mod BuildLemmas
+pub mod BuildsWithoutIndex

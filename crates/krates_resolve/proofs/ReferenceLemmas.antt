@@ -37,7 +37,7 @@ use Rattle.krates_resolve.specs.declared.references.Referrer.{Referrer}
 use Rattle.krates_text.specs.declared.features.Feature.{Feature as Written}
 use Rattle.krates_text.specs.declared.features.Feature.TheVariants as written
 use Rattle.krates_search.proofs.EntriesTried.{entry_tried}
-use Rattle.krates_search.proofs.Entries.{one, undeclared_lost}
+use Rattle.krates_search.proofs.TriedEdges.{one, undeclared_lost}
 use Rattle.krates_search.proofs.Growth.{waiter_advances, with_links}
 use Rattle.krates_selection.specs.Trace.{HasStep}
 use Rattle.krates_selection.specs.declared.trace.NumberedStep.{NumberedStep}

@@ -5,7 +5,7 @@ use Rattle.krates_questions.specs.NodeEntry.{krate_of}
 use Rattle.krates_resolve.specs.declared.references.Referrer.{Referrer}
 use Rattle.krates_rules.specs.Facts.{Id}
 use Rattle.krates_rules.specs.Referent.{IsReferent}
-use Rattle.krates_rules.specs.References.{Demands}
+use Rattle.krates_rules.specs.Demands.{Demands}
 use Rattle.krates_search.specs.FollowedReferences.{HasEnabledReference, IsAskedAt, IsReferringStep, IsToggledStronglyAt, IsWaitingAt}
 use Rattle.krates_search.specs.SearchContext.{FindsToggled, HasToggled, MayToggleFor}
 use Rattle.krates_search.specs.declared.search_state.SearchState.{SearchState}

@@ -8,6 +8,7 @@ pub mod DistinctIds
 pub mod Elements
 pub mod FirstPlaces
 pub mod KeyOrder
+pub mod ListEntries
 pub mod ListsOfSteps
 pub mod MappedLists
 pub mod Members

@@ -1,7 +1,14 @@
 -- Lists that are made item by item, each item related to one of another list.
-use Rattle.std.proofs.Common.{◌≡◌, ℕ, ◌+◌, ◌<◌, ◌≤◌, List, [], ◌∷◌, ◌++◌, length, get_or, take, map, sym, ap, ◌∙◌, subst, Contains}
+use Rattle.std.proofs.Common.{◌≡◌, ℕ, ◌+◌, ◌<◌, ◌≤◌, List, [], ◌∷◌, ◌++◌, All, None, Option, length, get_or, take, map, refl, sym, ap, ◌∙◌, subst, Contains, inl, inr}
+use Rattle.std.proofs.IntoIterSteps.{takes, taken}
+use Rattle.std.proofs.lemmas.Iterator.{YieldsList}
+use Rattle.std.proofs.lemmas.Iterator.Consumers.{YieldsList-end}
 use Rattle.std.proofs.lemmas.List.{map-append, length-map, get_or-map, get_or_default, take_more, take_all}
+use Rattle.std.specs.Iterator.{Yields}
 use Rattle.std.specs.List.{AllZip, AllByRecursion}
+use Rattle.std.specs.declared.vec.IntoIter.{IntoIter}
+use Rattle.krates_rules.proofs.Members.{Member}
+use mathlib.Core.List.{map-id}
 
 -- one more pair
 pub zip_push : {A B : Type 0} (R : A → B → Type 0) (xs : List A) (ys : List B) (x : A) (y : B) → AllZip R xs ys → R x y → AllZip R (xs ++ x ∷ []) (ys ++ y ∷ [])
@@ -33,6 +40,13 @@ zip_mapped R S f g [] (u ∷ us) z h = absurd z
 zip_mapped R S f g (x ∷ xs) [] z h = absurd z
 zip_mapped R S f g (x ∷ xs) (u ∷ us) z h = (h x u z.0, zip_mapped R S f g xs us z.1 h)
 
+-- related elements of two lists are related in another way too
+pub zip_there : {A B : Type 0} (R Q : A → B → Type 0) (xs : List A) (ys : List B) → ((x : A) → Member xs x → (y : B) → R x y → Q x y) → AllZip R xs ys → AllZip Q xs ys
+zip_there R Q [] [] h z = tt
+zip_there R Q [] (y ∷ ys) h z = absurd z
+zip_there R Q (x ∷ xs) [] h z = absurd z
+zip_there R Q (x ∷ xs) (y ∷ ys) h z = (h x (inl refl) y z.0, zip_there R Q xs ys (λ w m. h w (inr m)) z.1)
+
 -- ---- properties of each item
 
 -- one more item that was made
@@ -53,3 +67,15 @@ each_all P seen xs i le h = subst (λ zs. AllByRecursion P (map seen zs)) (take_
 -- the view of an item that was looked at is among the views
 pub one_seen : {X A : Type 0} (seen : X → A) (xs : List X) (i : ℕ) (x : X) → i < length xs → x ≡ get_or xs i x → Contains (map seen xs) (seen x)
 one_seen seen xs i x lt is = (i, rw length-map lt, get_or-map seen xs i x (seen x) lt ∙ ap seen (sym is))
+
+-- what holds of each view holds of the element that a loop has reached
+pub seen_at : {A B : Type 0} (P : B → Type 0) (v : A → B) (xs : List A) (i : ℕ) (x : A) → All P (map v xs) → i < length xs → x ≡ get_or xs i x → P (v x)
+seen_at P v xs i x all lt e = subst P (get_or-map v xs i x (v x) lt ∙ ap v (sym e)) (all i (v x) (rw length-map lt))
+
+-- ---- owned lists
+
+-- a loop that has taken all items of an owned list has yielded the list
+pub all_taken : {X A : Type 0} (start last rest : IntoIter X A) (yielded : List X) (next : Option X) → Yields takes start yielded last → next ≡ None → takes last next rest → yielded ≡ start.rest.items
+all_taken {X} start last rest yielded next so_far none ends =
+    let road : YieldsList takes (λ (x : X). x) start start.rest.items = record { runs = taken start } in
+    sym (map-id yielded) ∙ (YieldsList-end road yielded last so_far next rest none ends).0

@@ -3,6 +3,7 @@ pub mod AdmissionRefusals
 pub mod Checks
 pub mod DeclaredDependency
 pub mod DeclaredSource
+pub mod Demands
 pub mod DependencyName
 pub mod Derivation
 pub mod DerivationTexts
@@ -15,7 +16,6 @@ pub mod Naming
 pub mod Narrowing
 pub mod PlainSetting
 pub mod Questions
-pub mod References
 pub mod Referent
 pub mod Reordering
 pub mod Resolved

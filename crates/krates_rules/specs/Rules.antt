@@ -6,7 +6,7 @@ use Rattle.std.specs.Prelude.{◌≡◌, ℕ, List, [], ◌∷◌, false, true, 
 use Rattle.krates_cm.specs.Document.{Text, DependencyModel}
 use Rattle.krates_rules.specs.Facts.{Id, Edge, LostPackage, LostNode, LostFeature, Undeclared, Fact, Crate, Feature, Kept, Toggled, Lost}
 use Rattle.krates_text.specs.FeatureReference.{Reference, simple, weak, strong}
-use Rattle.krates_rules.specs.References.{Demands}
+use Rattle.krates_rules.specs.Demands.{Demands}
 
 -- what the rules ask a document and a setting
 pub record Questions : Type 1 where

@@ -1,6 +1,5 @@
 pub mod EdgeGrowth
 pub mod Enabled
-pub mod Entries
 pub mod EntriesTried
 pub mod FeaturesAt
 pub mod Finding
@@ -14,6 +13,7 @@ pub mod KeptToggled
 pub mod KindOrder
 pub mod LinkLemmas
 pub mod Putting
+pub mod TriedEdges
 pub mod TriedKinds
 pub mod TriedParts
 pub mod Waking

@@ -7,7 +7,7 @@ use Rattle.krates_rules.specs.Facts.{Id, Edge, Feature}
 use Rattle.krates_rules.specs.Features.{HasReference}
 use Rattle.krates_search.specs.SearchState.{IsAny, IsToggledIn, IsTried, WaitsOrIsToggled}
 use Rattle.krates_rules.specs.Questions.{IsWanted, Stands, questions}
-use Rattle.krates_rules.specs.References.{Demands}
+use Rattle.krates_rules.specs.Demands.{Demands}
 use Rattle.krates_rules.specs.Resolved.{DepAt, Resolved}
 use Rattle.krates_rules.specs.Setting.{SettingModel}
 use Rattle.krates_selection.specs.Trace.{HasStep}

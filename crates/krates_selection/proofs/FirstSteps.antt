@@ -13,7 +13,7 @@ use Rattle.krates_selection.specs.KeptTables.{AreKeptFacts, AreStepsOf, IsKeptIn
 use Rattle.krates_selection.specs.declared.kept.KeptStep.{KeptStep}
 use Rattle.krates_selection.specs.declared.key.KeptFactKey.{KeptFactKey}
 use Rattle.krates_selection.specs.declared.kept_tables.KeptTables.{KeptTables}
-use Rattle.krates_selection.proofs.KeptCrates.{kept_crates, same_in}
+use Rattle.krates_selection.proofs.KeptFactLemmas.{kept_crates, same_in}
 use Rattle.krates_selection.proofs.PickedSteps.{seen_back}
 use Rattle.krates_selection.proofs.ToldParts.{use_these}
 use Rattle.krates_ids.specs.Identity.{id_cmp}

@@ -4,8 +4,8 @@ pub mod CrateNumbers
 pub mod FactPlaces
 pub mod FirstMarks
 pub mod FirstSteps
-pub mod KeptCrates
 pub mod KeptEnds
+pub mod KeptFactLemmas
 pub mod KeptKeyOrder
 pub mod KeptNumbers
 pub mod KeyedFacts

@@ -5,7 +5,7 @@ ghost use Rattle.krates_cm.specs.declared.dependency.DependencyKind.{DependencyK
 ghost use Rattle.krates_cm.specs.declared.target.TargetKind.{TargetKind};
 ghost use Rattle.krates_cm.specs.declared.target.CrateType.{CrateType};
 ghost use Rattle.krates_cm.specs.declared.target.Edition.{Edition};
-ghost use Rattle.krates_cm_json.specs.Texts.{KindWritten, TargetKindWritten, CrateTypeWritten, EditionWritten, target_kind_text, crate_type_text};
+ghost use Rattle.krates_cm_json.specs.WrittenTexts.{KindWritten, TargetKindWritten, CrateTypeWritten, EditionWritten, target_kind_text, crate_type_text};
 
 use crate::write::to_value::ToValue;
 use krates_cm::{CrateType, DependencyKind, Edition, TargetKind};

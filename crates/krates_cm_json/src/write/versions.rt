@@ -5,7 +5,7 @@ ghost use Rattle.serde_json.specs.View.{view as data_of};
 ghost use Rattle.semver.specs.Identifiers.{parts_of};
 ghost use Rattle.krates_cm.specs.Document.{VersionModel, RequirementModel, requirement_view};
 ghost use Rattle.krates_cm_json.specs.Objects.{OptionWritten};
-ghost use Rattle.krates_cm_json.specs.Texts.{VersionWritten, RustVersionWritten, RequirementWritten, rust_version_text};
+ghost use Rattle.krates_cm_json.specs.WrittenTexts.{VersionWritten, RustVersionWritten, RequirementWritten, rust_version_text};
 
 use crate::write::to_value::ToValue;
 use semver::{Version, VersionReq};

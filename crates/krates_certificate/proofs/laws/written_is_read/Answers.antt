@@ -1,4 +1,4 @@
-use Rattle.krates_certificate.proofs.ReadAgain.{fact_again, step_again, certificate_again}
+use Rattle.krates_certificate.proofs.PartsAgain.{fact_again, step_again, certificate_again}
 use Rattle.krates_certificate.proofs.laws.written_is_read.Goals as goal
 
 pub returns-clause-fact : goal.returns-clause-fact

@@ -1,5 +1,5 @@
 use Rattle.std.proofs.Common.{arith}
-use Rattle.krates_derive.proofs.KeyedFacts.{keys_all, keys_more, keys_none}
+use Rattle.krates_derive.proofs.FactSetLemmas.{keys_all, keys_more, keys_none}
 use Rattle.krates_derive.proofs.fact_set.keys_of.Goals as goal
 
 pub loop-fact-init : goal.loop-fact-init

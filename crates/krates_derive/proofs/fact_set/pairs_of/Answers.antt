@@ -5,7 +5,7 @@ use Rattle.krates_derive.specs.FactSet.{HasPairs}
 use Rattle.krates_derive.specs.declared.fact_set.Pair.{Pair}
 use Rattle.krates_rules.specs.Facts.{Fact, Kept}
 use Rattle.krates_rules.specs.StepViews.{fact_view, facts_view}
-use Rattle.krates_derive.proofs.KeyedFacts.{pairs_all, pairs_more, pairs_none, pairs_past, pairs_put}
+use Rattle.krates_derive.proofs.FactSetLemmas.{pairs_all, pairs_more, pairs_none, pairs_past, pairs_put}
 use Rattle.krates_derive.proofs.fact_set.pairs_of.Goals.{in-Kept+in_ok-insert, in_default}
 use Rattle.krates_derive.proofs.fact_set.pairs_of.Goals as goal
 

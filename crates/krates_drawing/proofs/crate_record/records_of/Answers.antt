@@ -1,9 +1,8 @@
 use Rattle.std.proofs.Common.{◌∙◌, refl, subst}
 use Rattle.std.specs.List.{AllZip}
 use Rattle.krates_questions.specs.Lookup.{resolved_view}
-use Rattle.krates_rules.proofs.Zips.{zip_push}
+use Rattle.krates_rules.proofs.Zips.{zip_push, all_taken}
 use Rattle.krates_drawing.specs.CrateRecord.{IsRecordOf}
-use Rattle.krates_drawing.proofs.Zips.{all_taken}
 use Rattle.krates_drawing.proofs.crate_record.records_of.Goals as goal
 
 pub loop-krate-preserved : goal.loop-krate-preserved

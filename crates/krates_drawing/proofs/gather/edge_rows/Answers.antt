@@ -1,8 +1,7 @@
 use Rattle.std.proofs.Common.{◌∙◌, refl, subst}
 use Rattle.std.specs.List.{AllZip}
-use Rattle.krates_rules.proofs.Zips.{zip_push}
+use Rattle.krates_rules.proofs.Zips.{zip_push, all_taken}
 use Rattle.krates_drawing.specs.Gathered.{IsEdgeWith}
-use Rattle.krates_drawing.proofs.Zips.{all_taken}
 use Rattle.krates_drawing.proofs.gather.edge_rows.Goals as goal
 
 pub loop-edge-preserved : goal.loop-edge-preserved

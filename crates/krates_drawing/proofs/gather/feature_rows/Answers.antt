@@ -1,9 +1,8 @@
 use Rattle.std.proofs.Common.{◌∙◌, refl, subst}
 use Rattle.std.specs.List.{AllZip}
 use Rattle.krates_questions.specs.Lookup.{resolved_view}
-use Rattle.krates_rules.proofs.Zips.{zip_push}
+use Rattle.krates_rules.proofs.Zips.{zip_push, all_taken}
 use Rattle.krates_drawing.specs.Gathered.{IsFeatureWith}
-use Rattle.krates_drawing.proofs.Zips.{all_taken}
 use Rattle.krates_drawing.proofs.gather.feature_rows.Goals as goal
 
 pub loop-feature-preserved : goal.loop-feature-preserved

@@ -1,11 +1,10 @@
 use Rattle.std.proofs.Common.{◌∙◌, ◌+◌, length, ap, sym, subst}
 use Rattle.std.proofs.lemmas.List.{length_push}
-use Rattle.krates_rules.proofs.Zips.{zip_next}
+use Rattle.krates_rules.proofs.Zips.{zip_next, seen_at}
 use Rattle.krates_drawing.specs.Ends.{HasEnds}
 use Rattle.krates_drawing.specs.Stored.{IsStoredAs, Appends}
 use Rattle.krates_drawing.specs.Views.{planned_edge_view}
 use Rattle.krates_drawing.proofs.StoredEdges.{edges_alone}
-use Rattle.krates_drawing.proofs.Zips.{seen_at}
 use Rattle.krates_drawing.proofs.store.store_edges.Goals as goal
 
 pub loop-x-preserved : goal.loop-x-preserved

@@ -2,7 +2,7 @@ use Rattle.std.proofs.Common.{◌≡◌, ◌++◌, rules, string_bytes}
 use Rattle.std.proofs.lemmas.Result.{err_from_is_err_and}
 use Rattle.krates_cli.proofs.ListingLemmas.{built_as_given, refused_as_given}
 use Rattle.krates_foreign.proofs.CallLemmas.{unbuilt}
-use Rattle.krates_foreign.proofs.DrawnLemmas.{draws}
+use Rattle.krates_foreign.proofs.DrawnLinesLemmas.{draws}
 use Rattle.krates_foreign.specs.StoredLines.{stored_edge_lines, stored_node_lines}
 use Rattle.krates_foreign.proofs.calls.drawn.Goals as goal
 

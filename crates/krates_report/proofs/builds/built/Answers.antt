@@ -1,4 +1,4 @@
-use Rattle.krates_report.proofs.BuildLemmas.{build_of}
+use Rattle.krates_report.proofs.BuildsWithoutIndex.{build_of}
 use Rattle.krates_report.proofs.builds.built.Goals as goal
 
 pub returns-in_ok-krates-in-Ok : goal.returns-in_ok-krates-in-Ok

@@ -9,7 +9,7 @@ use Rattle.krates_rules.specs.Resolved.{NodeAt, id_of}
 use Rattle.krates_questions.specs.Lookup.{resolved_view}
 use Rattle.krates_questions.specs.NodeEntry.{child_of, edge_for}
 use Rattle.krates_rules.specs.Questions.{questions}
-use Rattle.krates_search.proofs.Entries.{crate_may_try}
+use Rattle.krates_search.proofs.TriedEdges.{crate_may_try}
 use Rattle.krates_selection.specs.Trace.{HasStep}
 use Rattle.krates_search.proofs.Finding.{finds_required, for_reason}
 use Rattle.krates_search.proofs.Growing.{advances_trans}

@@ -4,9 +4,9 @@ use Rattle.krates_search.specs.SearchContext.{HasAvailability}
 use Rattle.krates_search.specs.SearchState.{IsAny, TakenWhen}
 use Rattle.krates_questions.specs.Lookup.{resolved_view}
 use Rattle.krates_questions.specs.NodeEntry.{edge_for}
-use Rattle.krates_questions.proofs.Entries.{heeds, is_ignored, loose, wanted}
+use Rattle.krates_questions.proofs.EntryEdges.{heeds, is_ignored, loose, wanted}
 use Rattle.krates_search.proofs.EdgeGrowth.{optional_declared}
-use Rattle.krates_search.proofs.Entries.{taken_here, ignored_tried, optional_tried, barred_tried, left_out_tried, kept_tried}
+use Rattle.krates_search.proofs.TriedEdges.{taken_here, ignored_tried, optional_tried, barred_tried, left_out_tried, kept_tried}
 use Rattle.krates_search.proofs.expansion.expand_edge.Goals.{else-not-trial-via-then-not-trial+else-declared_at, else-not-trial-via-else-not-trial}
 use Rattle.krates_search.proofs.expansion.expand_edge.Goals as goal
 

@@ -1,6 +1,6 @@
 use Rattle.std.proofs.Common.{◌∙◌, Contains, ap}
 use Rattle.krates_graph.specs.Agenda.{PutNumbers}
-use Rattle.krates_queries.proofs.PathLemmas.{reached_without}
+use Rattle.krates_queries.proofs.EdgePaths.{reached_without}
 use Rattle.krates_queries.proofs.ReachedLemmas.{put_first}
 use Rattle.krates_queries.proofs.queries.krates_filtered.reached.Goals as goal
 

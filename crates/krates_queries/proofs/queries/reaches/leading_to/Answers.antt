@@ -1,7 +1,7 @@
 use Rattle.std.proofs.Common.{◌≡◌, ◌<◌, ◌∙◌, length, Contains, ap, subst}
 use Rattle.std.proofs.lemmas.List.Elements.{All-contains}
 use Rattle.krates_graph.specs.Agenda.{PutNumbers}
-use Rattle.krates_queries.proofs.PathLemmas.{paths_back}
+use Rattle.krates_queries.proofs.EdgePaths.{paths_back}
 use Rattle.krates_queries.proofs.ReachedLemmas.{put_first}
 use Rattle.krates_queries.proofs.queries.reaches.leading_to.Goals as goal
 

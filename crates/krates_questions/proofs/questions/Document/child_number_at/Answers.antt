@@ -1,4 +1,4 @@
-use Rattle.krates_questions.proofs.NodeNumbers.{dep_number_within, dep_numbered, dep_numbers_within, node_has_number}
+use Rattle.krates_questions.proofs.CratesOfNodes.{dep_number_within, dep_numbered, dep_numbers_within, node_has_number}
 use Rattle.krates_questions.proofs.questions.Document.child_number_at.Goals as goal
 
 pub index-requires : goal.index-requires

@@ -2,7 +2,7 @@ use Rattle.std.proofs.Common.{sym, ◌∙◌}
 use Rattle.krates_cm.specs.Document.{dep_kind_info_view}
 use Rattle.krates_questions.specs.Lookup.{resolved_view}
 use Rattle.krates_questions.specs.NodeEntry.{edge_for}
-use Rattle.krates_questions.proofs.Entries.{heeds, is_ignored}
+use Rattle.krates_questions.proofs.EntryEdges.{heeds, is_ignored}
 use Rattle.krates_questions.proofs.Needs.{ignored_need, unlisted_need, undeclared_need, barred_need, wanted_need, wanted_here, declared_below}
 use Rattle.krates_questions.proofs.questions.Document.entry_need.Goals as goal
 

@@ -1,5 +1,5 @@
 use Rattle.krates_rules.proofs.Standings.{contains_at}
-use Rattle.krates_questions.proofs.NodeNumbers.{node_has_number, node_number_within, node_numbered}
+use Rattle.krates_questions.proofs.CratesOfNodes.{node_has_number, node_number_within, node_numbered}
 use Rattle.krates_cm.specs.Document.{NodeModel}
 use Rattle.krates_questions.specs.Lookup.{resolved_view}
 use Rattle.krates_rules.specs.Resolved.{HasNode}

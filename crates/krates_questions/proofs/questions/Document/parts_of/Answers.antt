@@ -1,7 +1,7 @@
 use Rattle.std.proofs.Common.{ℕ, ◌<◌, refl, subst}
 use Rattle.krates_rules.specs.Resolved.{id_of}
 use Rattle.krates_questions.specs.declared.node_entry.NodeParts.{NodeParts}
-use Rattle.krates_questions.proofs.NodeNumbers.{parent_numbered}
+use Rattle.krates_questions.proofs.CratesOfNodes.{parent_numbered}
 use Rattle.krates_questions.proofs.NodeParts.{nodes_long, parts_here, versions_here, versions_long, within_vec}
 use Rattle.krates_questions.proofs.questions.Document.parts_of.Goals as goal
 

@@ -4,7 +4,7 @@ use Rattle.serde_json.specs.View.{view}
 use Rattle.krates_cm.specs.Document.{package_view}
 use Rattle.krates_cm_json.specs.Fields.{members_of, Added}
 use Rattle.krates_cm_json.specs.Objects.{OptionWritten}
-use Rattle.krates_cm_json.specs.Texts.{RustVersionWritten}
+use Rattle.krates_cm_json.specs.WrittenTexts.{RustVersionWritten}
 use Rattle.krates_cm_json.specs.WrittenTables.{package_table}
 use Rattle.krates_cm_json.proofs.WrittenFields.{AddedAll, ◌and◌, fields_written}
 use Rattle.krates_cm_json.proofs.write.package.PackageToValue.to_value.Goals as goal

@@ -6,7 +6,7 @@ use Rattle.krates_cm.specs.declared.target.CrateType.{CrateType}
 use Rattle.krates_cm.specs.declared.target.TargetKind.{TargetKind}
 use Rattle.krates_cm_json.specs.Fields.{members_of, Added}
 use Rattle.krates_cm_json.specs.Objects.{ListWritten}
-use Rattle.krates_cm_json.specs.Texts.{CrateTypeWritten, TargetKindWritten}
+use Rattle.krates_cm_json.specs.WrittenTexts.{CrateTypeWritten, TargetKindWritten}
 use Rattle.krates_cm_json.specs.WrittenTables.{target_table}
 use Rattle.krates_cm_json.proofs.WrittenFields.{AddedAll, ◌and◌, fields_written}
 use Rattle.krates_cm_json.proofs.write.package.TargetToValue.to_value.Goals as goal

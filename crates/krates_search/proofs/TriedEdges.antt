@@ -14,7 +14,7 @@ use Rattle.krates_search.specs.declared.search_state.SearchState.{SearchState}
 use Rattle.krates_questions.specs.declared.node_entry.NodeEntry.{NodeEntry}
 use Rattle.krates_rules.specs.Setting.{SettingModel, IsIgnored, Passes}
 use Rattle.krates_questions.specs.Availability.{IsExcludedOnly}
-use Rattle.krates_questions.proofs.Entries.{not_loose, wanted_one}
+use Rattle.krates_questions.proofs.EntryEdges.{not_loose, wanted_one}
 
 -- ---- the edge has been tried
 

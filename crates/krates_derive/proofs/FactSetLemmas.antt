@@ -15,7 +15,7 @@ use Rattle.krates_derive.specs.declared.fact_ref.FactRef.TheVariants as keys
 use Rattle.krates_derive.specs.declared.fact_set.Pair.{Pair}
 use Rattle.krates_rules.proofs.DistinctIds.{OrderTellsSame}
 use Rattle.krates_rules.proofs.PutElements.{equal_is, is_equal, none_there, put_step}
-use Rattle.krates_derive.proofs.KeyOrder.{key_from, key_to, order_of_pair, pair_from, pair_to}
+use Rattle.krates_derive.proofs.FactRefOrder.{key_from, key_to, order_of_pair, pair_from, pair_to}
 use Rattle.krates_ids.specs.Identity.{Identity}
 use Rattle.krates_rules.specs.Facts.{Id, Edge, Fact, Kept}
 use Rattle.krates_rules.specs.Resolved.{id_of}
