@@ -4,7 +4,7 @@
 #     scripts/try_tests.sh [CRATE..]
 #
 # Without a name: those of all crates. A program is run on its stdin with its args beside the files of data/, and has to write its stdout and to end with status 0.
-# As many crates are tried side by side as there are processors, each by scripts/try_crate.sh.
+# As many crates are tried side by side as there are processors, each by scripts/try_tests/crate.sh.
 #
 # Prints each test and program that failed, with what it said, and what is said of a crate whose tests didn't run; last how many passed, failed
 # and weren't run. The status is 0 where all were run and passed, and there was one.
@@ -39,7 +39,7 @@ try_program() {
     for file in data/*; do
         [ ! -f "$file" ] || data+=(--data "${file#data/}=$file")
     done
-    ../../scripts/try_crate.sh "${data[@]}" -- "${words[@]}" < "$([ -f stdin ] && echo stdin || echo /dev/null)" > "$2.out" 2> "$2.err" || status=$?
+    ../../scripts/try_tests/crate.sh "${data[@]}" -- "${words[@]}" < "$([ -f stdin ] && echo stdin || echo /dev/null)" > "$2.out" 2> "$2.err" || status=$?
     if [ "$status" -eq 0 ] && cmp -s "$2.out" "$([ -f stdout ] && echo stdout || echo /dev/null)"; then
         echo "test $1 ... ok"
     else
@@ -54,7 +54,7 @@ try_program() {
 try_one() {
     cd "crates/$1"
     [ ! -f src/main.rt ] || try_program "$1" "$2/$1"
-    grep -rqE '^ *#\[test\]' src --include=*.rt && ../../scripts/try_crate.sh --test 2>&1
+    grep -rqE '^ *#\[test\]' src --include=*.rt && ../../scripts/try_tests/crate.sh --test 2>&1
 }
 export -f try_program try_one
 printf '%s\n' "${crates[@]}" | xargs -P "$(nproc)" -I{} bash -c 'try_one "$1" "$2" > "$2/$1" || true' _ {} "$room"

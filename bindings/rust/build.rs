@@ -11,7 +11,7 @@ fn main() {
         println!("cargo:rerun-if-changed={}", file.display());
         assert!(
             file.exists(),
-            "{} is not there: scripts/bindings.sh makes it, or set KRATES_LIB_DIR",
+            "{} is not there: scripts/library.sh bindings makes it, or set KRATES_LIB_DIR",
             file.display()
         );
     }

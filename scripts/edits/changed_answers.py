@@ -2,7 +2,7 @@
 
 A table is a list of rows in a constant of a crate whose name ends in `_tests`, and the last part of a row is its
 answer. In a copy of the working tree each table gets a copy whose first row has another answer, and the test that
-walks it a copy that walks that one, with the functions between them. scripts/try_crate.sh runs them without a proof,
+walks it a copy that walks that one, with the functions between them. scripts/try_tests/crate.sh runs them without a proof,
 or `rt test` does, which proves them first. Libraries that are built here needn't be built again.
 
 Prints each table with what its test says, which has to name the row, and each table that isn't tried, since its rows
@@ -137,7 +137,7 @@ def is_refused(crate, room, is_compiled):
     how = {"cwd": room / "crates" / crate, "capture_output": True, "text": True, "errors": "replace"}
     if is_compiled:
         subprocess.run(["rt", "fmt"], **how, check=True)
-    ran = subprocess.run(["rt", "test"] if is_compiled else [ROOT / "scripts/try_crate.sh", "--test"], **how)
+    ran = subprocess.run(["rt", "test"] if is_compiled else [ROOT / "scripts/try_tests/crate.sh", "--test"], **how)
     said = {test: (kind, " ".join(more.split())) for test, kind, more in SAID.findall(ran.stdout + ran.stderr)}
     for test, table in found.items():
         kind, more = said.get(test, ("not run", ""))

@@ -8,7 +8,7 @@ Prints each edit that isn't refused so, and then how many were.
 import re
 import sys
 
-from front_end import compiled
+from check.sources import compiled
 
 
 def lines_of(edit):

@@ -2,16 +2,14 @@
 # Makes the static library that Rust and C call, and tries it from both. Run it behind `rt ci`, in the same folder: it takes the libraries and the
 # program that the gate left there.
 #
-#     scripts/bindings.sh [COUNT]
-#
 # The archive of crates/krates_c and the toolchain's functions for memory come to bindings/out. Then come the tests of bindings/rust, without a network,
-# beside the program krates-list; the example in C; each call with each of its requests for memory refused in turn; and COUNT damaged documents (400,000, a minute).
-# C is compiled with the address sanitizer.
+# beside the program krates-list; the example in C; each call with each of its requests for memory refused in turn; and COUNT damaged documents,
+# its word (400,000, a minute). C is compiled with the address sanitizer.
 #
 # It wants cargo and gcc. The status is 0 where all of it went well.
 
 set -euo pipefail
-cd "$(dirname "$0")/.."
+cd "$(dirname "$0")/../.."
 count=${1:-400000}
 kit=$(dirname "$(dirname "$(realpath "$(command -v rt)")")")
 out=$PWD/bindings/out
@@ -22,7 +20,7 @@ if [ ! -x "$KRATES_LIST" ]; then
 fi
 
 mkdir -p "$out"
-scripts/over_gate.py krates_c --archive "$out/libkrates_c.a" > "$out/archive.log" 2>&1 || {
+scripts/check.py over-gate krates_c --archive "$out/libkrates_c.a" > "$out/archive.log" 2>&1 || {
     cat "$out/archive.log" >&2
     exit 1
 }

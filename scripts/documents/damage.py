@@ -1,7 +1,4 @@
-#!/usr/bin/env python3
 """Damages documents of cargo metadata, hands each to krates-list, and looks at how it ends.
-
-    scripts/damaged_documents.py FOLDER [COUNT]
 
 A document is FOLDER/NAME/metadata.json, which may be compressed, as metadata.json.gz. From all of them COUNT damaged ones are
 made, 20,000 where none is given, the same in every run: texts that are cut off at each 997th byte, and documents in which one
@@ -9,8 +6,8 @@ key is gone, one value is of another type, or one id has an odd form. In each th
 or 1; with status 1 nothing stands on standard output, and standard error has one of the written refusals, on one line.
 
 The program is crates/krates_list/out/krates_list, which `rt run` in that folder builds, or $KRATES_LIST. Each run that ends
-otherwise is told, and what was handed to it is kept in a folder that is named. At the end comes a tally by damage and ending;
-the status is 0 where every run ended as it has to, and 1 otherwise.
+otherwise is told, and what was handed to it is kept in a folder that is named. At the end comes a tally by damage and ending.
+All is well where every run ended as it has to, and there was one.
 """
 import collections
 import concurrent.futures
@@ -23,7 +20,7 @@ import subprocess
 import sys
 import tempfile
 
-from krates_sources import documents
+from krates_sources import ROOT, documents
 
 STEP = 997
 SECONDS = 60
@@ -71,6 +68,7 @@ def changed(value, path, change):
 
 
 def remove(holder, key):
+    """Takes a key away, with what it holds."""
     del holder[key]
 
 
@@ -115,33 +113,6 @@ def ending(program, text):
     return f"status {run.returncode}", False
 
 
-def main():
-    if len(sys.argv) not in (2, 3) or not os.path.isdir(sys.argv[1]):
-        sys.exit("usage: scripts/damaged_documents.py FOLDER [COUNT]")
-    here = pathlib.Path(__file__).resolve().parent
-    program = os.environ.get("KRATES_LIST", str(here.parent / "crates/krates_list/out/krates_list"))
-    texts = [text for _, text in documents(sys.argv[1])]
-    if not texts or not os.access(program, os.X_OK):
-        sys.exit("there is no document, or no program: run 'rt run < stdin' in crates/krates_list")
-    kept = tempfile.mkdtemp(prefix="damaged-")
-    tally, wrong = collections.Counter(), 0
-    with concurrent.futures.ThreadPoolExecutor(os.cpu_count()) as pool:
-        for first in chunks(damaged(texts, int(sys.argv[2]) if len(sys.argv) == 3 else 20000), 256):
-            for (kind, text), (end, right) in zip(first, pool.map(lambda it: ending(program, it[1]), first)):
-                tally[kind, end] += 1
-                if not right:
-                    wrong += 1
-                    path = os.path.join(kept, f"{wrong}.json")
-                    pathlib.Path(path).write_bytes(text)
-                    print(f"{kind}: {end}: {path}")
-    for (kind, end), times in sorted(tally.items()):
-        print(f"{times:7} {kind}: {end}")
-    print(f"{sum(tally.values())} documents, {wrong} ended otherwise than they have to")
-    if not wrong:
-        os.rmdir(kept)
-    sys.exit(1 if wrong or not tally else 0)
-
-
 def chunks(items, size):
     """The items in lists of at most the size, so that not all are held at once."""
     some = []
@@ -154,5 +125,26 @@ def chunks(items, size):
         yield some
 
 
-if __name__ == "__main__":
-    main()
+def damage(folder, count):
+    """Whether the program ends as it has to on this many damaged documents of a folder, and there is one; prints a tally."""
+    program = os.environ.get("KRATES_LIST", str(ROOT / "crates/krates_list/out/krates_list"))
+    texts = [text for _, text in documents(folder)]
+    if not texts or not os.access(program, os.X_OK):
+        sys.exit("there is no document, or no program: run 'rt run < stdin' in crates/krates_list")
+    kept = tempfile.mkdtemp(prefix="damaged-")
+    tally, wrong = collections.Counter(), 0
+    with concurrent.futures.ThreadPoolExecutor(os.cpu_count()) as pool:
+        for some in chunks(damaged(texts, count), 256):
+            for (kind, text), (end, right) in zip(some, pool.map(lambda it: ending(program, it[1]), some)):
+                tally[kind, end] += 1
+                if not right:
+                    wrong += 1
+                    path = os.path.join(kept, f"{wrong}.json")
+                    pathlib.Path(path).write_bytes(text)
+                    print(f"{kind}: {end}: {path}")
+    for (kind, end), times in sorted(tally.items()):
+        print(f"{times:7} {kind}: {end}")
+    print(f"{sum(tally.values())} documents, {wrong} ended otherwise than they have to")
+    if not wrong:
+        os.rmdir(kept)
+    return bool(tally) and not wrong

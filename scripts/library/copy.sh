@@ -1,21 +1,14 @@
 #!/usr/bin/env bash
 # Copies the library into a repository of your own: the crate `krates` and all crates on which it stands.
 #
-#     scripts/copy_library.sh FOLDER
-#
-# FOLDER is the top of that repository; it is made where it isn't there. Each crate's src/, specs/ and proofs/ go to FOLDER/crates, in place
+# Its word is FOLDER, the top of that repository; it is made where it isn't there. Each crate's src/, specs/ and proofs/ go to FOLDER/crates, in place
 # of what stands there under its name; so do their lines in FOLDER/crates.txt. HANDLES is copied where there is none,
 # and the licences go beside the crates, as crates/krates/LICENSE-MIT and LICENSE-APACHE. Names each crate that it copies.
 
 set -euo pipefail
-
-if [ $# -ne 1 ]; then
-    sed -n '2,/^$/s/^# \{0,1\}//p' "$0" >&2
-    exit 2
-fi
 mkdir -p "$1"
 target=$(cd "$1" && pwd)
-cd "$(dirname "$0")/.."
+cd "$(dirname "$0")/../.."
 
 # The crates of this repository that the line of a crate names.
 named_by() {

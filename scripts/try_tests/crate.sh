@@ -1,7 +1,7 @@
 #!/usr/bin/env bash
 # Does what `rt try` does in a crate's folder, in half of the time, and runs tests that start their own program too.
 #
-#     ../../scripts/try_crate.sh [WORD..]
+#     ../../scripts/try_tests/crate.sh [WORD..]
 #
 # Takes the words of `rt try`, prints what it prints, and ends with its status. `rt` runs over links to the toolchain, which stays as it is; a few
 # of them are files of their own.

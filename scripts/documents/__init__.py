@@ -1,0 +1,1 @@
+"""The documents of scripts/documents.py, a module for each of its words; beside them stand the two small ones."""
