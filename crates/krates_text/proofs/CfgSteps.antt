@@ -7,8 +7,10 @@ use Rattle.std.proofs.lemmas.Str.Pattern.{NoCharPasses-char}
 use Rattle.krates_text.specs.declared.cfg.CfgError.{CfgError}
 use Rattle.krates_text.specs.declared.cfg.CfgError.TheVariants as error
 use Rattle.krates_text.specs.CfgGrammar.{Tree, is_blank, is_word_start, is_word_part, is_form, Frame}
-use Rattle.krates_text.specs.CfgReader.{Fault, syntax', too_deep, Place, at_predicate, in_word, after_word, at_string, in_string, after_predicate, at_end, State, at, step, step_word, step_after, step_at, run, and_then, result_of}
-use Rattle.krates_text.specs.CfgPlaces.{Fails, GivesTree}
+use Rattle.krates_text.specs.CfgReader.{Fault, syntax', too_deep, Place, at_predicate, in_word, after_word, at_string, in_string, after_predicate, at_end, State, at, step, step_word, step_after, step_at, run, and_then, finished, result_of}
+use Rattle.krates_text.specs.CfgPlaces.{Fails, GivesTree, place_of}
+use Rattle.krates_text.specs.declared.cfg.reader.Place as places
+use Rattle.krates_text.specs.declared.cfg.reader.Place.TheVariants as stands
 use Rattle.krates_text.specs.declared.cfg.predicate.Predicate.{Predicate}
 use Rattle.krates_text.proofs.CutsLemmas.{Lacks-from_reads}
 use Rattle.krates_text.proofs.CfgReading.{run-append, read_string}
@@ -109,3 +111,18 @@ pub fails_whole : (fs : List Frame) (place : Place) (c : ℕ) (rest more : List 
 fails_whole fs place c rest more total error.Syntax split whole h = ap result_of (sym (reads_on fs place c rest more (Err syntax') total split whole h))
 fails_whole fs place c rest more total error.TooDeep split whole h = ap result_of (sym (reads_on fs place c rest more (Err too_deep) total split whole h))
 fails_whole fs place c rest more total error.Memory split whole h = tt
+
+-- where no character is left, the answer is what stands there
+pub ends_whole : (fs : List Frame) (place : Place) (rest : List ℕ) (total : Result State Fault) → length rest ≡ 0 → run (at fs place) rest ≡ total → result_of total ≡ finished place
+ends_whole fs place [] total none whole = ap result_of (sym whole)
+ends_whole fs place (c ∷ rest) total none whole = absurd (omega arith)
+
+-- anywhere but behind the last `)` that is a fault
+pub unfinished : (place : places.Place) → ((p : Predicate) → place ≢ stands.AtEnd p) → finished (place_of place) ≡ Err syntax'
+unfinished stands.AtPredicate other = refl
+unfinished (stands.InWord w) other = refl
+unfinished (stands.AfterWord w) other = refl
+unfinished (stands.AtString key) other = refl
+unfinished (stands.InString key string) other = refl
+unfinished (stands.AfterPredicate p) other = refl
+unfinished (stands.AtEnd p) other = absurd (other p refl)

@@ -177,6 +177,20 @@ splits_at_start path (b ∷ rest) t h =
       named = λ some other. (text, components-lacks b rest h, lacks_not_root text h);
     }
 
+-- what two tests say of a beginning: that it is empty, and that it is the root
+pub empty_is : (text : List ℕ) → eqb (length text) 0 ≡ true → text ≡ []
+empty_is [] e = refl
+empty_is (b ∷ rest) e = absurd (omega (arith, eqb-true (length (b ∷ rest)) 0 e))
+
+pub some_is : (text : List ℕ) → eqb (length text) 0 ≡ false → text ≢ []
+some_is text e same = both_ways _ e (rw same refl)
+
+pub root_is : (text : List ℕ) → bytes_eq text root_dir ≡ true → text ≡ root_dir
+root_is text e = (bytes_eq-Decides text root_dir).0 e
+
+pub other_is : (text : List ℕ) → bytes_eq text root_dir ≡ false → text ≢ root_dir
+other_is text e same = both_ways _ e ((bytes_eq-Decides text root_dir).1 same)
+
 -- the empty path and the root alone have no parent
 pub no_parent : (path before whole : List ℕ) → SplitsLast path before whole → (whole ≡ []) ⊎ (whole ≡ root_dir) → HasNoParent path
 no_parent path before whole s (inl e) = inl (s.same ∙ ap components e)

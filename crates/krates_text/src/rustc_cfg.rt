@@ -30,22 +30,53 @@ impl TargetInfo {
         ensures described { IfOk result (λ found. IsDescribedBy triple.now text.now
             (description_of found.0) (map string_bytes found.1.items)) }
     {
+        let (arch, os, env, abi) = last_values(
+            alloc,
+            text,
+            ("target_arch", "target_os", "target_env", "target_abi"),
+        )?;
+        let (vendor, pointer_width, endian, panic) = last_values(
+            alloc,
+            text,
+            ("target_vendor", "target_pointer_width", "target_endian", "panic"),
+        )?;
+        let families = values(alloc, text, "target_family")?;
+        let atomics = values(alloc, text, "target_has_atomic")?;
+        let features = values(alloc, text, "target_feature")?;
         let info = TargetInfo {
             triple: String::from_str(alloc, triple)?,
-            arch: last_value(alloc, text, "target_arch")?,
-            os: last_value(alloc, text, "target_os")?,
-            env: last_value(alloc, text, "target_env")?,
-            abi: last_value(alloc, text, "target_abi")?,
-            vendor: last_value(alloc, text, "target_vendor")?,
-            pointer_width: last_value(alloc, text, "target_pointer_width")?,
-            endian: last_value(alloc, text, "target_endian")?,
-            panic: last_value(alloc, text, "panic")?,
-            families: values(alloc, text, "target_family")?,
-            atomics: values(alloc, text, "target_has_atomic")?,
+            arch,
+            os,
+            env,
+            abi,
+            vendor,
+            pointer_width,
+            endian,
+            panic,
+            families,
+            atomics,
         };
-        let features = values(alloc, text, "target_feature")?;
         Ok((info, features))
     }
+}
+
+/// The last values of four keys, in their order.
+fn last_values(
+    alloc: Global,
+    text: &str,
+    keys: (&str, &str, &str, &str),
+) -> Result<(String, String, String, String), AllocError>
+    ensures { IfOk result (λ values. IsLastValue text.now keys.entry.0.now (string_bytes values.0)
+        × IsLastValue text.now keys.entry.1.now (string_bytes values.1)
+        × IsLastValue text.now keys.entry.2.now (string_bytes values.2)
+        × IsLastValue text.now keys.entry.3.now (string_bytes values.3)) }
+{
+    Ok((
+        last_value(alloc, text, keys.0)?,
+        last_value(alloc, text, keys.1)?,
+        last_value(alloc, text, keys.2)?,
+        last_value(alloc, text, keys.3)?,
+    ))
 }
 
 /// The value that the last line for a key gives it, or an empty text.

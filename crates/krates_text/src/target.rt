@@ -49,7 +49,6 @@ impl Clone for TargetInfo {
     ghost is_clone = { λ info copy. description_of copy ≡ description_of info };
 
     /// A copy that describes the same. The only error is running out of memory.
-    #[tactic(auto, using(crate::proofs::CopiedTexts::texts_copied))]
     fn clone(&self) -> Result<TargetInfo, AllocError> {
         let named = four_copies(&self.triple, &self.arch, &self.os, &self.env)?;
         let told = four_copies(&self.abi, &self.vendor, &self.pointer_width, &self.endian)?;

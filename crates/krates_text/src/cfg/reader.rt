@@ -258,7 +258,7 @@ fn is_form(word: &str) -> bool
 fn is_reserved(word: &str) -> bool
     ensures { result ≡ is_reserved word.now }
 {
-    word == "all" || word == "any" || word == "not" || word == "true" || word == "false"
+    is_form(word) || word == "true" || word == "false"
 }
 
 fn is_blank(c: char) -> bool

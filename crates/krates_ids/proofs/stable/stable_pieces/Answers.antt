@@ -1,3 +1,5 @@
+use Rattle.std.proofs.Common.{arith}
+use Rattle.std.proofs.lemmas.Grind.{common_steps}
 use Rattle.krates_ids.proofs.StableLemmas.{IsStableForm-no_hash, IsStableForm-slash, IsStableForm-question_mark, IsStableForm-no_name}
 use Rattle.krates_ids.proofs.stable.stable_pieces.Goals as goal
 
@@ -15,3 +17,6 @@ returns-then-has-2-clause-none c =
 pub returns-in_default-name_in-clause-none : goal.returns-in_default-name_in-clause-none
 returns-in_default-name_in-clause-none c =
     IsStableForm-no_name _ _ _ c.in-Some.ensures c.in_default-cut_first.ensures c.in_default-name_in.ensures
+
+pub returns : goal.returns
+returns c = grind (arith, common_steps)
