@@ -22,6 +22,7 @@ use Rattle.krates_selection.specs.Trace.{HasSomeStep}
 use Rattle.krates_search.specs.declared.search_state.SearchState.{SearchState}
 use Rattle.krates_search.specs.declared.links.Links.{Links}
 use Rattle.krates_questions.specs.declared.node_entry.NodeEntry.{NodeEntry}
+use Rattle.krates_questions.specs.declared.node_place.NodePlace.{NodePlace}
 use Rattle.krates_search.specs.declared.found_edge.FoundEdge.{FoundEdge}
 use Rattle.krates_document.proofs.DeclaredOnce.{declared_once, declared_stands}
 use Rattle.krates_rules.proofs.FirstPlaces.{seen_at}
@@ -121,18 +122,18 @@ PlacedAs r s kind_place e place d = (a : IsDeclaredAt r s e place d) × FirstAt 
 
 -- the places are those of the entry
 pub placed_here : (r : Resolved) (s : SettingModel) (x : NodeEntry) (k : DepKindInfoModel) (e : FoundEdge) (place : ℕ) (d : DependencyModel) → NoneDoubled r.metadata r.graph → IsEntry r x → IsDeclared (declared_in x) (entry_of x) k place d
-    → IsWanted r s (edge_for x k) d → found_view e ≡ edge_for x k → e.declared ≡ place → FirstAt (λ o. o ≡ k) (node_dep_view x.dep.now).dep_kinds e.place k → e.parent_node ≡ x.place → NodeAt r (child_of x) e.child_node
+    → IsWanted r s (edge_for x k) d → found_view e ≡ edge_for x k → e.declared ≡ place → FirstAt (λ o. o ≡ k) (node_dep_view x.dep.now).dep_kinds e.place k → e.parent_node ≡ x.place → NodeAt r (child_of x) e.child_node.index
     → IsFoundEdge r s e
 placed_here r s x k e place d none h first w is at first_of_kind parent_there child =
     let same = wanted_here r s x k place d none h first w in
     let there : PlacedAs r s e.place (edge_for x k) w.place d = (w.declared, subst (λ (y : NodeDepModel). FirstAt (λ o. o ≡ k) y.dep_kinds e.place k) (sym same.1) first_of_kind) in
     let edge = subst (λ (y : Edge). PlacedAs r s e.place y w.place d) (sym is) there in
     let here = subst (λ (n : ℕ). PlacedAs r s e.place (found_view e) n d) (same.0 ∙ sym at) edge in
-    let parent : NodeAt r (id_of e.parent.now) x.place = subst (λ (i : Id). NodeAt r i x.place) (sym (ap (λ (y : Edge). y.parent) is)) h.at.node in
+    let parent : NodeAt r (id_of e.parent.now) x.place.index = subst (λ (i : Id). NodeAt r i x.place.index) (sym (ap (λ (y : Edge). y.parent) is)) h.at.node in
     record {
       placed = record { dependency = d; declared = here.0; place = here.1 };
-      parent = subst (NodeAt r (id_of e.parent.now)) (sym parent_there) parent;
-      child = subst (λ (i : Id). NodeAt r i e.child_node) (sym (ap (λ (y : Edge). y.child) is)) child;
+      parent = subst (λ (p : NodePlace). NodeAt r (id_of e.parent.now) p.index) (sym parent_there) parent;
+      child = subst (λ (i : Id). NodeAt r i e.child_node.index) (sym (ap (λ (y : Edge). y.child) is)) child;
     }
 
 -- the declared dependency at a place, as the code reads it

@@ -25,7 +25,7 @@ entry_tried r s x y e none at parent child tried =
 
 -- so each edge at the entry's places has been
 pub noted_tried : ReadsOnce → (r : Resolved) (s : SettingModel) (x : SearchState) (y : NodeEntry) → NoneDoubled r.metadata r.graph → IsEntry r y → AreTried r s x (parent_of y) (child_of y) (node_dep_view y.dep.now) IsAny
-    → (e : Edge) → DepAt r e.parent e.child y.place y.index → IsTried r s x e IsAny
+    → (e : Edge) → DepAt r e.parent e.child y.place.index y.index → IsTried r s x e IsAny
 noted_tried once r s x y none is tried e there =
-    let same = one_way once r (parent_of y) (child_of y) e.parent e.child y.place y.index is.at there in
+    let same = one_way once r (parent_of y) (child_of y) e.parent e.child y.place.index y.index is.at there in
     entry_tried r s x y e none is same.0 same.1 tried

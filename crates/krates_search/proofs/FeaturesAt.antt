@@ -55,18 +55,18 @@ enabled_told once r kids numbers list z i f = (
 -- ---- the feature of a number
 
 -- the crate of a listed feature is kept where that of its number is
-pub home_kept : (t : KeptTables) (number : ℕ) (x : ListedFeature) → slice_get (listed_features (document_in t)) number ≡ Some (listed_view x) → HasKeptHome (document_in t) (kids_in t) number → IsKeptNode t x.place
+pub home_kept : (t : KeptTables) (number : ℕ) (x : ListedFeature) → slice_get (listed_features (document_in t)) number ≡ Some (listed_view x) → HasKeptHome (document_in t) (kids_in t) number → IsKeptNode t x.place.index
 home_kept t number x there k =
     let r = document_in t in
-    let same : (k.at.place, k.name) ≡ (x.place, x.name.now) = same_Some (k.at.place, k.name) (x.place, x.name.now) (sym k.at.at ∙ there) in
+    let same : (k.at.place, k.name) ≡ (x.place.index, x.name.now) = same_Some (k.at.place, k.name) (x.place.index, x.name.now) (sym k.at.at ∙ there) in
     record { krate = k.krate; node = subst (NodeAt r k.krate) (ap (λ (p : ℕ × Text). p.0) same) k.at.node; kept = k.kept }
 
 -- the feature with the crate's number and the listed name is that of the number
-pub feature_here : (t : KeptTables) (number : ℕ) (x : ListedFeature) (y : EnabledFeature) → slice_get (listed_features (document_in t)) number ≡ Some (listed_view x) → (k : IsKeptNode t x.place)
-    → IsNumberAt t x.place y.krate → text_view y.name ≡ x.name.now → IsFeatureOf (document_in t) (kids_in t) number y
+pub feature_here : (t : KeptTables) (number : ℕ) (x : ListedFeature) (y : EnabledFeature) → slice_get (listed_features (document_in t)) number ≡ Some (listed_view x) → (k : IsKeptNode t x.place.index)
+    → IsNumberAt t x.place.index y.krate → text_view y.name ≡ x.name.now → IsFeatureOf (document_in t) (kids_in t) number y
 feature_here t number x y there k n name =
     let r = document_in t in
     let kids = kids_in t in
-    let node = subst (λ (i : Id). NodeAt r i x.place) (sym (n.is k.krate k.node)) k.node in
-    let at : FeatureAt r (id_at kids y.krate) x.name.now number = record { place = x.place; at = there; node = node } in
+    let node = subst (λ (i : Id). NodeAt r i x.place.index) (sym (n.is k.krate k.node)) k.node in
+    let at : FeatureAt r (id_at kids y.krate) x.name.now number = record { place = x.place.index; at = there; node = node } in
     record { at = subst (λ (f : Text). FeatureAt r (id_at kids y.krate) f number) (sym name) at; home = n.below }

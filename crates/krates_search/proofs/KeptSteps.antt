@@ -26,7 +26,7 @@ pub entry_edge : (r : Resolved) (x : NodeEntry) (k : DepKindInfoModel) (kind : �
     → Names r (numbered.Kept x.place x.index kind) (Kept (edge_for x k))
 entry_edge r x k kind none is first =
     let at = is.at in
-    let node : HasNode r (parent_of x) at.node.node = record { among = contains_at r.graph.nodes x.place at.node.node at.node.at; id = at.node.id } in
+    let node : HasNode r (parent_of x) at.node.node = record { among = contains_at r.graph.nodes x.place.index at.node.node at.node.at; id = at.node.id } in
     let dep : HasDep at.node.node (child_of x) at.dep = record { among = contains_at at.node.node.deps x.index at.dep at.at; id = at.id } in
     let same = one_dep r (parent_of x) (child_of x) at.node.node is.node at.dep (node_dep_view x.dep.now) none node is.has_node dep is.has_dep in
     record { edge = edge_for x k; at = record { dep = at; here = ap (λ (d : NodeDepModel). slice_get d.dep_kinds kind) same ∙ first.here }; is = refl }

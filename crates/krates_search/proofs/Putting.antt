@@ -5,6 +5,7 @@ use Rattle.std.specs.Global.{Vec}
 use Rattle.krates_cm.specs.Document.{Text}
 use Rattle.krates_graph.specs.Agenda.{PutNumbers}
 use Rattle.krates_questions.specs.Numbering.{FeatureAt, IsOwn}
+use Rattle.krates_questions.specs.declared.node_place.NodePlace.{NodePlace}
 use Rattle.krates_search.proofs.Growing.{advances_refl, advances_trans}
 use Rattle.krates_search.proofs.Growth.{crate_advances, feature_advances, put_step_has, step_advances}
 use Rattle.krates_search.specs.SearchState.{Advances, HasFound, IsSound}
@@ -36,8 +37,8 @@ feature_stays r s x a sound e = subst (λ (b : PutNumbers). Advances r s x (reco
 
 -- ---- what is new
 
-pub krate_put : ReadsOnce → (r : Resolved) (s : SettingModel) (x : SearchState) (a : PutNumbers) (v : Vec ℕ) (t : Vec NumberedStep) (place n : ℕ) (i : Id) (reason : Reason) → IsSound r s x → a ≡ record x.krates { put = x.krates.put ++ place ∷ [] }
-    → v.items ≡ x.krate_steps.items ++ n ∷ [] → n ≡ length x.trace.items → t.items ≡ x.trace.items ++ (record { fact = numbered.Crate place; reason = reason }) ∷ [] → NodeAt r i place → MayFind r s x.trace.items reason (Crate i)
+pub krate_put : ReadsOnce → (r : Resolved) (s : SettingModel) (x : SearchState) (a : PutNumbers) (v : Vec ℕ) (t : Vec NumberedStep) (place : NodePlace) (n : ℕ) (i : Id) (reason : Reason) → IsSound r s x → a ≡ record x.krates { put = x.krates.put ++ place.index ∷ [] }
+    → v.items ≡ x.krate_steps.items ++ n ∷ [] → n ≡ length x.trace.items → t.items ≡ x.trace.items ++ (record { fact = numbered.Crate place; reason = reason }) ∷ [] → NodeAt r i place.index → MayFind r s x.trace.items reason (Crate i)
     → Advances r s x (record x { krates = a; krate_steps = v; trace = t })
 krate_put once r s x a v t place n i reason sound is pushed at more node finds =
     let step : NumberedStep = record { fact = numbered.Crate place; reason = reason } in
@@ -45,7 +46,7 @@ krate_put once r s x a v t place n i reason sound is pushed at more node finds =
     let y : SearchState = record x { trace = t } in
     let first : Advances r s x y = step_advances once r s x t step (Crate i) sound more names finds in
     let has : HasStep r t.items n (Crate i) = subst (λ (m : ℕ). HasStep r t.items m (Crate i)) (sym at) (put_step_has r x.trace.items t step (Crate i) more names) in
-    advances_trans r s x y (record y { krates = a; krate_steps = v }) first (crate_advances once r s y a v place n i first.sound is pushed node has)
+    advances_trans r s x y (record y { krates = a; krate_steps = v }) first (crate_advances once r s y a v place.index n i first.sound is pushed node has)
 
 pub feature_put : ReadsOnce → (r : Resolved) (s : SettingModel) (x : SearchState) (a : PutNumbers) (v : Vec ℕ) (t : Vec NumberedStep) (number n : ℕ) (i : Id) (f : Text) (reason : Reason) → IsSound r s x
     → a ≡ record x.features { put = x.features.put ++ number ∷ [] } → v.items ≡ x.feature_steps.items ++ n ∷ [] → n ≡ length x.trace.items → t.items ≡ x.trace.items ++ (record { fact = numbered.Feature number; reason = reason }) ∷ []

@@ -14,5 +14,5 @@ found_view e = edge_between (id_of e.parent.now) (id_of e.child.now) (dep_kind_i
 -- the edge names its declared dependency, the first place of its kind and target, and the nodes of its crates
 pub record IsFoundEdge (r : Resolved) (s : SettingModel) (e : FoundEdge) : Type 0 where
   pub placed : IsPlacedAs r s (found_view e) e.declared e.place
-  pub parent : NodeAt r (id_of e.parent.now) e.parent_node
-  pub child : NodeAt r (id_of e.child.now) e.child_node
+  pub parent : NodeAt r (id_of e.parent.now) e.parent_node.index
+  pub child : NodeAt r (id_of e.child.now) e.child_node.index

@@ -9,5 +9,5 @@ found_toggled t = Toggled (id_of t.by.now) (id_of t.krate.now) t.name.now
 
 -- the nodes of its crates stand where it says
 pub record IsFoundToggle (r : Resolved) (t : FoundToggle) : Type 0 where
-  pub by : NodeAt r (id_of t.by.now) t.by_node
-  pub krate : NodeAt r (id_of t.krate.now) t.krate_node
+  pub by : NodeAt r (id_of t.by.now) t.by_node.index
+  pub krate : NodeAt r (id_of t.krate.now) t.krate_node.index

@@ -15,8 +15,8 @@ use Rattle.krates_selection.specs.declared.selection.KeptEdge.{KeptEdge}
 
 -- the nodes of its crates, which are kept, stand where the edge says
 pub record HasKeptNodes (r : Resolved) (kids : List Identity) (e : FoundEdge) : Type 0 where
-  pub parent : NodeAt r (id_of e.parent.now) e.parent_node
-  pub child : NodeAt r (id_of e.child.now) e.child_node
+  pub parent : NodeAt r (id_of e.parent.now) e.parent_node.index
+  pub child : NodeAt r (id_of e.child.now) e.child_node.index
   pub parent_kept : IsKeptIn kids (id_of e.parent.now)
   pub child_kept : IsKeptIn kids (id_of e.child.now)
 

@@ -14,8 +14,8 @@ use Rattle.krates_selection.specs.declared.selection.ToggledFeature.{ToggledFeat
 
 -- the nodes of its crates, which are kept, stand where it says
 pub record HasKeptCrates (r : Resolved) (kids : List Identity) (t : FoundToggle) : Type 0 where
-  pub by : NodeAt r (id_of t.by.now) t.by_node
-  pub krate : NodeAt r (id_of t.krate.now) t.krate_node
+  pub by : NodeAt r (id_of t.by.now) t.by_node.index
+  pub krate : NodeAt r (id_of t.krate.now) t.krate_node.index
   pub by_kept : IsKeptIn kids (id_of t.by.now)
   pub krate_kept : IsKeptIn kids (id_of t.krate.now)
 

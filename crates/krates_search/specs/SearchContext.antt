@@ -103,7 +103,7 @@ IsRead b = IsReadOf (document_of b)
 
 -- the node of a kept crate stands at its place, and its id is read of the document
 pub record IsNodeOf (b : Context) (node : KeptNode) : Type 0 where
-  pub at : IsNodeAt b (crate_of node) node.place
+  pub at : IsNodeAt b (crate_of node) node.place.index
   pub read : IsRead b node.id.now
 
 -- the feature of the node's crate is toggled by that one

@@ -17,6 +17,7 @@ use crate::search_state::SearchState;
 use crate::tracing::{put_feature, put_krate, put_step};
 use krates_cm::Dependency;
 use krates_ids::{Error, Kid, Lost, laws};
+use krates_questions::NodePlace;
 use krates_questions::context::Context;
 use krates_questions::node_entry::{EntryEdge, NodeEntry};
 use krates_selection::trace::{NumberedFact, NumberedStep, Reason};
@@ -27,7 +28,7 @@ pub struct KeptNode<'a> {
     /// The crate.
     pub id: &'a Kid,
     /// The place of its node.
-    pub place: usize,
+    pub place: NodePlace,
 }
 
 /// A feature that is named, and why it is found.
@@ -47,7 +48,7 @@ pub(crate) struct Keeping {
     /// The place of its declared dependency.
     pub declared: usize,
     /// The place of the node of the crate that it leads to.
-    pub node: usize,
+    pub node: NodePlace,
     /// Why it is found.
     pub reason: Reason,
 }
@@ -212,7 +213,7 @@ fn wake<'a>(
     requires may { (k : DepKindInfoModel) × Derives context.now (Kept (edge_for entry.now k)) }
     requires step { HasKeptStep context.now found.old step entry.now }
     ensures advanced { OnOk result (Moves context.now found.old found.new) }
-    ensures marked { OnOk result (IsMarked found.new.links entry.now.place entry.now.index) }
+    ensures marked { OnOk result (IsMarked found.new.links entry.now.place.index entry.now.index) }
     ensures refused { IfErr result (Refuses context.now) }
 {
     laws::one_reading();
@@ -247,7 +248,7 @@ pub(crate) fn keep<'a>(
 ) -> Result<(), Error>
     requires entry { HasEntry context.now edge.now.entry.now }
     requires first { IsFirstOf edge.now keeping.kind }
-    requires node { IsNodeAt context.now (child_of edge.now.entry.now) keeping.node }
+    requires node { IsNodeAt context.now (child_of edge.now.entry.now) keeping.node.index }
     requires sound { IsRight context.now found.old }
     requires wanted { IsWantedAt context.now edge.now keeping.declared }
     requires may { Derives context.now (Kept (edge_of edge.now)) }

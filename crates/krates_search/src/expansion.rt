@@ -13,9 +13,9 @@ use crate::kinds::{first_kinds, info_at};
 use crate::search_state::SearchState;
 use krates_graph::agenda::Taken;
 use krates_ids::{Error, Lost, laws};
-use krates_questions::Availability;
 use krates_questions::context::Context;
 use krates_questions::node_entry::{EntryEdge, NodeEntry};
+use krates_questions::{Availability, NodePlace};
 use krates_selection::trace::Reason;
 
 /// Keeps what a kept crate needs: tries each edge of its node.
@@ -37,7 +37,10 @@ pub fn expand<'a>(
 {
     context.document.agrees();
     laws::one_reading();
-    let parts = context.document.parts_of(taken.number());
+    let place = NodePlace {
+        index: taken.number(),
+    };
+    let parts = context.document.parts_of(place);
     for index in 0..parts.children.len() {
         let entry = parts.entry_at(index);
         expand_entry(context, &entry, false, Reason::by_one(5, step), found)?;

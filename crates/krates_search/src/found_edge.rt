@@ -8,6 +8,7 @@ ghost use Rattle.krates_search.specs.Kinds.{IsFirstOf};
 use crate::kinds::info_at;
 use krates_cm::DepKindInfo;
 use krates_ids::Kid;
+use krates_questions::NodePlace;
 use krates_questions::node_entry::EntryEdge;
 
 /// A kept edge, by references into the document.
@@ -20,9 +21,9 @@ pub struct FoundEdge<'a> {
     /// Its kind and target.
     pub info: &'a DepKindInfo,
     /// The place of the node of the crate that has the dependency.
-    pub parent_node: usize,
+    pub parent_node: NodePlace,
     /// The place of the node of the crate that it depends on.
-    pub child_node: usize,
+    pub child_node: NodePlace,
     /// The first place of this kind and target in the `dep_kinds` of the dependency.
     pub place: usize,
     /// The place of the declared dependency.
@@ -35,7 +36,7 @@ pub(crate) fn found_edge<'a>(
     edge: &EntryEdge<'a, '_>,
     place: usize,
     declared: usize,
-    node: usize,
+    node: NodePlace,
 ) -> FoundEdge<'a>
     requires { IsFirstOf edge.now place }
     ensures edge { found_view result ≡ edge_of edge.now }

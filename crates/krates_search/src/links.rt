@@ -6,7 +6,7 @@ ghost use Rattle.krates_search.specs.Links.{AreNew, AreNewLinks, HasLink, HasLin
 ghost use Rattle.krates_questions.specs.Lookup.{resolved_view};
 
 use krates_cm::Node;
-use krates_questions::Document;
+use krates_questions::{Document, NodePlace};
 use std::alloc::{AllocError, Global};
 use std::mem;
 
@@ -63,49 +63,49 @@ fn links_of_node<'a>(alloc: Global, node: &Node) -> Result<Vec<Link<'a>>, AllocE
 
 impl<'a> Links<'a> {
     /// Whether an edge by this dependency is kept.
-    pub(crate) fn is_kept(&self, place: usize, index: usize) -> bool
-        requires { HasLink self.now place index }
-        ensures { IsTrue result ↔ IsMarked self.now place index }
+    pub(crate) fn is_kept(&self, place: NodePlace, index: usize) -> bool
+        requires { HasLink self.now place.index index }
+        ensures { IsTrue result ↔ IsMarked self.now place.index index }
     {
         self.kept(place, index).is_some()
     }
 
     /// The step by which the first edge by this dependency is kept; none where none is.
-    pub fn kept(&self, place: usize, index: usize) -> Option<usize>
-        requires { HasLink self.now place index }
-        ensures { TellsMark self.now place index result }
+    pub fn kept(&self, place: NodePlace, index: usize) -> Option<usize>
+        requires { HasLink self.now place.index index }
+        ensures { TellsMark self.now place.index index result }
     {
-        self.of_nodes[place][index].kept
+        self.of_nodes[place.index][index].kept
     }
 
     /// Whether all edges by this dependency have been asked for.
-    pub fn is_asked(&self, place: usize, index: usize) -> bool
-        requires { HasLink self.now place index }
-        ensures { IsTrue result ↔ WasAsked self.now place index }
+    pub fn is_asked(&self, place: NodePlace, index: usize) -> bool
+        requires { HasLink self.now place.index index }
+        ensures { IsTrue result ↔ WasAsked self.now place.index index }
     {
-        self.of_nodes[place][index].is_asked
+        self.of_nodes[place.index][index].is_asked
     }
 
     /// Notes that all edges by this dependency have been asked for.
-    pub(crate) fn note_asked(&mut self, place: usize, index: usize)
-        requires { HasLink self.old place index }
-        ensures { NotesAsked self.old self.new place index }
+    pub(crate) fn note_asked(&mut self, place: NodePlace, index: usize)
+        requires { HasLink self.old place.index index }
+        ensures { NotesAsked self.old self.new place.index index }
     {
-        self.of_nodes[place][index].is_asked = true;
+        self.of_nodes[place.index][index].is_asked = true;
     }
 
     /// Notes the step by which an edge by this dependency is kept, and takes the features that waited for one.
     pub(crate) fn mark(
         &mut self,
         alloc: Global,
-        place: usize,
+        place: NodePlace,
         index: usize,
         step: usize,
     ) -> Vec<Waiting<'a>>
-        requires { HasLink self.old place index }
-        ensures { HasMarked self.old self.new place index step result.items }
+        requires { HasLink self.old place.index index }
+        ensures { HasMarked self.old self.new place.index index step result.items }
     {
-        let link = &mut self.of_nodes[place][index];
+        let link = &mut self.of_nodes[place.index][index];
         link.kept = Some(step);
         mem::replace(&mut link.waiting, Vec::new(alloc))
     }
@@ -113,14 +113,14 @@ impl<'a> Links<'a> {
     /// Lets a feature of this dependency wait for a kept edge.
     pub fn let_wait(
         &mut self,
-        place: usize,
+        place: NodePlace,
         index: usize,
         feature: Waiting<'a>,
     ) -> Result<(), AllocError>
-        requires { HasLink self.old place index }
-        ensures { OnOk result (HasWaiter self.old self.new place index feature.entry) }
+        requires { HasLink self.old place.index index }
+        ensures { OnOk result (HasWaiter self.old self.new place.index index feature.entry) }
     {
-        self.of_nodes[place][index].waiting.push(feature)?;
+        self.of_nodes[place.index][index].waiting.push(feature)?;
         Ok(())
     }
 }

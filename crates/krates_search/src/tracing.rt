@@ -5,6 +5,7 @@ ghost use Rattle.std.specs.Prelude.{◌≡◌, Contains, IfOk, OnOk};
 
 use crate::search_state::SearchState;
 use krates_ids::laws;
+use krates_questions::NodePlace;
 use krates_questions::context::Context;
 use krates_selection::trace::{NumberedFact, NumberedStep, Reason};
 use std::alloc::AllocError;
@@ -30,18 +31,18 @@ pub(crate) fn put_step<'a>(
 /// Puts the crate of the node at a place, and its step, unless it was put before.
 pub fn put_krate<'a>(
     context: &Context<'a, '_>,
-    place: usize,
+    place: NodePlace,
     reason: Reason,
     found: &mut SearchState<'a>,
 ) -> Result<(), AllocError>
     requires sound { IsRight context.now found.old }
-    requires may { MayPutKrate context.now found.old place reason }
+    requires may { MayPutKrate context.now found.old place.index reason }
     ensures advanced { OnOk result (Moves context.now found.old found.new) }
-    ensures put { OnOk result (Contains found.new.krates.put place) }
+    ensures put { OnOk result (Contains found.new.krates.put place.index) }
     ensures same_links { OnOk result (found.new.links ≡ found.old.links) }
 {
     laws::one_reading();
-    if !found.krates.put(place) {
+    if !found.krates.put(place.index) {
         return Ok(());
     }
     found.krate_steps.push(found.trace.len())?;

@@ -14,6 +14,7 @@ use Rattle.krates_selection.specs.declared.kept_tables.KeptTables.{KeptTables}
 use Rattle.krates_ids.specs.Identity.{Identity}
 use Rattle.krates_questions.specs.ListedFeatures.{listed_features}
 use Rattle.krates_questions.specs.Numbering.{FeatureAt}
+use Rattle.krates_questions.specs.declared.node_place.NodePlace.{NodePlace}
 use Rattle.krates_selection.specs.declared.trace.NumberedFact.TheVariants as numbered
 use Rattle.krates_rules.specs.Facts.{Id, Edge, Crate, Feature, Kept, Toggled}
 use Rattle.krates_rules.specs.Resolved.{NodeAt}
@@ -30,7 +31,7 @@ feature_is t number place n name i f at here is =
 pub edge_same : (kids : List Identity) (p c : ℕ) (k : DependencyKind) (t : Option Text) (e : Edge) → id_at kids p ≡ e.parent → id_at kids c ≡ e.child → k ≡ e.kind → t ≡ e.cfg → Kept (edge_in kids p c k t) ≡ Kept e
 edge_same kids p c k t e a b x y = rw (a, b, x, y) refl
 
-pub key_crate : (t : KeptTables) (place n : ℕ) → IsNumberAt t place n → IsKeyOf t (numbered.Crate place) (keys.Crate n)
+pub key_crate : (t : KeptTables) (place : NodePlace) (n : ℕ) → IsNumberAt t place.index n → IsKeyOf t (numbered.Crate place) (keys.Crate n)
 key_crate t place n h = record { is = λ f names. ap (λ (i : Id). Crate i) (h.is names.krate names.node) ∙ sym names.is; below = h.below }
 
 pub key_feature : (t : KeptTables) (number : ℕ) (k : FeatureKey) → IsFeatureIn t number k → IsKeyOf t (numbered.Feature number) (keys.Feature k)
@@ -41,10 +42,10 @@ key_feature t number k h = record {
   below = h.below;
 }
 
-pub key_kept : (t : KeptTables) (place index kind : ℕ) (k : KeptEdgeKey) → IsEdgeIn t place index kind k → IsKeyOf t (numbered.Kept place index kind) (keys.Kept k)
+pub key_kept : (t : KeptTables) (place : NodePlace) (index kind : ℕ) (k : KeptEdgeKey) → IsEdgeIn t place.index index kind k → IsKeyOf t (numbered.Kept place index kind) (keys.Kept k)
 key_kept t place index kind k h = record { is = λ f names. h.is names.edge names.at ∙ sym names.is; below = h.below }
 
-pub key_toggled : (t : KeptTables) (place number n : ℕ) (k : FeatureKey) → IsNumberAt t place n → IsFeatureIn t number k → IsKeyOf t (numbered.Toggled place number) (keys.Toggled (record { by = n; feature = k }))
+pub key_toggled : (t : KeptTables) (place : NodePlace) (number n : ℕ) (k : FeatureKey) → IsNumberAt t place.index n → IsFeatureIn t number k → IsKeyOf t (numbered.Toggled place number) (keys.Toggled (record { by = n; feature = k }))
 key_toggled t place number n k h g = record {
   is = λ f names. (
       let w = g.is names.krate names.name names.at in

@@ -72,13 +72,13 @@ one_edge once r e g place index kind a b =
     ap (λ (i : Id). edge_between i e.child (kind_info_of e)) way.0 ∙ ap (λ (i : Id). edge_between g.parent i (kind_info_of e)) way.1 ∙ ap (λ (k : DepKindInfoModel). edge_between g.parent g.child k) kind_of
 
 pub names_once : ReadsOnce → (r : Resolved) (n : NumberedFact) (f g : Fact) → Names r n f → Names r n g → f ≡ g
-names_once once r (numbered.Crate place) f g a b = a.is ∙ ap (λ (i : Id). Crate i) (one_id once r a.krate b.krate place a.node b.node) ∙ sym b.is
+names_once once r (numbered.Crate place) f g a b = a.is ∙ ap (λ (i : Id). Crate i) (one_id once r a.krate b.krate place.index a.node b.node) ∙ sym b.is
 names_once once r (numbered.Feature number) f g a b =
     let same = one_feature once r a.krate b.krate a.name b.name number a.at b.at in
     a.is ∙ ap (λ (i : Id). Feature i a.name) same.0 ∙ ap (λ (t : Text). Feature b.krate t) same.1 ∙ sym b.is
-names_once once r (numbered.Kept place index kind) f g a b = a.is ∙ ap (λ (e : Edge). Kept e) (one_edge once r a.edge b.edge place index kind a.at b.at) ∙ sym b.is
+names_once once r (numbered.Kept place index kind) f g a b = a.is ∙ ap (λ (e : Edge). Kept e) (one_edge once r a.edge b.edge place.index index kind a.at b.at) ∙ sym b.is
 names_once once r (numbered.Toggled place number) f g a b =
-    let by = one_id once r a.by b.by place a.node b.node in
+    let by = one_id once r a.by b.by place.index a.node b.node in
     let same = one_feature once r a.krate b.krate a.name b.name number a.at b.at in
     a.is ∙ ap (λ (i : Id). Toggled i a.krate a.name) by ∙ ap (λ (i : Id). Toggled b.by i a.name) same.0 ∙ ap (λ (t : Text). Toggled b.by b.krate t) same.1 ∙ sym b.is
 

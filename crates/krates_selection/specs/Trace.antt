@@ -64,10 +64,10 @@ pub record NamesToggled (r : Resolved) (place number : ℕ) (f : Fact) : Type 0 
 
 -- the fact has these numbers in the document
 abbrev pub Names : Resolved → NumberedFact → Fact → Type 0
-Names r (numbered.Crate place) f = NamesCrate r place f
+Names r (numbered.Crate place) f = NamesCrate r place.index f
 Names r (numbered.Feature number) f = NamesFeature r number f
-Names r (numbered.Kept place index kind) f = NamesKept r place index kind f
-Names r (numbered.Toggled place number) f = NamesToggled r place number f
+Names r (numbered.Kept place index kind) f = NamesKept r place.index index kind f
+Names r (numbered.Toggled place number) f = NamesToggled r place.index number f
 
 -- ---- steps
 

@@ -12,6 +12,7 @@ use crate::key::{FeatureKey, KeptEdgeKey, KeptFactKey, ToggleKey};
 use crate::trace::{NumberedFact, NumberedStep};
 use krates_cm::DepKindInfo;
 use krates_ids::{Kid, laws};
+use krates_questions::NodePlace;
 use krates_questions::context::Context;
 use krates_questions::lookup::at_number;
 use krates_rules::DepKind;
@@ -93,9 +94,9 @@ impl<'a, 's> KeptTables<'a, 's> {
     }
 
     /// The number of the kept crate whose node stands at a place. Time O(1).
-    pub fn crate_at(&self, place: usize) -> usize
-        requires kept { IsKeptNode self.now place }
-        ensures { IsNumberAt self.now place result }
+    pub fn crate_at(&self, place: NodePlace) -> usize
+        requires kept { IsKeptNode self.now place.index }
+        ensures { IsNumberAt self.now place.index result }
     {
         laws::one_reading();
         let number = self.context.document.node_number(place);
@@ -106,9 +107,9 @@ impl<'a, 's> KeptTables<'a, 's> {
     }
 
     /// The number of the crate that a dependency leads to.
-    fn child_at(&self, place: usize, index: usize) -> usize
-        requires kept { IsKeptChild self.now place index }
-        ensures { IsChildAt self.now place index result }
+    fn child_at(&self, place: NodePlace, index: usize) -> usize
+        requires kept { IsKeptChild self.now place.index index }
+        ensures { IsChildAt self.now place.index index result }
     {
         laws::one_reading();
         let number = self.context.document.child_number_at(place, index);
@@ -131,9 +132,9 @@ impl<'a, 's> KeptTables<'a, 's> {
     }
 
     /// The key of the edge at these places.
-    fn kept_edge_key(&self, place: usize, index: usize, kind: usize) -> KeptEdgeKey<'a>
-        requires kept { IsKeptEdge self.now place index kind }
-        ensures { IsEdgeIn self.now place index kind result }
+    fn kept_edge_key(&self, place: NodePlace, index: usize, kind: usize) -> KeptEdgeKey<'a>
+        requires kept { IsKeptEdge self.now place.index index kind }
+        ensures { IsEdgeIn self.now place.index index kind result }
     {
         let info = self.edge_info(place, index, kind);
         KeptEdgeKey {
@@ -145,11 +146,11 @@ impl<'a, 's> KeptTables<'a, 's> {
     }
 
     /// The kind and target at these places.
-    fn edge_info(&self, place: usize, index: usize, kind: usize) -> &'a DepKindInfo
-        requires there { (e : Edge) × EdgeAt (document_in self.now) e place index kind }
-        ensures { (e : Edge) → EdgeAt (document_in self.now) e place index kind
+    fn edge_info(&self, place: NodePlace, index: usize, kind: usize) -> &'a DepKindInfo
+        requires there { (e : Edge) × EdgeAt (document_in self.now) e place.index index kind }
+        ensures { (e : Edge) → EdgeAt (document_in self.now) e place.index index kind
             → dep_kind_info_view result.now ≡ kind_info_of e }
     {
-        &self.context.document.nodes()[place].deps[index].dep_kinds[kind]
+        &self.context.document.nodes()[place.index].deps[index].dep_kinds[kind]
     }
 }

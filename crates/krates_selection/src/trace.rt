@@ -3,6 +3,7 @@
 ghost use Rattle.std.specs.Prelude.{◌≡◌};
 ghost use Rattle.krates_selection.specs.Trace.{by_nothing, by_one, by_two};
 
+use krates_questions::NodePlace;
 use krates_rules::Uses;
 
 /// A fact, by numbers of the document.
@@ -11,7 +12,7 @@ pub enum NumberedFact {
     /// The crate is kept.
     Crate {
         /// The place of its node.
-        place: usize,
+        place: NodePlace,
     },
     /// The feature is enabled.
     Feature {
@@ -21,7 +22,7 @@ pub enum NumberedFact {
     /// The edge is kept.
     Kept {
         /// The place of the node that has the dependency.
-        place: usize,
+        place: NodePlace,
         /// The place of the dependency among those of the node.
         index: usize,
         /// The place of the kind and target in the `dep_kinds` of the dependency.
@@ -30,7 +31,7 @@ pub enum NumberedFact {
     /// The feature is enabled by a feature of another crate.
     Toggled {
         /// The place of the node of the crate whose feature enables it.
-        place: usize,
+        place: NodePlace,
         /// The place of the feature among those that all nodes list.
         number: usize,
     },

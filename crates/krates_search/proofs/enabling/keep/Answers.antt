@@ -7,6 +7,7 @@ use Rattle.krates_search.specs.SearchState.{HasFound, HasUsed, MayUse}
 use Rattle.krates_search.specs.Kinds.{IsFirstOf}
 use Rattle.krates_selection.specs.Trace.{HasSomeStep}
 use Rattle.krates_questions.specs.Lookup.{resolved_view}
+use Rattle.krates_questions.specs.declared.node_place.NodePlace.{NodePlace}
 use Rattle.krates_questions.specs.NodeEntry.{parent_of, child_of, declared_in, entry_of, edge_for}
 use Rattle.krates_document.proofs.DeclaredOnce.{declared_stands}
 use Rattle.krates_search.proofs.EdgeGrowth.{edge_advances, edge_kept, placed_here, declared_seen, declared_within, used_once, marked_once}
@@ -53,7 +54,7 @@ pub enable_declared-requires-clause-sound : goal.enable_declared-requires-clause
 enable_declared-requires-clause-sound c = c.in_ok-put_krate.ensures.advanced.sound
 
 pub enable_declared-requires-clause-kept : goal.enable_declared-requires-clause-kept
-enable_declared-requires-clause-kept c = record { place = c.args.keeping.node; among = c.in_ok-put_krate.ensures.put; node = c.requires.node }
+enable_declared-requires-clause-kept c = record { place = c.args.keeping.node.index; among = c.in_ok-put_krate.ensures.put; node = c.requires.node }
 
 pub enable_declared-requires-clause-may : goal.enable_declared-requires-clause-may
 enable_declared-requires-clause-may c =
@@ -83,7 +84,7 @@ pub wake-requires-clause-node : goal.wake-requires-clause-node
 wake-requires-clause-node c = record { at = c.requires.node; read = c.requires.entry.child_read }
 
 pub wake-requires-clause-kept : goal.wake-requires-clause-kept
-wake-requires-clause-kept c = c.in_ok-enable_declared.ensures.advanced.grows.found (Crate (child_of c.args.edge.now.entry.now)) (record { place = c.args.keeping.node; among = c.in_ok-put_krate.ensures.put; node = c.requires.node })
+wake-requires-clause-kept c = c.in_ok-enable_declared.ensures.advanced.grows.found (Crate (child_of c.args.edge.now.entry.now)) (record { place = c.args.keeping.node.index; among = c.in_ok-put_krate.ensures.put; node = c.requires.node })
 
 pub wake-requires-clause-step : goal.wake-requires-clause-step
 wake-requires-clause-step c =
@@ -116,14 +117,14 @@ returns-clause-advanced c =
     let w = c.put_krate.new.found in
     let y = c.enable_declared.new.found in
     let z = c.wake.new.found in
-    let crate_there : HasFound r w (Crate e.child) = record { place = c.args.keeping.node; among = put.put; node = c.requires.node } in
+    let crate_there : HasFound r w (Crate e.child) = record { place = c.args.keeping.node.index; among = put.put; node = c.requires.node } in
     let has = noted.put (Kept e) (entry_edge r x k c.args.keeping.kind c.agrees.ensures.distinct c.requires.entry c.requires.first) in
     let some : HasSomeStep r z.trace.items (Kept e) = (n, woken.advanced.grows.steps n (Kept e) (enabled.advanced.grows.steps n (Kept e) (put.advanced.grows.steps n (Kept e) has))) in
     let used = used_grows r y z d.0 e.child woken.advanced.grows (subst (λ (m : DependencyModel). HasUsed r y m e.child) is enabled.used) in
     let reached = woken.advanced.grows.found (Crate e.child) (enabled.advanced.grows.found (Crate e.child) crate_there) in
     let last = edge_advances r s z c.push.new.self c.found_edge-kept.result e woken.advanced.sound c.in_ok-push.ensures.items kept.edge
-    (placed_here r s x k c.found_edge-kept.result c.args.keeping.declared d.0 none c.requires.entry d.1 d.2 kept.edge kept.declared (subst (IsFirstOf c.args.edge.now) (sym kept.place) c.requires.first) kept.parent_node (subst (NodeAt r (child_of x)) (sym kept.child_node) c.requires.node)) reached (used_once r s z e d.0 none d.2 used)
-    (marked_once r (parent_of x) (child_of x) x.place x.index z.links none c.requires.entry.at woken.marked) c.requires.may some in
+    (placed_here r s x k c.found_edge-kept.result c.args.keeping.declared d.0 none c.requires.entry d.1 d.2 kept.edge kept.declared (subst (IsFirstOf c.args.edge.now) (sym kept.place) c.requires.first) kept.parent_node (subst (λ (p : NodePlace). NodeAt r (child_of x) p.index) (sym kept.child_node) c.requires.node)) reached (used_once r s z e d.0 none d.2 used)
+    (marked_once r (parent_of x) (child_of x) x.place.index x.index z.links none c.requires.entry.at woken.marked) c.requires.may some in
     advances_trans r s old z _ (advances_trans r s old y z (advances_trans r s old w y (advances_trans r s old v w noted.advanced put.advanced) enabled.advanced) woken.advanced) last.0
 
 pub returns-clause-kept : goal.returns-clause-kept

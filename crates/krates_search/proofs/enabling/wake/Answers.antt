@@ -24,10 +24,10 @@ use Rattle.krates_selection.proofs.Steps.{one_way}
 use Rattle.krates_search.proofs.enabling.wake.Goals as goal
 
 pub is_kept-requires : goal.is_kept-requires
-is_kept-requires c = c.requires.sound.has_links (parent_of c.args.entry.now) (child_of c.args.entry.now) c.args.entry.now.place c.args.entry.now.index c.requires.entry.at
+is_kept-requires c = c.requires.sound.has_links (parent_of c.args.entry.now) (child_of c.args.entry.now) c.args.entry.now.place.index c.args.entry.now.index c.requires.entry.at
 
 pub mark-waiters-requires : goal.mark-waiters-requires
-mark-waiters-requires c = c.requires.sound.has_links (parent_of c.args.entry.now) (child_of c.args.entry.now) c.args.entry.now.place c.args.entry.now.index c.requires.entry.at
+mark-waiters-requires c = c.requires.sound.has_links (parent_of c.args.entry.now) (child_of c.args.entry.now) c.args.entry.now.place.index c.args.entry.now.index c.requires.entry.at
 
 pub loop-waiter-init : goal.loop-waiter-init
 loop-waiter-init c =
@@ -37,10 +37,10 @@ loop-waiter-init c =
     let x = c.args.found.now in
     let n = c.args.step in
     let links = c.mark-waiters.new.self in
-    let way : (p i : Id) → DepAt r p i e.place e.index → (parent_of e ≡ p) × (child_of e ≡ i) = λ p i at. one_way c.one_reading.ensures.once r (parent_of e) (child_of e) p i e.place e.index c.requires.entry.at at in
+    let way : (p i : Id) → DepAt r p i e.place.index e.index → (parent_of e ≡ p) × (child_of e ≡ i) = λ p i at. one_way c.one_reading.ensures.once r (parent_of e) (child_of e) p i e.place.index e.index c.requires.entry.at at in
     let items = c.as_slice-waiter-items.result.now in
-    let marked : HasMarked x.links links e.place e.index n items = subst (λ (ws : List Waiting). HasMarked x.links links e.place e.index n ws) (sym c.as_slice-waiter-items.ensures.value) c.mark-waiters.ensures in
-    let sound = mark_sound r s x links e.place e.index n items c.requires.sound marked
+    let marked : HasMarked x.links links e.place.index e.index n items = subst (λ (ws : List Waiting). HasMarked x.links links e.place.index e.index n ws) (sym c.as_slice-waiter-items.ensures.value) c.mark-waiters.ensures in
+    let sound = mark_sound r s x links e.place.index e.index n items c.requires.sound marked
     (λ p i at. subst (λ (j : Id). HasFound r x (Crate j)) (way p i at).1 c.requires.kept)
     (λ p i at. subst (λ (j : Id). (k : DepKindInfoModel) × Derivable (questions r s) (Kept (edge_between p j k))) (way p i at).1 (subst (λ (q : Id). (k : DepKindInfoModel) × Derivable (questions r s) (Kept (edge_between q (child_of e) k))) (way p i at).0 c.requires.may))
     (λ p i at. subst (λ (j : Id). IsEdgeStep r x.trace.items p j n) (way p i at).1 (subst (λ (q : Id). IsEdgeStep r x.trace.items q (child_of e) n) (way p i at).0 c.requires.step)) in
@@ -66,7 +66,7 @@ toggle-requires-clause-may c =
     let none : Waiting = record { name = record { ref_ptr = (0, 0); now = [] }; step = 0 } in
     let w : Waiting = get_or items c.loop-waiter.waiter-index none in
     let waits = c.loop-waiter.invariant.1.took w (contains_or items c.loop-waiter.waiter-index none c.loop-waiter-test.true) in
-    let asked = c.requires.sound.asked (parent_of x) (child_of x) x.place x.index w.name.now c.requires.entry.at (record { waiter = w; waits = waits; named = refl }) in
+    let asked = c.requires.sound.asked (parent_of x) (child_of x) x.place.index x.index w.name.now c.requires.entry.at (record { waiter = w; waits = waits; named = refl }) in
     subst (λ (i : Id). MayToggle r s (parent_of x) i w.name.now) (sym c.requires.of_child) (may_wake r s (parent_of x) (child_of x) w.name.now c.requires.may.0 asked c.requires.may.1)
 
 pub toggle-requires-clause-step : goal.toggle-requires-clause-step
@@ -82,7 +82,7 @@ toggle-requires-clause-step c =
     let w : Waiting = get_or items c.loop-waiter.waiter-index none in
     let g = w.name.now in
     let waits = c.loop-waiter.invariant.1.took w (contains_or items c.loop-waiter.waiter-index none c.loop-waiter-test.true) in
-    let asking = c.requires.sound.numbered.waiting p i x.place x.index w c.requires.entry.at waits in
+    let asking = c.requires.sound.numbered.waiting p i x.place.index x.index w c.requires.entry.at waits in
     let old = c.args.found.now.trace.items in
     let now = c.loop-waiter.found.trace.items in
     let here : FindsToggled c.args.context.now c.loop-waiter.found c.by_two.result p i g = λ lists.
@@ -123,12 +123,12 @@ returns-clause-advanced c =
     λ w (k, lt, is). subst (λ (v : Waiting). IsToggledIn r x (parent_of e) (child_of e) v.name.now) is (inv.3 k w (omega (arith, lt))) in
     record {
       sound = inv.2.sound;
-      grows = mark_grows r c.args.found.now inv.0 x e.place e.index c.args.step items inv.1 inv.2.grows (λ p i w at among.
-          let way = one_way c.one_reading.ensures.once r (parent_of e) (child_of e) p i e.place e.index c.requires.entry.at at in
+      grows = mark_grows r c.args.found.now inv.0 x e.place.index e.index c.args.step items inv.1 inv.2.grows (λ p i w at among.
+          let way = one_way c.one_reading.ensures.once r (parent_of e) (child_of e) p i e.place.index e.index c.requires.entry.at at in
           subst (λ (j : Id). IsToggledIn r x p j w.name.now) way.1 (subst (λ (q : Id). IsToggledIn r x q (child_of e) w.name.now) way.0 (toggled w among)));
     }
 
 pub returns-clause-marked : goal.returns-clause-marked
 returns-clause-marked c =
     let inv = c.loop-waiter.invariant in
-    subst (λ (l : Links). IsMarked l c.args.entry.now.place c.args.entry.now.index) (sym inv.4) (c.args.step, inv.1.marked)
+    subst (λ (l : Links). IsMarked l c.args.entry.now.place.index c.args.entry.now.index) (sym inv.4) (c.args.step, inv.1.marked)

@@ -13,7 +13,7 @@ use Rattle.krates_search.proofs.enabling.wake.Given as goal
 abbrev pub invariant-loop-waiter : goal.invariant-loop-waiter
 invariant-loop-waiter l =
     (links : Links)
-    × HasMarked l.fn.found.links links l.entry.place l.entry.index l.step l.waiter-items
+    × HasMarked l.fn.found.links links l.entry.place.index l.entry.index l.step l.waiter-items
     × Advances (resolved_view l.context.document.now) l.context.setting.now (with_links l.fn.found links) l.found
     × SeenBelow (λ (w : Waiting). IsToggledIn (resolved_view l.context.document.now) l.found (parent_of l.entry) (child_of l.entry) w.name.now) l.waiter-items l.waiter-index
     × (l.found.links ≡ links)

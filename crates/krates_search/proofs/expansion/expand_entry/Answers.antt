@@ -122,7 +122,7 @@ returns-then-not-whole-clause-tried c =
 pub note_asked-requires : goal.note_asked-requires
 note_asked-requires c =
     let entry = c.args.entry.now in
-    c.loop-kind.invariant.0.sound.has_links (parent_of entry) (child_of entry) entry.place entry.index c.requires.entry.at
+    c.loop-kind.invariant.0.sound.has_links (parent_of entry) (child_of entry) entry.place.index entry.index c.requires.entry.at
 
 pub returns-clause-advanced : goal.returns-clause-advanced
 returns-clause-advanced c =
@@ -136,7 +136,7 @@ returns-clause-advanced c =
     let first = same_infos c.as_slice-infos.result.now entry.dep.now.dep_kinds.items kinds c.as_slice-infos.ensures.value c.in_ok-kinds.ensures in
     let tried = kinds_whole r s x entry IsAny c.as_slice-kind-items.result.now kinds c.loop-kind.kind-index first c.as_slice-kind-items.ensures.value (omega arith) (inv.2 c.if-not-whole.false) in
     advances_trans r s c.args.found.now x (with_links x l) inv.0
-    (asked_advances r s x l entry.place entry.index inv.0.sound c.note_asked.ensures (noted_tried c.one_reading.ensures.once r s x entry c.agrees.ensures.distinct c.requires.entry tried))
+    (asked_advances r s x l entry.place.index entry.index inv.0.sound c.note_asked.ensures (noted_tried c.one_reading.ensures.once r s x entry c.agrees.ensures.distinct c.requires.entry tried))
 
 pub returns-clause-tried : goal.returns-clause-tried
 returns-clause-tried c k among =

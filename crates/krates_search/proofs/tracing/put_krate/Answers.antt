@@ -9,7 +9,7 @@ use Rattle.krates_search.proofs.tracing.put_krate.Goals as goal
 pub put-requires : goal.put-requires
 put-requires c =
     let node = c.requires.may.node in
-    subst (λ (n : ℕ). c.args.place < n) (sym c.requires.sound.krates_size) (slice_get_within (resolved_view c.args.context.now.document.now).graph.nodes c.args.place node.node node.at)
+    subst (λ (n : ℕ). c.args.place.index < n) (sym c.requires.sound.krates_size) (slice_get_within (resolved_view c.args.context.now.document.now).graph.nodes c.args.place.index node.node node.at)
 
 pub returns-then-not-put-clause-advanced : goal.returns-then-not-put-clause-advanced
 returns-then-not-put-clause-advanced c =
@@ -18,7 +18,7 @@ returns-then-not-put-clause-advanced c =
 pub returns-then-not-put-clause-put : goal.returns-then-not-put-clause-put
 returns-then-not-put-clause-put c =
     let same = on_false c.put.result c.if-not-put.true c.put.ensures.unchanged in
-    subst (λ (a : PutNumbers). Contains a.put c.args.place) (sym same) (on_false c.put.result c.if-not-put.true c.put.ensures.old)
+    subst (λ (a : PutNumbers). Contains a.put c.args.place.index) (sym same) (on_false c.put.result c.if-not-put.true c.put.ensures.old)
 
 pub returns-clause-advanced : goal.returns-clause-advanced
 returns-clause-advanced c =
@@ -30,4 +30,4 @@ returns-clause-advanced c =
 pub returns-clause-put : goal.returns-clause-put
 returns-clause-put c =
     let x = c.args.found.now in
-    put_there x.krates c.put.new.self c.args.place (on_true c.put.result c.if-not-put.false c.put.ensures.added) (Contains-push x.krates.put c.args.place)
+    put_there x.krates c.put.new.self c.args.place.index (on_true c.put.result c.if-not-put.false c.put.ensures.added) (Contains-push x.krates.put c.args.place.index)

@@ -6,4 +6,4 @@ use Rattle.krates_search.proofs.links.Links.is_kept.Goals as goal
 
 pub returns : goal.returns
 returns c =
-    subst (λ (b : Bool). IsTrue b ↔ IsMarked c.args.self.now c.args.place c.args.index) (sym c.is_some.ensures) (is_marked c.args.self.now c.args.place c.args.index c.kept.result c.kept.ensures)
+    subst (λ (b : Bool). IsTrue b ↔ IsMarked c.args.self.now c.args.place.index c.args.index) (sym c.is_some.ensures) (is_marked c.args.self.now c.args.place.index c.args.index c.kept.result c.kept.ensures)

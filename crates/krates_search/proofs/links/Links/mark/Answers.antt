@@ -10,4 +10,4 @@ returns c =
     let link = c.index_mut-link in
     let none = ap (λ (v : Vec Waiting). v.items) c.replace.ensures.after ∙ c.new.ensures.items in
     let taken = ap (λ (v : Vec Waiting). v.items) c.replace.ensures.value in
-    marked_now _ _ _ _ _ _ _ _ (replaced c.args.self.now c.args.place c.args.index row.result.now link.result.now _ c.requires row.ensures.value link.ensures.value) refl refl none taken
+    marked_now _ _ _ _ _ _ _ _ (replaced c.args.self.now c.args.place.index c.args.index row.result.now link.result.now _ c.requires row.ensures.value link.ensures.value) refl refl none taken

@@ -18,7 +18,7 @@ unreachable-requires c =
     let k = c.requires.kept in
     let n = c.child_number_at-number.ensures.number k.parent k.child k.at in
     let some = c.child_number_at-number.ensures.has_one k.parent k.child k.at k.kept.1 in
-    let h = child_number c.one_reading.ensures.once t c.args.place c.args.index c.child_number_at-number.result c.at_number.result k some n c.at_number.ensures in
+    let h = child_number c.one_reading.ensures.once t c.args.place.index c.args.index c.child_number_at-number.result c.at_number.result k some n c.at_number.ensures in
     absurd (let no = sym h.answered ∙ c.in_default.is in cc)
 
 pub returns : goal.returns
@@ -27,5 +27,5 @@ returns c =
     let k = c.requires.kept in
     let n = c.child_number_at-number.ensures.number k.parent k.child k.at in
     let some = c.child_number_at-number.ensures.has_one k.parent k.child k.at k.kept.1 in
-    let h = child_number c.one_reading.ensures.once t c.args.place c.args.index c.child_number_at-number.result c.at_number.result k some n c.at_number.ensures in
-    subst (IsChildAt t c.args.place c.args.index) (same_Some h.number c.in-Some.kept (sym h.answered ∙ c.in-Some.is)) h.is
+    let h = child_number c.one_reading.ensures.once t c.args.place.index c.args.index c.child_number_at-number.result c.at_number.result k some n c.at_number.ensures in
+    subst (IsChildAt t c.args.place.index c.args.index) (same_Some h.number c.in-Some.kept (sym h.answered ∙ c.in-Some.is)) h.is

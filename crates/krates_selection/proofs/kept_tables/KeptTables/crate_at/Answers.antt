@@ -7,7 +7,7 @@ use Rattle.krates_selection.proofs.kept_tables.KeptTables.crate_at.Goals as goal
 pub node_number-number-requires : goal.node_number-number-requires
 node_number-number-requires c =
     let k = c.requires.kept in
-    record { within = slice_get_within (document_in c.args.self.now).graph.nodes c.args.place k.node.node k.node.at }
+    record { within = slice_get_within (document_in c.args.self.now).graph.nodes c.args.place.index k.node.node k.node.at }
 
 pub at_number-requires : goal.at_number-requires
 at_number-requires c =
@@ -20,7 +20,7 @@ unreachable-requires c =
     let k = c.requires.kept in
     let n = c.node_number-number.ensures.number k.krate k.node in
     let some = c.node_number-number.ensures.has_one k.krate k.node in
-    let h = number_at c.one_reading.ensures.once t c.args.place c.node_number-number.result c.at_number.result k some n c.at_number.ensures in
+    let h = number_at c.one_reading.ensures.once t c.args.place.index c.node_number-number.result c.at_number.result k some n c.at_number.ensures in
     absurd (let no = sym h.answered ∙ c.in_default.is in cc)
 
 pub returns : goal.returns
@@ -29,5 +29,5 @@ returns c =
     let k = c.requires.kept in
     let n = c.node_number-number.ensures.number k.krate k.node in
     let some = c.node_number-number.ensures.has_one k.krate k.node in
-    let h = number_at c.one_reading.ensures.once t c.args.place c.node_number-number.result c.at_number.result k some n c.at_number.ensures in
-    subst (IsNumberAt t c.args.place) (same_Some h.number c.in-Some.kept (sym h.answered ∙ c.in-Some.is)) h.is
+    let h = number_at c.one_reading.ensures.once t c.args.place.index c.node_number-number.result c.at_number.result k some n c.at_number.ensures in
+    subst (IsNumberAt t c.args.place.index) (same_Some h.number c.in-Some.kept (sym h.answered ∙ c.in-Some.is)) h.is

@@ -12,6 +12,6 @@ pub returns : goal.returns
 returns c =
     let x = c.listed_feature-feature.result in
     record {
-      is = λ i f at. feature_is c.args.self.now c.args.number x.place c.crate_at.result x.name.now i f at c.listed_feature-feature.ensures c.crate_at.ensures.is;
+      is = λ i f at. feature_is c.args.self.now c.args.number x.place.index c.crate_at.result x.name.now i f at c.listed_feature-feature.ensures c.crate_at.ensures.is;
       below = c.crate_at.ensures.below;
     }
