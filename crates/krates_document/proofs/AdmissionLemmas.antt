@@ -110,12 +110,6 @@ bad_refused m g is = invalid_so (IsInvalidId m g) (AdmissionRefusal m) (λ t h. 
 
 -- ---- what stands twice
 
-pub twice_packages : (ids : IdsModel) (e : Error) → DoubledRefusal ids.packages e → DoubledWithinRefusal ids e
-twice_packages ids = doubled_so (HasDoubled ids.packages) (DoubledWithinRefusal ids) (λ kid h. among_packages h) tt
-
-pub twice_nodes : (ids : IdsModel) (e : Error) → DoubledRefusal ids.nodes e → DoubledWithinRefusal ids e
-twice_nodes ids = doubled_so (HasDoubled ids.nodes) (DoubledWithinRefusal ids) (λ kid h. among_nodes h) tt
-
 pub twice_in : (lists : List (List Identity)) (list : List Identity) → Contains lists list → (e : Error) → DoubledRefusal list e → DoubledInRefusal lists e
 twice_in lists list among = doubled_so (HasDoubled list) (DoubledInRefusal lists) (λ kid h. (list, among, h)) tt
 

@@ -5,4 +5,6 @@ pub mod DeclaredOnce
 pub mod FoldedNames
 pub mod LeastFitting
 pub mod NamedPlaces
+pub mod NumberedPlaces
 pub mod Passing
+pub mod Searches

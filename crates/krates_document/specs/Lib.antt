@@ -1,7 +1,10 @@
 pub mod AdmissionSteps
 pub mod CorrectedDocument
+pub mod CrateTable
 pub mod DeclaredPlaces
 pub mod FoldedNames
+pub mod IdLists
 pub mod Ids
 pub mod NamedPlaces
+pub mod NumberedOnce
 pub mod SettingChanges

@@ -8,12 +8,14 @@ ghost use Rattle.krates_ids.specs.Identity.{Reads};
 ghost use Rattle.krates_rules.specs.Admission.{HasThisVersion, AreDepIds, IsRootId, AreIdsOf, IsAdmitted};
 ghost use Rattle.krates_rules.specs.AdmissionRefusals.{AdmissionRefusal};
 ghost use Rattle.krates_rules.specs.NamedIds.{NamesReadIds};
-ghost use Rattle.krates_document.specs.AdmissionSteps.{InvalidIdRefusal, UnreadRefusal, InvalidDepRefusal, InvalidNodeRefusal, DoubledRefusal, DoubledInRefusal, AreAllDistinct, DoubledWithinRefusal};
+ghost use Rattle.krates_document.specs.AdmissionSteps.{InvalidIdRefusal, UnreadRefusal, InvalidDepRefusal, InvalidNodeRefusal, DoubledRefusal, DoubledInRefusal};
 ghost use Rattle.krates_rules.specs.DistinctIds.{AreDistinct};
-ghost use Rattle.krates_document.specs.Ids.{ids_view, kids_in, versions_in};
+ghost use Rattle.krates_document.specs.IdLists.{kids_in, versions_in};
+ghost use Rattle.krates_document.specs.Ids.{ids_view, read_view};
 
+use crate::crate_table::crate_table;
 use crate::declared_dependency::version_of;
-use crate::ids::Ids;
+use crate::ids::{Ids, ReadIds};
 use krates_cm::{Metadata, Node, NodeDep, Package, PackageId, Resolve};
 use krates_ids::{Error, IdError, Kid, laws};
 use semver::Version;
@@ -22,12 +24,12 @@ use std::collections::BTreeSet;
 
 /// Reads the ids of a document, and refuses a document that can't be resolved.
 ///
-/// The answer has an id for each place at which one has to stand. It is refused, in this order of classes: as
-/// `NoResolveGraph` where the document has no resolved graph; as `InvalidId` where the text of a package, a member,
-/// the root, a node or a node's dependency isn't an id, or the version of such a dependency isn't semantic; or as
-/// `Doubled` where two packages, two nodes or two dependencies of one node have the same id. Which of several true
-/// refusals of the last two is named is left open; a doubled id is one of the document's, its text included. It may
-/// instead return `Memory`. Time O(n log n) for n packages, nodes and dependencies of nodes.
+/// The answer has an id for each place at which one has to stand, and the crates by number. It is refused, in this
+/// order of classes: as `NoResolveGraph` where the document has no resolved graph; as `InvalidId` where the text of a
+/// package, a member, the root, a node or a node's dependency isn't an id, or the version of such a dependency isn't
+/// semantic; or as `Doubled` where two packages, two nodes or two dependencies of one node have the same id. Which of
+/// several true refusals of the last two is named is left open; a doubled id is one of the document's, its text
+/// included. It may instead return `Memory`. Time O(n log n) for n packages, nodes and dependencies of nodes.
 pub fn admit(alloc: Global, metadata: &Metadata) -> Result<Ids, Error>
     ensures admitted { IfOk result (λ ids. IsAdmitted (metadata_view metadata.now) (ids_view ids)) }
     ensures refused { IfErr result (AdmissionRefusal (metadata_view metadata.now)) }
@@ -38,14 +40,15 @@ pub fn admit(alloc: Global, metadata: &Metadata) -> Result<Ids, Error>
         return Err(Error::NoResolveGraph);
     };
     let ids = ids_of(alloc, metadata, resolve)?;
-    expect_none_doubled(alloc, &ids)?;
-    Ok(ids)
+    let table = crate_table(alloc, &ids)?;
+    expect_all_distinct(alloc, &ids.deps)?;
+    Ok(ids.with(table))
 }
 
 /// Reads the ids of a document.
-fn ids_of(alloc: Global, metadata: &Metadata, resolve: &Resolve) -> Result<Ids, Error>
+fn ids_of(alloc: Global, metadata: &Metadata, resolve: &Resolve) -> Result<ReadIds, Error>
     ensures read { IfOk result
-        (λ ids. AreIdsOf (metadata_view metadata.now) (resolve_view resolve.now) (ids_view ids)) }
+        (λ ids. AreIdsOf (metadata_view metadata.now) (resolve_view resolve.now) (read_view ids)) }
     ensures refused { IfErr result (InvalidIdRefusal (metadata_view metadata.now)
         (resolve_view resolve.now)) }
 {
@@ -55,7 +58,7 @@ fn ids_of(alloc: Global, metadata: &Metadata, resolve: &Resolve) -> Result<Ids, 
     let nodes = read_ids(alloc, &resolve.nodes)?;
     let deps = read_deps(alloc, &resolve.nodes)?;
     let DepLists { kids, versions } = deps;
-    Ok(Ids {
+    Ok(ReadIds {
         packages,
         members,
         root,
@@ -63,17 +66,6 @@ fn ids_of(alloc: Global, metadata: &Metadata, resolve: &Resolve) -> Result<Ids, 
         deps: kids,
         versions,
     })
-}
-
-/// Refuses an id that stands twice.
-fn expect_none_doubled(alloc: Global, ids: &Ids) -> Result<(), Error>
-    ensures distinct { OnOk result (AreAllDistinct (ids_view ids.now)) }
-    ensures refused { IfErr result (DoubledWithinRefusal (ids_view ids.now)) }
-{
-    expect_distinct(alloc, &ids.packages)?;
-    expect_distinct(alloc, &ids.nodes)?;
-    expect_all_distinct(alloc, &ids.deps)?;
-    Ok(())
 }
 
 /// Reads the id of the root, where there is one.

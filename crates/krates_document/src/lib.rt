@@ -1,9 +1,10 @@
-//! A document that is ready to be resolved: its ids read once, and what the caller's setting says of it.
+//! A document that is ready to be resolved: its ids read once, its crates numbered, and what the caller's setting says of it.
 #![tactic(auto)]
 
 pub mod admission;
 pub mod comparisons;
 pub mod corrected_document;
+pub mod crate_table;
 pub mod declared_dependency;
 pub mod declared_source;
 pub mod dependency_name;
@@ -11,6 +12,7 @@ pub mod folded_name;
 pub mod ids;
 pub mod named_places;
 pub mod setting;
+pub mod sorted;
 
 pub use admission::admit;
 pub use ids::Ids;

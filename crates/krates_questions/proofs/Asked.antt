@@ -17,7 +17,7 @@ use Rattle.krates_questions.specs.RootChoice.{AsksFor}
 use Rattle.krates_questions.specs.RootOrder.{ArePicked, nothing, picked, passed, AreInOrder, of_members}
 use Rattle.krates_rules.specs.Roots.{IsRoot}
 use Rattle.krates_rules.specs.Setting.{SettingModel}
-use Rattle.krates_questions.specs.CrateTable.{IsPlaceOf}
+use Rattle.krates_document.specs.CrateTable.{IsPlaceOf}
 use Rattle.krates_questions.specs.declared.lookup.Lookup.{Lookup}
 use Rattle.krates_questions.specs.declared.node_entry.NodeEntry.{NodeEntry}
 use Rattle.krates_questions.specs.declared.node_entry.NodeParts.{NodeParts}

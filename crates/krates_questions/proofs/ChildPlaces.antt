@@ -9,7 +9,7 @@ use Rattle.krates_rules.specs.Admission.{AreDepIds, dep_texts}
 use Rattle.krates_rules.specs.Facts.{Id}
 use Rattle.krates_rules.specs.Resolved.{StandsAt, id_of}
 use Rattle.krates_rules.proofs.Readings.{ReadsOnce, left_of, right_of}
-use Rattle.krates_questions.specs.CrateTable.{IsPlaceAmong, IsPlaceOf}
+use Rattle.krates_document.specs.CrateTable.{IsPlaceAmong, IsPlaceOf}
 use Rattle.krates_questions.specs.NameIndex.{AreIdsNamed}
 use Rattle.krates_questions.proofs.LeastReferents.{AreLookedAt}
 

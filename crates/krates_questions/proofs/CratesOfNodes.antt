@@ -9,7 +9,7 @@ use Rattle.std.specs.Vec.{vec_len}
 use Rattle.krates_cm.specs.Document.{NodeDepModel, NodeModel, Text}
 use Rattle.krates_document.specs.Ids.{ids_view}
 use Rattle.krates_ids.specs.Identity.{Identity, Reads}
-use Rattle.krates_questions.specs.CrateTable.{AreNumbersOf, IsNumberOf}
+use Rattle.krates_document.specs.CrateTable.{AreNumbersOf, IsNumberOf}
 use Rattle.krates_questions.specs.Lookup.{IsLookup, IsNumberIn, resolved_view}
 use Rattle.krates_questions.specs.declared.lookup.Lookup.{Lookup}
 use Rattle.krates_rules.specs.Admission.{AreDepIds, dep_texts, node_texts}
@@ -17,7 +17,6 @@ use Rattle.krates_rules.specs.Facts.{Id}
 use Rattle.krates_rules.specs.Resolved.{DepAt, HasNode, NodeAt, ReadsAs, id_of}
 use Rattle.krates_rules.proofs.OnlyOne.{place_in}
 use Rattle.krates_rules.proofs.Readings.{ReadsOnce, right_of}
-use Rattle.krates_rules.proofs.Standings.{contains_at}
 use Rattle.krates_questions.proofs.ListPlaces.{names_at, names_within}
 use Rattle.krates_questions.proofs.NodeParts.{id_seen, long_zip, node_here, nodes_long, within_vec}
 
@@ -46,20 +45,20 @@ node_among once d ids numbers place i h are at =
     numbered_there once ids (node_texts g) d.ids.now.nodes.items numbers place at.node.id i h.ids.nodes are text at.id
 
 -- among those of the document
-node_there : ReadsOnce → (d : Lookup) (place : ℕ) (i : Id) → IsLookup d → NodeAt (resolved_view d) i place → (number : Option ℕ) × (slice_get d.table.node_numbers.items place ≡ Some number) × IsNumberIn d i number
-node_there once d place i h at = node_among once d (map id_of d.table.ids.items) d.table.node_numbers.items place i h h.table.node_numbers at
+node_there : ReadsOnce → (d : Lookup) (place : ℕ) (i : Id) → IsLookup d → NodeAt (resolved_view d) i place → (number : Option ℕ) × (slice_get d.ids.now.table.node_numbers.items place ≡ Some number) × IsNumberIn d i number
+node_there once d place i h at = node_among once d (map id_of d.ids.now.table.ids.items) d.ids.now.table.node_numbers.items place i h d.ids.now.indexed.node_numbers at
 
-pub node_numbered : ReadsOnce → (d : Lookup) (place : ℕ) (i : Id) (number : Option ℕ) → IsLookup d → NodeAt (resolved_view d) i place → number ≡ get_or d.table.node_numbers.items place number → IsNumberIn d i number
+pub node_numbered : ReadsOnce → (d : Lookup) (place : ℕ) (i : Id) (number : Option ℕ) → IsLookup d → NodeAt (resolved_view d) i place → number ≡ get_or d.ids.now.table.node_numbers.items place number → IsNumberIn d i number
 node_numbered once d place i number h at is =
     let n = node_there once d place i h at in
-    subst (IsNumberIn d i) (read_number d.table.node_numbers.items place n.0 number n.1 is) n.2
+    subst (IsNumberIn d i) (read_number d.ids.now.table.node_numbers.items place n.0 number n.1 is) n.2
 
-pub node_number_within : (d : Lookup) (place : ℕ) → IsLookup d → place < length (resolved_view d).graph.nodes → place < vec_len d.table.node_numbers
+pub node_number_within : (d : Lookup) (place : ℕ) → IsLookup d → place < length (resolved_view d).graph.nodes → place < vec_len d.ids.now.table.node_numbers
 node_number_within d place h lt =
     let nodes = d.ids.now.nodes.items in
     let below : place < length nodes = subst (λ (m : ℕ). place < m) (nodes_long d h).0 lt in
-    let long = long_zip (IsNumberOf (map id_of d.table.ids.items)) (map id_of nodes) d.table.node_numbers.items h.table.node_numbers in
-    within_vec d.table.node_numbers place (omega (arith, below, long, length-map nodes id_of))
+    let long = long_zip (IsNumberOf (map id_of d.ids.now.table.ids.items)) (map id_of nodes) d.ids.now.table.node_numbers.items d.ids.now.indexed.node_numbers in
+    within_vec d.ids.now.table.node_numbers place (omega (arith, below, long, length-map nodes id_of))
 
 -- a crate that has a node has a number
 pub node_has_number : ReadsOnce → (d : Lookup) (i : Id) (number : Option ℕ) → IsLookup d → (n : NodeModel) × HasNode (resolved_view d) i n → IsNumberIn d i number → IsSome number
@@ -72,8 +71,7 @@ node_has_number once d i None h (n, has) none = absurd (
     let text : slice_get (node_texts g) at.0 ≡ Some n.id = slice_get-map id g.nodes at.0 ∙ ap (option_map id) at.1 in
     let kid = right_of Reads (node_texts g) nodes at.0 n.id h.ids.nodes text in
     let same : id_of kid.0 ≡ i = ap id_of (once n.id kid.0 has.id.read kid.2 has.id.reads) ∙ has.id.same in
-    let there = place_in (map id_of d.table.ids.items) (id_of kid.0) (h.table.nodes.among kid.0 (contains_at nodes at.0 kid.0 kid.1)) in
-    none there.0 (there.1 ∙ ap (λ (x : Id). Some x) same))
+    d.ids.now.indexed.nodes.among i none at.0 (slice_get-map id_of nodes at.0 ∙ ap (option_map id_of) kid.1 ∙ ap (λ (x : Id). Some x) same))
 
 -- of its id
 pub parent_numbered : (d : Lookup) (place : ℕ) (parent : Identity) (number : Option ℕ) → IsLookup d → place < length (resolved_view d).graph.nodes → parent ≡ get_or d.ids.now.nodes.items place parent
@@ -85,30 +83,30 @@ parent_numbered d place parent number h lt is told =
 
 -- ---- of a dependency
 
-dep_there : ReadsOnce → (d : Lookup) (p child : Id) (place index : ℕ) (v : Vec (Option ℕ)) → IsLookup d → DepAt (resolved_view d) p child place index → v ≡ get_or d.table.dep_numbers.items place v
+dep_there : ReadsOnce → (d : Lookup) (p child : Id) (place index : ℕ) (v : Vec (Option ℕ)) → IsLookup d → DepAt (resolved_view d) p child place index → v ≡ get_or d.ids.now.table.dep_numbers.items place v
     → (number : Option ℕ) × (slice_get v.items index ≡ Some number) × IsNumberIn d child number
 dep_there once d p child place index v h at is =
     let g = (resolved_view d).graph in
-    let ids = map id_of d.table.ids.items in
+    let ids = map id_of d.ids.now.table.ids.items in
     let n = at.node.node in
     let kids = right_of AreDepIds g.nodes (ids_view d.ids.now).deps place n h.ids.deps at.node.at in
-    let numbers = names_at (AreNumbersOf ids) (ids_view d.ids.now).deps d.table.dep_numbers place kids.0 v h.table.dep_numbers kids.1 is in
+    let numbers = names_at (AreNumbersOf ids) (ids_view d.ids.now).deps d.ids.now.table.dep_numbers place kids.0 v d.ids.now.indexed.dep_numbers kids.1 is in
     let pkg : NodeDepModel → Text = λ x. x.pkg in
     let text : slice_get (dep_texts n) index ≡ Some at.dep.pkg = slice_get-map pkg n.deps index ∙ ap (option_map pkg) at.at in
     numbered_there once ids (dep_texts n) kids.0 v.items index at.dep.pkg child kids.2.read numbers text at.id
 
-pub dep_numbered : ReadsOnce → (d : Lookup) (p child : Id) (place index : ℕ) (v : Vec (Option ℕ)) (number : Option ℕ) → IsLookup d → DepAt (resolved_view d) p child place index → v ≡ get_or d.table.dep_numbers.items place v
+pub dep_numbered : ReadsOnce → (d : Lookup) (p child : Id) (place index : ℕ) (v : Vec (Option ℕ)) (number : Option ℕ) → IsLookup d → DepAt (resolved_view d) p child place index → v ≡ get_or d.ids.now.table.dep_numbers.items place v
     → number ≡ get_or v.items index number → IsNumberIn d child number
 dep_numbered once d p child place index v number h at is_list is =
     let n = dep_there once d p child place index v h at is_list in
     subst (IsNumberIn d child) (read_number v.items index n.0 number n.1 is) n.2
 
-pub dep_numbers_within : (d : Lookup) (p child : Id) (place index : ℕ) → IsLookup d → DepAt (resolved_view d) p child place index → place < vec_len d.table.dep_numbers
+pub dep_numbers_within : (d : Lookup) (p child : Id) (place index : ℕ) → IsLookup d → DepAt (resolved_view d) p child place index → place < vec_len d.ids.now.table.dep_numbers
 dep_numbers_within d p child place index h at =
     let kids = right_of AreDepIds (resolved_view d).graph.nodes (ids_view d.ids.now).deps place at.node.node h.ids.deps at.node.at in
-    names_within (AreNumbersOf (map id_of d.table.ids.items)) (ids_view d.ids.now).deps d.table.dep_numbers place kids.0 h.table.dep_numbers kids.1
+    names_within (AreNumbersOf (map id_of d.ids.now.table.ids.items)) (ids_view d.ids.now).deps d.ids.now.table.dep_numbers place kids.0 d.ids.now.indexed.dep_numbers kids.1
 
-pub dep_number_within : ReadsOnce → (d : Lookup) (p child : Id) (place index : ℕ) (v : Vec (Option ℕ)) → IsLookup d → DepAt (resolved_view d) p child place index → v ≡ get_or d.table.dep_numbers.items place v → index < vec_len v
+pub dep_number_within : ReadsOnce → (d : Lookup) (p child : Id) (place index : ℕ) (v : Vec (Option ℕ)) → IsLookup d → DepAt (resolved_view d) p child place index → v ≡ get_or d.ids.now.table.dep_numbers.items place v → index < vec_len v
 dep_number_within once d p child place index v h at is =
     let n = dep_there once d p child place index v h at is in
     within_vec v index (slice_get_within v.items index n.0 n.1)

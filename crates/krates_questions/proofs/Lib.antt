@@ -15,12 +15,9 @@ pub mod ListedFeatures
 pub mod Lookups
 pub mod Needs
 pub mod NodeParts
-pub mod NumberedOnce
-pub mod NumberedPlaces
 pub mod OneReferent
 pub mod ReadIds
 pub mod Referents
 pub mod RenamedPlaces
 pub mod RootLemmas
-pub mod Searches
 pub mod StandingLaws

@@ -8,7 +8,7 @@ use Rattle.krates_rules.specs.Facts.{Id}
 use Rattle.krates_rules.specs.Admission.{package_texts, node_texts}
 use Rattle.krates_questions.specs.Lookup.{IsPackagePlace, TellsMember}
 use Rattle.krates_rules.specs.Resolved.{Resolved, id_of, ReadsAs, StandsAt, NoNode, NodeAt}
-use Rattle.krates_questions.specs.CrateTable.{IsPlaceOf}
+use Rattle.krates_document.specs.CrateTable.{IsPlaceOf}
 use Rattle.krates_rules.proofs.Readings.{ReadsOnce, left_of, right_of}
 use Rattle.krates_rules.proofs.OnlyOne.{place_in}
 use Rattle.krates_rules.proofs.Standings.{contains_at}

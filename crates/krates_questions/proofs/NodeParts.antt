@@ -13,7 +13,7 @@ use Rattle.krates_cm.specs.declared.resolve.Node.{Node}
 use Rattle.krates_cm.specs.declared.resolve.NodeDep.{NodeDep}
 use Rattle.krates_ids.specs.Identity.{Identity, Reads}
 use Rattle.krates_rules.specs.Admission.{AreDepIds, HasThisVersion, node_texts, dep_texts, of_dep, of_node}
-use Rattle.krates_document.specs.Ids.{kids_in, versions_in}
+use Rattle.krates_document.specs.IdLists.{kids_in, versions_in}
 use Rattle.krates_rules.specs.Facts.{Id}
 use Rattle.krates_rules.specs.NamedIds.{IsReadOf}
 use Rattle.krates_rules.specs.Resolved.{DepAt, NodeAt, Resolved, id_of, ReadsAs, HasNode, HasDep}

@@ -14,7 +14,7 @@ use Rattle.krates_document.specs.Ids.{ids_view}
 use Rattle.krates_document.specs.NamedPlaces.{AreInOrder, StandsUnder, key_of, no_target, sought_key}
 use Rattle.krates_document.specs.declared.named_places.NamedPlace.{NamedPlace}
 use Rattle.krates_ids.specs.Identity.{Identity, Reads}
-use Rattle.krates_questions.specs.CrateTable.{AreNumbersOf, IsIndex, IsNumberOf, at_number, numbers_in}
+use Rattle.krates_document.specs.CrateTable.{AreNumbersOf, IsIndex, IsNumberOf, at_number, numbers_in}
 use Rattle.krates_questions.specs.Lookup.{IsLookup, IsPackagePlace, resolved_view}
 use Rattle.krates_questions.specs.Renamed.{AreRenamed, AreRenamedIn, HasRenamed, IsRenamedAt, package_numbered, standing_at}
 use Rattle.krates_questions.specs.declared.lookup.Lookup.{Lookup}
@@ -28,7 +28,7 @@ use Rattle.krates_rules.proofs.Readings.{ReadsOnce, right_of}
 use Rattle.krates_rules.proofs.Standings.{contains_at}
 use Rattle.krates_questions.proofs.ListPlaces.{list_at, list_within}
 use Rattle.krates_questions.proofs.Lookups.{package_answer}
-use Rattle.krates_questions.proofs.NumberedPlaces.{index_answer}
+use Rattle.krates_document.proofs.NumberedPlaces.{index_answer}
 
 -- ---- of one node, as the code goes over its dependencies
 
@@ -126,13 +126,13 @@ found_by_number once r ids kids places i number p none read index is has = by (a
     by None lacks = absurd (lacks p has)
     by (Some at) w = w.at ∙ ap (λ (q : PackageModel). Some q) (one_package r i w.pkg p none (record { among = contains_at r.metadata.packages at w.pkg w.at; id = w.id }) has)
 
-numbers_there : (d : Lookup) (place : ℕ) (kids : List Identity) → IsLookup d → slice_get (ids_view d.ids.now).deps place ≡ Some kids
-    → (own : List (Option ℕ)) × (slice_get (numbers_in d.table.dep_numbers) place ≡ Some own) × AreNumbersOf (map id_of d.table.ids.items) kids own
-numbers_there d place kids h at = right_of (AreNumbersOf (map id_of d.table.ids.items)) (ids_view d.ids.now).deps (numbers_in d.table.dep_numbers) place kids h.table.dep_numbers at
+numbers_there : (d : Lookup) (place : ℕ) (kids : List Identity) → slice_get (ids_view d.ids.now).deps place ≡ Some kids
+    → (own : List (Option ℕ)) × (slice_get (numbers_in d.ids.now.table.dep_numbers) place ≡ Some own) × AreNumbersOf (map id_of d.ids.now.table.ids.items) kids own
+numbers_there d place kids at = right_of (AreNumbersOf (map id_of d.ids.now.table.ids.items)) (ids_view d.ids.now).deps (numbers_in d.ids.now.table.dep_numbers) place kids d.ids.now.indexed.dep_numbers at
 
 pub renamed_within : (d : Lookup) (place : ℕ) (n : NodeModel) (kids : List Identity) → IsLookup d → slice_get (resolved_view d).graph.nodes place ≡ Some n → slice_get (ids_view d.ids.now).deps place ≡ Some kids → place < vec_len d.renamed
 renamed_within d place n kids h node at =
-    let own = numbers_there d place kids h at in
+    let own = numbers_there d place kids at in
     let w = h.renamed place n kids own.0 node at own.1 in
     list_within d.renamed place w.named w.at
 
@@ -140,8 +140,8 @@ pub renamed_at : ReadsOnce → (d : Lookup) (place : ℕ) (n : NodeModel) (kids 
     → v ≡ get_or d.renamed.items place v → FindsRenamed (resolved_view d) n kids v.items
 renamed_at once d place n kids v h node at is =
     let r = resolved_view d in
-    let ids = map id_of d.table.ids.items in
-    let own = numbers_there d place kids h at in
+    let ids = map id_of d.ids.now.table.ids.items in
+    let own = numbers_there d place kids at in
     let w = h.renamed place n kids own.0 node at own.1 in
     subst (FindsRenamed r n kids) (list_at d.renamed place v w.named w.at is) (record {
       sorted = w.are.sorted;
@@ -152,6 +152,6 @@ renamed_at once d place n kids v h node at is =
             here = here;
             number = m.0;
             at = m.1;
-            is = record { pkg = p; found = found_by_number once r ids d.ids.now.packages.items d.table.packages.items (id_of c) m.0 p h.distinct h.ids.packages h.table.packages m.2 has; is = renamed };
+            is = record { pkg = p; found = found_by_number once r ids d.ids.now.packages.items d.ids.now.table.packages.items (id_of c) m.0 p h.distinct h.ids.packages d.ids.now.indexed.packages m.2 has; is = renamed };
           });
     })

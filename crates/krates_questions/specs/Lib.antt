@@ -1,7 +1,6 @@
 pub mod Availability
 pub mod Contents
 pub mod Context
-pub mod CrateTable
 pub mod DocumentAnswers
 pub mod FeatureOrder
 pub mod FeatureTable

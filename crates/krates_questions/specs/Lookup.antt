@@ -14,7 +14,7 @@ use Rattle.krates_questions.specs.FeatureTable.{AreNumbered, listed_in}
 use Rattle.krates_document.specs.Ids.{ids_view}
 use Rattle.krates_questions.specs.ListedFeatures.{features_from}
 use Rattle.krates_rules.specs.Resolved.{HasGraphWith, Resolved, resolved, HasPackage, NoPackage, NoNode, IsMember, NodeAt, PackageAt, id_of}
-use Rattle.krates_questions.specs.CrateTable.{IsNumberOf, IsTable, numbers_in}
+use Rattle.krates_document.specs.CrateTable.{IsNumberOf, numbers_in}
 use Rattle.krates_questions.specs.NameIndex.{IsNameIndex, lists_in}
 use Rattle.krates_questions.specs.Renamed.{AreRenamedIn}
 use Rattle.krates_questions.specs.declared.lookup.Lookup.{Lookup}
@@ -23,15 +23,14 @@ use Rattle.krates_questions.specs.declared.node_place.NodePlace.{NodePlace}
 abbrev pub resolved_view : Lookup → Resolved
 resolved_view d = record { metadata = metadata_view d.metadata.now; graph = resolve_view d.resolve.now }
 
--- the ids are those of the document, none is doubled, and the tables agree with the document
+-- the ids are those of the document, none is doubled, and what was made of it agrees with it
 pub record IsLookup (d : Lookup) : Type 0 where
   pub ids : AreIdsOf (metadata_view d.metadata.now) (resolve_view d.resolve.now) (ids_view d.ids.now)
   pub distinct : NoneDoubled (metadata_view d.metadata.now) (resolve_view d.resolve.now)
-  pub table : IsTable (ids_view d.ids.now) d.table
   pub features : listed_in d.features ≡ features_from 0 (map node_view d.resolve.now.nodes.items)
   pub numbered : AreNumbered d.features
   pub names : IsNameIndex (metadata_view d.metadata.now).packages (resolve_view d.resolve.now).nodes (ids_view d.ids.now).deps d.names
-  pub renamed : AreRenamedIn (metadata_view d.metadata.now).packages d.table.packages.items (resolve_view d.resolve.now).nodes (ids_view d.ids.now).deps (numbers_in d.table.dep_numbers) (lists_in d.renamed)
+  pub renamed : AreRenamedIn (metadata_view d.metadata.now).packages d.ids.now.table.packages.items (resolve_view d.resolve.now).nodes (ids_view d.ids.now).deps (numbers_in d.ids.now.table.dep_numbers) (lists_in d.renamed)
 
 -- whether the crate is a member of the workspace
 abbrev pub TellsMember : Resolved → Id → Bool → Type 0
@@ -60,7 +59,7 @@ IsOf metadata resolve ids d = (d.metadata.now ≡ metadata) × (d.resolve.now �
 
 -- the number of the crate, or none where it has none
 abbrev pub IsNumberIn : Lookup → Id → Option ℕ → Type 0
-IsNumberIn d i number = IsNumberOf (map id_of d.table.ids.items) i number
+IsNumberIn d i number = IsNumberOf (map id_of d.ids.now.table.ids.items) i number
 
 -- the number is that of some crate, or none of one that has none
 abbrev pub IsNumber : Lookup → Option ℕ → Type 0

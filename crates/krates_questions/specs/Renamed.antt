@@ -4,7 +4,7 @@ use Rattle.krates_cm.specs.Document.{NodeDepModel, NodeModel, PackageModel}
 use Rattle.krates_document.specs.NamedPlaces.{AreInOrder, StandsUnder, no_target}
 use Rattle.krates_document.specs.declared.named_places.NamedPlace.{NamedPlace}
 use Rattle.krates_ids.specs.Identity.{Identity}
-use Rattle.krates_questions.specs.CrateTable.{at_number}
+use Rattle.krates_document.specs.CrateTable.{at_number}
 use Rattle.krates_rules.specs.Referent.{IsLibraryRename}
 
 -- what stands at the place, where there is one

@@ -6,7 +6,6 @@ pub mod availability;
 pub mod comparisons;
 pub mod context;
 pub mod crate_questions;
-pub mod crate_table;
 pub mod dependency_questions;
 pub mod feature_table;
 pub mod features;
@@ -19,7 +18,6 @@ pub mod questions;
 pub mod referent;
 pub mod renamed;
 pub mod root_choice;
-pub mod sorted;
 
 pub use availability::Availability;
 pub use dependency_questions::Need;

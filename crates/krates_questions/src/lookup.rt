@@ -4,18 +4,18 @@ ghost use Rattle.std.specs.Prelude.{◌≡◌, ◌<◌, IfOk, IfSome, length};
 ghost use Rattle.krates_cm.specs.Document.{metadata_view, resolve_view};
 ghost use Rattle.krates_rules.specs.Admission.{AreIdsOf, NoneDoubled};
 ghost use Rattle.krates_document.specs.Ids.{ids_view};
-ghost use Rattle.krates_questions.specs.CrateTable.{at_number};
+ghost use Rattle.krates_document.specs.CrateTable.{at_number};
 ghost use Rattle.krates_questions.specs.Lookup.{IsLookup, IsNodePlace, IsNumber, IsNumberIn, IsOf, IsPackagePlace, TellsMember, TellsPackage, resolved_view};
 ghost use Rattle.krates_rules.specs.Facts.{Id};
 ghost use Rattle.krates_rules.specs.Resolved.{id_of};
 
-use crate::crate_table::{CrateTable, crate_table, number_of};
 use crate::feature_table::{FeatureTable, feature_table};
 use crate::name_index::{NameIndex, name_index};
 use crate::node_place::NodePlace;
 use crate::questions::Document;
 use crate::renamed::{Libraries, renamed_by_name};
 use krates_cm::{Metadata, Package, Resolve};
+use krates_document::crate_table::number_of;
 use krates_document::ids::Ids;
 use krates_document::named_places::NamedPlace;
 use krates_ids::{Kid, laws};
@@ -28,10 +28,8 @@ pub struct Lookup<'a> {
     pub metadata: &'a Metadata,
     /// Its resolved graph.
     pub resolve: &'a Resolve,
-    /// The ids that were read of it, place by place.
+    /// The ids that were read of it, place by place, and its crates by number.
     pub ids: &'a Ids,
-    /// Its crates, by number.
-    pub table: CrateTable,
     /// The features that its nodes list, by number.
     pub features: FeatureTable<'a>,
     /// Its dependencies, by name.
@@ -53,19 +51,17 @@ pub fn lookup_of<'a>(
     ensures lookup { IfOk result (λ d. IsLookup d) }
     ensures of_these { IfOk result (IsOf metadata.now resolve.now ids.now) }
 {
-    let table = crate_table(alloc, ids)?;
     let features = feature_table(alloc, &resolve.nodes)?;
     let names = name_index(alloc, &metadata.packages, &resolve.nodes, &ids.deps)?;
     let libraries = Libraries {
         packages: &metadata.packages,
-        table: &table,
+        table: &ids.table,
     };
     let renamed = renamed_by_name(alloc, &libraries, &resolve.nodes, &ids.deps)?;
     Ok(Lookup {
         metadata,
         resolve,
         ids,
-        table,
         features,
         names,
         renamed,
@@ -92,7 +88,7 @@ impl<'a> Document<'a> {
     pub fn crate_number(&self, id: &Kid) -> Option<usize>
         ensures { IsNumberIn self.now (id_of id.now) result }
     {
-        number_of(&self.lookup.table.ids, id)
+        number_of(&self.lookup.ids.table.ids, id)
     }
 }
 
@@ -114,7 +110,7 @@ impl<'a> Document<'a> {
         ensures { (i : Id) → IsNumberIn self.now i number → IsPackagePlace (resolved_view self.now) i result }
     {
         laws::one_reading();
-        at_number(&self.lookup.table.packages, number)
+        at_number(&self.lookup.ids.table.packages, number)
     }
 
     /// The package of the crate with the number. None where it has none. Time O(1).
@@ -132,7 +128,7 @@ impl<'a> Document<'a> {
         ensures { (i : Id) → IsNumberIn self.now i number → IsNodePlace (resolved_view self.now) i result }
     {
         laws::one_reading();
-        let index = at_number(&self.lookup.table.nodes, number)?;
+        let index = at_number(&self.lookup.ids.table.nodes, number)?;
         Some(NodePlace { index })
     }
 
@@ -142,6 +138,6 @@ impl<'a> Document<'a> {
         ensures { (i : Id) → IsNumberIn self.now i number → TellsMember (resolved_view self.now) i result }
     {
         laws::one_reading();
-        at_number(&self.lookup.table.members, number).is_some()
+        at_number(&self.lookup.ids.table.members, number).is_some()
     }
 }

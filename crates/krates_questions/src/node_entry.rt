@@ -161,7 +161,7 @@ impl<'a> Document<'a> {
         ensures has_one { (i : Id) → NodeAt (resolved_view self.now) i place.index → IsSome result }
     {
         laws::one_reading();
-        self.lookup.table.node_numbers[place.index]
+        self.lookup.ids.table.node_numbers[place.index]
     }
 
     /// The number of the crate that a dependency of a node leads to, by the places of both. None where that has neither
@@ -177,7 +177,7 @@ impl<'a> Document<'a> {
             → (n : NodeModel) × HasNode (resolved_view self.now) child n → IsSome result }
     {
         laws::one_reading();
-        self.lookup.table.dep_numbers[place.index][index]
+        self.lookup.ids.table.dep_numbers[place.index][index]
     }
 
     /// The place of the node of the crate that a dependency leads to. None where it has none. Time O(1).

@@ -11,7 +11,7 @@ ghost use Rattle.krates_document.specs.NamedPlaces.{places_in};
 ghost use Rattle.krates_questions.specs.NodeEntry.{AreParts, IsEntry};
 ghost use Rattle.krates_rules.specs.Resolved.{IsMember, StandsAt, id_of};
 ghost use Rattle.krates_questions.specs.RootChoice.{AsksFor};
-ghost use Rattle.krates_questions.specs.CrateTable.{IsPlaceAmong, IsPlaceOf};
+ghost use Rattle.krates_document.specs.CrateTable.{IsPlaceAmong, IsPlaceOf};
 
 mod contents;
 

@@ -9,10 +9,10 @@ ghost use Rattle.krates_questions.specs.ReferentPlace.{AnswersAs, AnswersBefore,
 use crate::library::is_library_rename;
 use crate::node_entry::NodeParts;
 use crate::questions::Document;
-use crate::sorted::in_order;
 use krates_cm::NodeDep;
 use krates_document::dependency_name::is_name_of;
 use krates_document::named_places::{NamedPlace, places_under};
+use krates_document::sorted::in_order;
 use krates_ids::{Kid, laws};
 use std::alloc::{AllocError, Global};
 

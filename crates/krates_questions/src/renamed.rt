@@ -2,13 +2,13 @@
 
 ghost use Rattle.std.specs.Prelude.{◌≡◌, ◌↔◌, ◌≤◌, IfOk, IsTrue, length, map, option_map};
 ghost use Rattle.krates_cm.specs.Document.{node_dep_view, node_view, package_view};
-ghost use Rattle.krates_questions.specs.CrateTable.{numbers_in};
+ghost use Rattle.krates_document.specs.CrateTable.{numbers_in};
 ghost use Rattle.krates_questions.specs.NameIndex.{lists_in};
 ghost use Rattle.krates_questions.specs.Renamed.{AreRenamed, AreRenamedIn, IsRenamed, IsRenamedAt, package_numbered};
 
-use crate::crate_table::CrateTable;
 use crate::library::is_library_rename;
 use krates_cm::{Node, NodeDep, Package};
+use krates_document::crate_table::CrateTable;
 use krates_document::folded_name::FoldedName;
 use krates_document::named_places::NamedPlace;
 use krates_ids::Kid;

@@ -12,14 +12,14 @@ use Rattle.krates_ids.specs.Identity.{Identity}
 use Rattle.krates_rules.specs.Facts.{Id}
 use Rattle.krates_rules.specs.Referent.{id_order}
 use Rattle.krates_rules.specs.Resolved.{NodeAt, id_of}
-use Rattle.krates_questions.specs.CrateTable.{AreNumbered, IsNumberOf}
+use Rattle.krates_document.specs.CrateTable.{AreNumbered, IsNumberOf}
 use Rattle.krates_questions.specs.Lookup.{IsLookup, IsNumberIn, resolved_view}
 use Rattle.krates_questions.specs.declared.lookup.Lookup.{Lookup}
 use Rattle.krates_rules.proofs.OnlyOne.{one_node_place}
 use Rattle.krates_rules.proofs.SeenInOrder.{equal_self, sorted_unseen}
 use Rattle.krates_rules.proofs.Standings.{contains_at}
 use Rattle.krates_questions.proofs.NodeParts.{node_here, nodes_long}
-use Rattle.krates_questions.proofs.NumberedPlaces.{id_order_total}
+use Rattle.krates_document.proofs.NumberedPlaces.{id_order_total}
 use Rattle.krates_search.proofs.LinkLemmas.{there_is}
 use Rattle.krates_resolve.specs.KeptCrates.{AreAt, AreKept, AreNodePlaces, ranks_from, there_in}
 
@@ -29,9 +29,9 @@ none_there : (n : ℕ) → there_in (replicate n None) ≡ []
 none_there zero = refl
 none_there (suc n) = none_there n
 
-pub no_places : (d : Lookup) → AreNodePlaces d [] (replicate (length d.table.ids.items) None)
+pub no_places : (d : Lookup) → AreNodePlaces d [] (replicate (length d.ids.now.table.ids.items) None)
 no_places d =
-    let n = length d.table.ids.items in
+    let n = length d.ids.now.table.ids.items in
     record {
       long = length-replicate n None;
       numbered = λ k p i at node. absurd (nothing n k p at);
@@ -79,10 +79,10 @@ node_there d p h lt =
     (id_of kid.0, node_here (resolved_view d) nodes p kid.0 h.ids.nodes kid.1)
 
 -- its number is that of a crate
-pub number_low : (d : Lookup) (p n : ℕ) → IsLookup d → p < length (resolved_view d).graph.nodes → ((i : Id) → NodeAt (resolved_view d) i p → IsNumberIn d i (Some n)) → n < length d.table.ids.items
+pub number_low : (d : Lookup) (p n : ℕ) → IsLookup d → p < length (resolved_view d).graph.nodes → ((i : Id) → NodeAt (resolved_view d) i p → IsNumberIn d i (Some n)) → n < length d.ids.now.table.ids.items
 number_low d p n h lt told =
     let node = node_there d p h lt in
-    subst (λ (m : ℕ). n < m) (length-map d.table.ids.items id_of) (slice_get_within (map id_of d.table.ids.items) n node.0 (told node.0 node.1))
+    subst (λ (m : ℕ). n < m) (length-map d.ids.now.table.ids.items id_of) (slice_get_within (map id_of d.ids.now.table.ids.items) n node.0 (told node.0 node.1))
 
 -- and it has one
 pub some_number : (o : Option ℕ) → IsSome o → ((n : ℕ) → o ≡ Some n → ⊥) → ⊥
@@ -242,16 +242,16 @@ picked_ids nodes (i ∷ ids) (Some p ∷ kept) (k ∷ kids) long at each =
 -- all of it
 pub kept_whole : (d : Lookup) (places : List ℕ) (kept : List (Option ℕ)) (kids : List Identity) (numbers : List (Option ℕ)) → IsLookup d → AreNodePlaces d places kept → AreRanked d.ids.now.nodes.items kept kids numbers → AreKept d places kids numbers
 kept_whole d places kept kids numbers h so ranked =
-    let ids = map id_of d.table.ids.items in
+    let ids = map id_of d.ids.now.table.ids.items in
     let nodes = d.ids.now.nodes.items in
-    let long : length kept ≡ length ids = so.long ∙ sym (length-map d.table.ids.items id_of) in
+    let long : length kept ≡ length ids = so.long ∙ sym (length-map d.ids.now.table.ids.items id_of) in
     let same = picked_ids nodes ids kept kids long ranked.0 (λ n p k at there. so.numbered n p (id_of k) at (node_here (resolved_view d) nodes p k h.ids.nodes there)) in
-    let numbered = picked_numbers [] ids kept long h.table.numbered (λ j c none. absurd (omega (arith, none.1))) in
+    let numbered = picked_numbers [] ids kept long d.ids.now.indexed.numbered (λ j c none. absurd (omega (arith, none.1))) in
     record {
       order = there_in kept;
       whole = so.whole;
       krates = ranked.0;
-      ascending = sorted_unseen id_order id_of kids (subst AreNumbered (sym same) (picked_ascend ids kept h.table.numbered));
+      ascending = sorted_unseen id_order id_of kids (subst AreNumbered (sym same) (picked_ascend ids kept d.ids.now.indexed.numbered));
       numbered = subst (AllZip (IsNumberOf (map id_of kids)) ids) (sym ranked.1) (subst (λ (js : List Id). AllZip (IsNumberOf js) ids (ranks_from 0 kept)) (sym same) numbered);
     }
 

@@ -4,7 +4,7 @@ use Rattle.std.specs.List.Sorted.{IsPermutation, IsStrictlySortedBy}
 use Rattle.krates_ids.specs.Identity.{Identity, id_cmp}
 use Rattle.krates_rules.specs.Facts.{Id}
 use Rattle.krates_rules.specs.Resolved.{NodeAt, id_of}
-use Rattle.krates_questions.specs.CrateTable.{AreNumbersOf}
+use Rattle.krates_document.specs.CrateTable.{AreNumbersOf}
 use Rattle.krates_questions.specs.Lookup.{IsNumberIn, resolved_view}
 use Rattle.krates_questions.specs.declared.lookup.Lookup.{Lookup}
 
@@ -26,7 +26,7 @@ ranks_from n (Some p ∷ places) = Some n ∷ ranks_from (n + 1) places
 
 -- by the numbers of their crates, these places of nodes
 pub record AreNodePlaces (d : Lookup) (places : List ℕ) (kept : List (Option ℕ)) : Type 0 where
-  pub long : length kept ≡ length d.table.ids.items
+  pub long : length kept ≡ length d.ids.now.table.ids.items
   pub numbered : (n p : ℕ) (i : Id) → slice_get kept n ≡ Some (Some p) → NodeAt (resolved_view d) i p → IsNumberIn d i (Some n)
   pub whole : IsPermutation places (there_in kept)
 
@@ -36,4 +36,4 @@ pub record AreKept (d : Lookup) (places : List ℕ) (kids : List Identity) (numb
   pub whole : IsPermutation places order
   pub krates : AreAt d.ids.now.nodes.items order kids
   pub ascending : IsStrictlySortedBy id_cmp kids
-  pub numbered : AreNumbersOf (map id_of kids) d.table.ids.items numbers
+  pub numbered : AreNumbersOf (map id_of kids) d.ids.now.table.ids.items numbers

@@ -7,7 +7,7 @@ ghost use Rattle.krates_selection.specs.Explained.{IsExplained, IsExplainedOf};
 ghost use Rattle.krates_document.specs.Ids.{ids_view};
 ghost use Rattle.krates_questions.specs.Lookup.{resolved_view};
 ghost use Rattle.krates_questions.specs.Context.{document_of};
-ghost use Rattle.krates_questions.specs.CrateTable.{AreNumbersOf};
+ghost use Rattle.krates_document.specs.CrateTable.{AreNumbersOf};
 ghost use Rattle.krates_resolve.specs.Counting.{HasCountedAll};
 ghost use Rattle.krates_search.specs.SearchState.{IsSound};
 ghost use Rattle.krates_resolve.specs.Saturation.{HasExactly};
@@ -80,7 +80,7 @@ pub fn select_in<'a>(
     ensures selected { IfOk result (λ x. IsSelection (resolved_view document.now) setting.now x.selection) }
     ensures explained { IfOk result (λ x. IsExplained (resolved_view document.now) setting.now x.selection) }
     ensures numbered { IfOk result (λ x. AreNumbersOf (map id_of x.selection.krates.items)
-        document.now.table.ids.items x.numbers.items) }
+        document.now.ids.now.table.ids.items x.numbers.items) }
     ensures refused { IfErr result (SelectionRefusal (questions (resolved_view document.now) setting.now)) }
     ensures named { IfErr result (NamesIdsOf (resolved_view document.now)) }
 {
@@ -111,7 +111,7 @@ fn selection_of<'a>(
     requires some { 0 < length found.now.krates.put }
     ensures selected { IfOk result (λ x. IsSelection (document_of context.now) context.now.setting.now x.selection) }
     ensures numbered { IfOk result (λ x. AreNumbersOf (map id_of x.selection.krates.items)
-        context.now.document.now.table.ids.items x.numbers.items) }
+        context.now.document.now.ids.now.table.ids.items x.numbers.items) }
 {
     context.document.agrees();
     laws::one_reading();

@@ -7,8 +7,8 @@ ghost use Rattle.krates_search.specs.KeptEdges.{AreInOrder, HasKeptNodes, IsCopy
 ghost use Rattle.krates_selection.specs.KeptTables.{document_in, kids_in};
 
 use crate::found_edge::FoundEdge;
+use krates_document::sorted::in_order;
 use krates_ids::laws;
-use krates_questions::sorted::in_order;
 use krates_selection::kept_tables::KeptTables;
 use krates_selection::selection::KeptEdge;
 use std::alloc::AllocError;

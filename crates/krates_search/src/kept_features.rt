@@ -6,8 +6,8 @@ ghost use Rattle.krates_questions.specs.ListedFeatures.{listed_features};
 ghost use Rattle.krates_search.specs.KeptFeatures.{AreSorted, HasKeptHome, IsFeatureOf};
 ghost use Rattle.krates_selection.specs.KeptTables.{document_in, kids_in};
 
+use krates_document::sorted::in_order;
 use krates_ids::laws;
-use krates_questions::sorted::in_order;
 use krates_selection::kept_tables::KeptTables;
 use krates_selection::selection::EnabledFeature;
 use std::alloc::AllocError;

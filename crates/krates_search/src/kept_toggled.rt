@@ -6,8 +6,8 @@ ghost use Rattle.krates_selection.specs.KeptTables.{document_in, kids_in};
 ghost use Rattle.krates_search.specs.KeptToggled.{AreToggled, HasKeptCrates, IsToggleCopy};
 
 use crate::found_toggle::FoundToggle;
+use krates_document::sorted::in_order;
 use krates_ids::laws;
-use krates_questions::sorted::in_order;
 use krates_selection::kept_tables::KeptTables;
 use krates_selection::selection::ToggledFeature;
 use std::alloc::AllocError;

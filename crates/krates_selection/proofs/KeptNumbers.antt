@@ -11,7 +11,7 @@ use Rattle.krates_selection.specs.declared.kept_tables.KeptTables.{KeptTables}
 use Rattle.krates_selection.proofs.FactPlaces.{zip_long}
 use Rattle.krates_ids.specs.Identity.{Identity}
 use Rattle.krates_questions.proofs.Lookups.{one_id}
-use Rattle.krates_questions.specs.CrateTable.{IsNumberOf, at_number}
+use Rattle.krates_document.specs.CrateTable.{IsNumberOf, at_number}
 use Rattle.krates_questions.specs.Lookup.{IsNumberIn}
 use Rattle.krates_rules.proofs.Readings.{ReadsOnce, right_of}
 use Rattle.krates_rules.specs.Facts.{Id}
@@ -39,7 +39,7 @@ has_number kids i (Some n) kept h = record {
 kept_number : (t : KeptTables) (i : Id) (number answer : Option ℕ) → IsKeptIn (kids_in t) i → IsSome number → IsNumberIn t.context.document.now i number → answer ≡ at_number t.numbers.now number → HasNumber t.krates.now i answer
 kept_number t i None answer kept some n is = absurd cc
 kept_number t i (Some m) answer kept some n is =
-    let ids = t.context.document.now.table.ids.items in
+    let ids = t.context.document.now.ids.now.table.ids.items in
     let kids = map id_of t.krates.now in
     let w = right_of (IsNumberOf kids) (map id_of ids) t.numbers.now m i t.numbered n in
     let answered : w.0 ≡ answer = sym (is ∙ get_or_from_slice_get t.numbers.now m w.0 None w.1) in
@@ -49,7 +49,7 @@ kept_number t i (Some m) answer kept some n is =
 pub number_within : (t : KeptTables) (i : Id) (number : Option ℕ) → IsNumberIn t.context.document.now i number → IfSome number (λ n. n < length t.numbers.now)
 number_within t i None n = tt
 number_within t i (Some m) n =
-    let ids = t.context.document.now.table.ids.items in
+    let ids = t.context.document.now.ids.now.table.ids.items in
     let long = zip_long (IsNumberOf (map id_of t.krates.now)) (map id_of ids) t.numbers.now t.numbered in
     omega (arith, slice_get_within (map id_of ids) m i n, length-map ids id_of, long)
 

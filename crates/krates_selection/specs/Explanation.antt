@@ -8,7 +8,7 @@ use Rattle.krates_selection.specs.KeptFacts.{IsBelow, KeptModel, kept_view, step
 use Rattle.krates_selection.specs.declared.kept.Explanation.{Explanation}
 use Rattle.krates_selection.specs.declared.kept.KeptStep.{KeptStep}
 use Rattle.krates_ids.specs.Identity.{Identity}
-use Rattle.krates_questions.specs.CrateTable.{lent_to}
+use Rattle.krates_document.specs.CrateTable.{lent_to}
 use Rattle.krates_rules.specs.Questions.{questions}
 use Rattle.krates_rules.specs.Resolved.{Resolved}
 use Rattle.krates_rules.specs.Setting.{SettingModel}

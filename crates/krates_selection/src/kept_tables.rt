@@ -3,9 +3,9 @@
 ghost use Rattle.std.proofs.Props.{props};
 ghost use Rattle.std.specs.List.Sorted.{IsStrictlySortedBy};
 ghost use Rattle.std.specs.Prelude.{map};
+ghost use Rattle.krates_document.specs.CrateTable.{AreNumbersOf};
+ghost use Rattle.krates_document.specs.NumberedOnce.{numbers_once};
 ghost use Rattle.krates_ids.specs.Identity.{id_cmp};
-ghost use Rattle.krates_questions.proofs.NumberedOnce.{numbers_once};
-ghost use Rattle.krates_questions.specs.CrateTable.{AreNumbersOf};
 ghost use Rattle.krates_rules.specs.Resolved.{id_of};
 
 use crate::key::{FeatureKey, KeptEdgeKey, KeptFactKey, ToggleKey};
@@ -30,7 +30,7 @@ pub struct KeptTables<'a, 's> {
     /// The kept crates are in order, each once.
     pub ghost ascending: { IsStrictlySortedBy id_cmp krates.now } by { Prim.hlevel props },
     /// The numbers are those among them of the crates of the document.
-    pub ghost numbered: { AreNumbersOf (map id_of krates.now) context.document.now.table.ids.items numbers.now } by { numbers_once _ _ _ },
+    pub ghost numbered: { AreNumbersOf (map id_of krates.now) context.document.now.ids.now.table.ids.items numbers.now } by { numbers_once _ _ _ },
 }
 
 impl<'a, 's> KeptTables<'a, 's> {
@@ -49,7 +49,7 @@ impl<'a, 's> KeptTables<'a, 's> {
         numbers: &'s [Option<usize>],
     ) -> KeptTables<'a, 's>
         requires ascending { IsStrictlySortedBy id_cmp krates.now }
-        requires numbered { AreNumbersOf (map id_of krates.now) context.document.now.table.ids.items numbers.now }
+        requires numbered { AreNumbersOf (map id_of krates.now) context.document.now.ids.now.table.ids.items numbers.now }
         ensures context { result.context ≡ context.entry }
         ensures krates { result.krates.now ≡ krates.now }
         ensures numbers { result.numbers.now ≡ numbers.now }

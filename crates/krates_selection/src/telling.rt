@@ -3,7 +3,7 @@
 ghost use Rattle.std.specs.Prelude.{◌≡◌, ◌<◌, Contains, IfOk, length};
 ghost use Rattle.krates_selection.specs.Explanation.{HasTheseIds};
 ghost use Rattle.krates_selection.specs.KeptFacts.{IsBelow, fact_in, kept_view};
-ghost use Rattle.krates_questions.specs.CrateTable.{lent_to};
+ghost use Rattle.krates_document.specs.CrateTable.{lent_to};
 ghost use Rattle.krates_selection.specs.CrateNumbers.{id_at};
 ghost use Rattle.krates_rules.specs.Resolved.{id_of};
 ghost use Rattle.krates_rules.specs.StepViews.{fact_view};

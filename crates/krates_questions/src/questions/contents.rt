@@ -63,9 +63,9 @@ impl<'a> Document<'a> {
 
     /// The ids of all crates, by number: in their order, each once. Time O(1).
     pub fn crate_ids(&self) -> &[Kid]
-        ensures { result.now ≡ self.now.table.ids.items }
+        ensures { result.now ≡ self.now.ids.now.table.ids.items }
     {
-        &self.lookup.table.ids
+        &self.lookup.ids.table.ids
     }
 
     /// How many features the nodes list: their numbers are the places below it. Time O(1).

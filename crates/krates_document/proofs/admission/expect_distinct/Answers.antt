@@ -1,5 +1,4 @@
 use Rattle.std.proofs.Common.{◌≡◌, ◌∙◌, sym, refl, subst, true, false, arith, length, ◌<◌}
-use Rattle.krates_ids.specs.Identity.{Identity}
 use Rattle.krates_document.specs.AdmissionSteps.{HasDoubled}
 use Rattle.krates_rules.proofs.DistinctIds.{has_seen, seen_more, distinct_more, distinct_all, seen_twice, not_false, not_true}
 use Rattle.krates_document.proofs.admission.expect_distinct.Goals as goal

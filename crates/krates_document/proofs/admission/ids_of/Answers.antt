@@ -7,7 +7,7 @@ use Rattle.krates_cm.specs.declared.package.Package.{Package}
 use Rattle.krates_ids.specs.Identity.{Reads}
 use Rattle.krates_rules.specs.Admission.{AreDepIds, package_texts, node_texts, of_package, of_node}
 use Rattle.krates_document.specs.AdmissionSteps.{UnreadRefusal, InvalidNodeRefusal}
-use Rattle.krates_document.specs.Ids.{kids_in}
+use Rattle.krates_document.specs.IdLists.{kids_in}
 use Rattle.krates_document.proofs.AdmissionLemmas.{package_texts_of, node_texts_of, unread_bad, node_bad}
 use Rattle.krates_document.proofs.admission.ids_of.Goals as goal
 

@@ -8,7 +8,7 @@ use Rattle.krates_cm.specs.declared.resolve.NodeDep.{NodeDep}
 use Rattle.krates_ids.specs.Identity.{Reads}
 use Rattle.krates_rules.specs.Admission.{AreDepIds, HasThisVersion, dep_texts}
 use Rattle.krates_document.specs.AdmissionSteps.{InvalidDepRefusal}
-use Rattle.krates_document.specs.Ids.{kids_in, versions_in}
+use Rattle.krates_document.specs.IdLists.{kids_in, versions_in}
 use Rattle.krates_document.proofs.AdmissionLemmas.{bad_node, dep_texts_of, have_versions}
 use Rattle.krates_rules.proofs.Zips.{zip_next, zip_all, zip_push, one_seen}
 use Rattle.krates_document.proofs.admission.read_deps.Goals as goal

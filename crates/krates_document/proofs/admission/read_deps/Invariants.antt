@@ -1,7 +1,7 @@
 use Rattle.std.proofs.Common.{map, take}
 use Rattle.std.specs.List.{AllZip}
 use Rattle.krates_cm.specs.Document.{node_view}
-use Rattle.krates_document.specs.Ids.{kids_in, versions_in}
+use Rattle.krates_document.specs.IdLists.{kids_in, versions_in}
 use Rattle.krates_rules.specs.Admission.{AreDepIds, HasThisVersion}
 use Rattle.krates_document.proofs.admission.read_deps.Given as goal
 

@@ -8,10 +8,10 @@ use Rattle.krates_ids.specs.Identity.{Identity}
 use Rattle.krates_questions.specs.FeatureTable.{listed_in}
 use Rattle.krates_questions.specs.ListedFeatures.{features_from}
 use Rattle.krates_document.specs.declared.named_places.NamedPlace.{NamedPlace}
-use Rattle.krates_questions.specs.CrateTable.{AreNumbersOf, numbers_in}
+use Rattle.krates_document.specs.CrateTable.{AreNumbersOf, numbers_in}
 use Rattle.krates_questions.specs.NameIndex.{IsNameIndex, lists_in}
 use Rattle.krates_questions.specs.Renamed.{AreRenamedIn}
-use Rattle.krates_questions.specs.declared.crate_table.CrateTable.{CrateTable}
+use Rattle.krates_document.specs.declared.crate_table.CrateTable.{CrateTable}
 use Rattle.krates_questions.specs.declared.name_index.NameIndex.{NameIndex}
 use Rattle.krates_questions.proofs.NodeParts.{long_zip}
 use Rattle.krates_rules.specs.Admission.{AreDepIds}
@@ -36,11 +36,11 @@ pub renamed_by_name-requires-clause-numbers : goal.renamed_by_name-requires-clau
 renamed_by_name-requires-clause-numbers c =
     let nodes = c.args.resolve.now.nodes.items in
     let lists = c.args.ids.now.deps.items in
-    let t = c.in_ok-table.table in
+    let t = c.args.ids.now.table in
     let items : Vec Identity → List Identity = λ v. v.items in
     let own : Vec (Option ℕ) → List (Option ℕ) = λ v. v.items in
     let long = long_zip AreDepIds (map node_view nodes) (map items lists) c.requires.read.deps in
-    let numbers = long_zip (AreNumbersOf (map id_of t.ids.items)) (map items lists) (numbers_in t.dep_numbers) c.in_ok-table.ensures.dep_numbers in
+    let numbers = long_zip (AreNumbersOf (map id_of t.ids.items)) (map items lists) (numbers_in t.dep_numbers) c.args.ids.now.indexed.dep_numbers in
     omega (arith, long, numbers, length-map nodes node_view, length-map t.dep_numbers.items own, ap length c.deref-6.ensures.value)
 
 pub returns-clause-lookup : goal.returns-clause-lookup
@@ -48,14 +48,13 @@ returns-clause-lookup c =
     let names = c.in_ok-names.names in
     let of_ids = subst (λ (ks : List (Vec Identity)). IsIndexOf c.deref-2.result.now c.deref-3.result.now ks names) c.deref-4.ensures.value c.in_ok-names.ensures in
     let of_nodes = subst (λ (ns : List Node). IsIndexOf c.deref-2.result.now ns c.args.ids.now.deps.items names) c.deref-3.ensures.value of_ids in
-    let t = c.in_ok-table.table in
+    let t = c.args.ids.now.table in
     let renamed = c.in_ok-renamed.renamed in
     let by_ids = subst (λ (ks : List (Vec Identity)). IsRenamedOf t renamed c.deref-5.result.now c.deref-6.result.now ks) c.deref-7.ensures.value c.in_ok-renamed.ensures in
     let by_nodes = subst (λ (ns : List Node). IsRenamedOf t renamed c.deref-5.result.now ns c.args.ids.now.deps.items) c.deref-6.ensures.value by_ids in
     record {
       ids = c.requires.read;
       distinct = c.requires.distinct;
-      table = c.in_ok-table.ensures;
       features = subst (λ (ns : List Node). listed_in c.in_ok-features.features ≡ features_from 0 (map node_view ns)) c.deref.ensures.value c.in_ok-features.ensures.listed;
       numbered = c.in_ok-features.ensures.numbered;
       names = subst (λ (ps : List Package). IsIndexOf ps c.args.resolve.now.nodes.items c.args.ids.now.deps.items names) c.deref-2.ensures.value of_nodes;

@@ -5,7 +5,7 @@ use Rattle.std.specs.Global.{Vec}
 use Rattle.krates_cm.specs.Document.{node_dep_view, node_view, package_view}
 use Rattle.krates_cm.specs.declared.resolve.NodeDep.{NodeDep}
 use Rattle.krates_ids.specs.Identity.{Identity}
-use Rattle.krates_questions.specs.CrateTable.{numbers_in}
+use Rattle.krates_document.specs.CrateTable.{numbers_in}
 use Rattle.krates_questions.specs.NameIndex.{lists_in}
 use Rattle.krates_questions.specs.Renamed.{AreRenamed}
 use Rattle.krates_questions.proofs.RenamedPlaces.{all_listed, list_more, none_listed}

@@ -2,7 +2,7 @@ use Rattle.std.proofs.Common.{map}
 use Rattle.std.specs.Global.{Vec}
 use Rattle.krates_cm.specs.Document.{node_view, package_view}
 use Rattle.krates_ids.specs.Identity.{Identity}
-use Rattle.krates_questions.specs.CrateTable.{numbers_in}
+use Rattle.krates_document.specs.CrateTable.{numbers_in}
 use Rattle.krates_questions.specs.NameIndex.{lists_in}
 use Rattle.krates_questions.proofs.RenamedPlaces.{RenamedBelow}
 use Rattle.krates_questions.proofs.renamed.renamed_by_name.Given as goal

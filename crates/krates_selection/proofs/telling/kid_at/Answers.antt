@@ -1,7 +1,7 @@
 use Rattle.std.proofs.Common.{◌≡◌, ◌<◌, ℕ, Bor, List, Contains, length, get_or, sym, ap, subst, ◌∙◌, arith, Result, Ok, Err, IfOk, MatchResult}
 use Rattle.std.proofs.lemmas.List.{get_or-map, length-map}
 use Rattle.krates_ids.specs.Identity.{Identity}
-use Rattle.krates_questions.specs.CrateTable.{lent_to}
+use Rattle.krates_document.specs.CrateTable.{lent_to}
 use Rattle.krates_rules.specs.Resolved.{id_of}
 use Rattle.krates_selection.specs.CrateNumbers.{id_at, no_id}
 use Rattle.krates_selection.proofs.telling.kid_at.Goals as goal
