@@ -80,7 +80,7 @@ pub mod index {
 /// Which documents can be resolved, what is kept of them, and what they answer to the questions of the rules.
 pub mod resolve {
     pub use krates_resolve::{
-        Availability, Document, EnabledFeature, Ids, KeptEdge, Need, NumberedFact, NumberedStep,
-        Reason, Selection, Setting, ToggledFeature, Work, admit, select,
+        Availability, Document, EnabledFeature, Ids, KeptEdge, Need, NodePlace, NumberedFact,
+        NumberedStep, Reason, Selection, Setting, ToggledFeature, Work, admit, select,
     };
 }

@@ -10,10 +10,14 @@ use std::test::Fail;
 /// Adds a fact by its numbers.
 fn push_fact(text: &mut String, fact: NumberedFact) -> Result<(), AllocError> {
     match fact {
-        NumberedFact::Crate { place } => write!(text, "crate {place}")?,
+        NumberedFact::Crate { place } => write!(text, "crate {}", place.index)?,
         NumberedFact::Feature { number } => write!(text, "feature {number}")?,
-        NumberedFact::Kept { place, index, kind } => write!(text, "edge {place}.{index}.{kind}")?,
-        NumberedFact::Toggled { place, number } => write!(text, "toggled {number} by {place}")?,
+        NumberedFact::Kept { place, index, kind } => {
+            write!(text, "edge {}.{index}.{kind}", place.index)?
+        }
+        NumberedFact::Toggled { place, number } => {
+            write!(text, "toggled {number} by {}", place.index)?
+        }
     }
     Ok(())
 }

@@ -15,6 +15,7 @@ use Rattle.krates_rules.specs.Resolved.{NodeAt, id_of}
 use Rattle.krates_document.specs.CrateTable.{AreNumbered, IsNumberOf}
 use Rattle.krates_questions.specs.Lookup.{IsLookup, IsNumberIn, resolved_view}
 use Rattle.krates_questions.specs.declared.lookup.Lookup.{Lookup}
+use Rattle.krates_questions.specs.declared.node_place.NodePlace.{NodePlace}
 use Rattle.krates_rules.proofs.OnlyOne.{one_node_place}
 use Rattle.krates_rules.proofs.SeenInOrder.{equal_self, sorted_unseen}
 use Rattle.krates_rules.proofs.Standings.{contains_at}
@@ -38,30 +39,30 @@ no_places d =
       whole = subst (IsPermutation []) (sym (none_there n)) (IsPermutation-refl []);
     }
   where
-    nothing : (n k p : ℕ) → slice_get (replicate n None) k ≡ Some (Some p) → ⊥
+    nothing : (n k : ℕ) (p : NodePlace) → slice_get (replicate n None) k ≡ Some (Some p) → ⊥
     nothing zero k p at = cc at
     nothing (suc n) zero p at = cc at
     nothing (suc n) (suc k) p at = nothing n k p at
 
 -- what stands at a number is there
-there : (kept : List (Option ℕ)) (n p : ℕ) → slice_get kept n ≡ Some (Some p) → Contains (there_in kept) p
+there : (kept : List (Option NodePlace)) (n : ℕ) (p : NodePlace) → slice_get kept n ≡ Some (Some p) → Contains (there_in kept) p.index
 there [] n p at = absurd (cc at)
 there (None ∷ kept) zero p at = absurd (cc at)
-there (Some q ∷ kept) zero p at = (zero, omega arith, same_Some q p (same_Some (Some q) (Some p) at))
+there (Some q ∷ kept) zero p at = (zero, omega arith, ap (λ (x : NodePlace). x.index) (same_Some q p (same_Some (Some q) (Some p) at)))
 there (None ∷ kept) (suc n) p at = there kept n p at
-there (Some q ∷ kept) (suc n) p at = Contains-append_right (q ∷ []) (there_in kept) p (there kept n p at)
+there (Some q ∷ kept) (suc n) p at = Contains-append_right (q.index ∷ []) (there_in kept) p.index (there kept n p at)
 
 -- one more is there
-there_more : (kept : List (Option ℕ)) (n p : ℕ) → slice_get kept n ≡ Some None → IsPermutation (p ∷ there_in kept) (there_in (set kept n (Some p)))
+there_more : (kept : List (Option NodePlace)) (n : ℕ) (p : NodePlace) → slice_get kept n ≡ Some None → IsPermutation (p.index ∷ there_in kept) (there_in (set kept n (Some p)))
 there_more [] n p at = absurd (cc at)
-there_more (None ∷ kept) zero p at = IsPermutation-refl (p ∷ there_in kept)
+there_more (None ∷ kept) zero p at = IsPermutation-refl (p.index ∷ there_in kept)
 there_more (Some q ∷ kept) zero p at = absurd (cc at)
 there_more (None ∷ kept) (suc n) p at = there_more kept n p at
 there_more (Some q ∷ kept) (suc n) p at =
-    IsPermutation-trans _ _ _ (IsPermutation-append_left (there_in kept) (p ∷ q ∷ []) (q ∷ p ∷ []) (IsPermutation-append_comm (p ∷ []) (q ∷ []))) (IsPermutation-cons q _ _ (there_more kept n p at))
+    IsPermutation-trans _ _ _ (IsPermutation-append_left (there_in kept) (p.index ∷ q.index ∷ []) (q.index ∷ p.index ∷ []) (IsPermutation-append_comm (p.index ∷ []) (q.index ∷ []))) (IsPermutation-cons q.index _ _ (there_more kept n p at))
 
 -- what stands at a number once a place was put at one
-put_cases : (kept : List (Option ℕ)) (n m p q : ℕ) → slice_get (set kept n (Some p)) m ≡ Some (Some q) → ((m ≡ n) × (q ≡ p)) ⊎ (slice_get kept m ≡ Some (Some q))
+put_cases : (kept : List (Option NodePlace)) (n m : ℕ) (p q : NodePlace) → slice_get (set kept n (Some p)) m ≡ Some (Some q) → ((m ≡ n) × (q ≡ p)) ⊎ (slice_get kept m ≡ Some (Some q))
 put_cases [] n m p q at = inr at
 put_cases (o ∷ kept) zero zero p q at = inl (refl, sym (same_Some p q (same_Some (Some p) (Some q) at)))
 put_cases (o ∷ kept) zero (suc m) p q at = inr at
@@ -90,63 +91,64 @@ some_number None some none = cc some
 some_number (Some n) some none = none n refl
 
 -- no other place was put at the number of a place
-fresh : (d : Lookup) (places : List ℕ) (k n p : ℕ) (kept : List (Option ℕ)) → IsLookup d → All (λ q. q < length (resolved_view d).graph.nodes) places → AllPairs (λ a b. a ≢ b) places → k < length places → p ≡ get_or places k p
+fresh : (d : Lookup) (places : List ℕ) (k n p : ℕ) (kept : List (Option NodePlace)) → IsLookup d → All (λ q. q < length (resolved_view d).graph.nodes) places → AllPairs (λ a b. a ≢ b) places → k < length places → p ≡ get_or places k p
     → ((i : Id) → NodeAt (resolved_view d) i p → IsNumberIn d i (Some n)) → AreNodePlaces d (take k places) kept → n < length kept → slice_get kept n ≡ Some None
 fresh d places k n p kept h within once lt is told so low = elim (slice_get_cases kept n).1 [
   | inl w ↦ free w.0 w.2
   | inr w ↦ absurd (omega (arith, low, w.0))
 ]
   where
-    taken : (q : ℕ) → slice_get kept n ≡ Some (Some q) → ⊥
-    taken q at =
-        let c = Contains-permutation (there_in kept) (take k places) q (IsPermutation-sym (take k places) (there_in kept) so.whole) (there kept n q at) in
+    taken : (there_at : NodePlace) → slice_get kept n ≡ Some (Some there_at) → ⊥
+    taken there_at at =
+        let q = there_at.index in
+        let c = Contains-permutation (there_in kept) (take k places) q (IsPermutation-sym (take k places) (there_in kept) so.whole) (there kept n there_at at) in
         let early : c.0 < k = omega (arith, c.1, length-take-le k places (omega (arith, lt))) in
         let here : get_or places c.0 q ≡ q = sym (get_or-take k places c.0 q early) ∙ c.2 in
         let a = node_there d q h (subst (λ (m : ℕ). m < length (resolved_view d).graph.nodes) here (within c.0 q (omega (arith, early, lt)))) in
         let b = node_there d p h (subst (λ (m : ℕ). m < length (resolved_view d).graph.nodes) (sym is) (within k p lt)) in
-        let id : b.0 ≡ a.0 = same_Some b.0 a.0 (sym (told b.0 b.1) ∙ so.numbered n q a.0 at a.1) in
+        let id : b.0 ≡ a.0 = same_Some b.0 a.0 (sym (told b.0 b.1) ∙ so.numbered n there_at a.0 at a.1) in
         let e : q ≡ p = one_node_place (resolved_view d) a.0 q p h.distinct a.1 (subst (λ (i : Id). NodeAt (resolved_view d) i p) id b.1) in
         once c.0 k p early lt (subst (λ (m : ℕ). get_or places c.0 m ≡ m) e here ∙ is)
 
-    free : (o : Option ℕ) → slice_get kept n ≡ Some o → slice_get kept n ≡ Some None
+    free : (o : Option NodePlace) → slice_get kept n ≡ Some o → slice_get kept n ≡ Some None
     free None at = at
     free (Some q) at = absurd (taken q at)
 
 -- one more place is put
-pub put_place : (d : Lookup) (places : List ℕ) (k n p : ℕ) (kept : List (Option ℕ)) → IsLookup d → All (λ q. q < length (resolved_view d).graph.nodes) places → AllPairs (λ a b. a ≢ b) places → k < length places → p ≡ get_or places k p
-    → ((i : Id) → NodeAt (resolved_view d) i p → IsNumberIn d i (Some n)) → n < length kept → AreNodePlaces d (take k places) kept → AreNodePlaces d (take (k + 1) places) (set kept n (Some p))
+pub put_place : (d : Lookup) (places : List ℕ) (k n : ℕ) (p : NodePlace) (kept : List (Option NodePlace)) → IsLookup d → All (λ q. q < length (resolved_view d).graph.nodes) places → AllPairs (λ a b. a ≢ b) places → k < length places → p.index ≡ get_or places k p.index
+    → ((i : Id) → NodeAt (resolved_view d) i p.index → IsNumberIn d i (Some n)) → n < length kept → AreNodePlaces d (take k places) kept → AreNodePlaces d (take (k + 1) places) (set kept n (Some p))
 put_place d places k n p kept h within once lt is told low so =
     let more = set kept n (Some p) in
-    let shuffled = IsPermutation-push_more (take k places) (there_in kept) (there_in more) p so.whole (there_more kept n p (fresh d places k n p kept h within once lt is told so low)) in
+    let shuffled = IsPermutation-push_more (take k places) (there_in kept) (there_in more) p.index so.whole (there_more kept n p (fresh d places k n p.index kept h within once lt is told so low)) in
     record {
       long = length-set kept n (Some p) ∙ so.long;
       numbered = λ m q i at node. elim (put_cases kept n m p q at) [
-        | inl w ↦ subst (λ (j : ℕ). IsNumberIn d i (Some j)) (sym w.0) (told i (subst (NodeAt (resolved_view d) i) w.1 node))
+        | inl w ↦ subst (λ (j : ℕ). IsNumberIn d i (Some j)) (sym w.0) (told i (subst (λ (x : NodePlace). NodeAt (resolved_view d) i x.index) w.1 node))
         | inr w ↦ so.numbered m q i w node
       ];
-      whole = subst (λ (ps : List ℕ). IsPermutation ps (there_in more)) (sym (take_more places k p lt ∙ ap (λ (x : ℕ). take k places ++ x ∷ []) (sym is))) shuffled;
+      whole = subst (λ (ps : List ℕ). IsPermutation ps (there_in more)) (sym (take_more places k p.index lt ∙ ap (λ (x : ℕ). take k places ++ x ∷ []) (sym is))) shuffled;
     }
 
 -- ---- gone over
 
 -- each is a place of a node
-pub place_low : (d : Lookup) (places : List ℕ) (kept : List (Option ℕ)) (k p : ℕ) → IsLookup d → All (λ q. q < length (resolved_view d).graph.nodes) places → AreNodePlaces d places kept → k < length kept → get_or kept k None ≡ Some p
-    → p < length d.ids.now.nodes.items
+pub place_low : (d : Lookup) (places : List ℕ) (kept : List (Option NodePlace)) (k : ℕ) (p : NodePlace) → IsLookup d → All (λ q. q < length (resolved_view d).graph.nodes) places → AreNodePlaces d places kept → k < length kept → get_or kept k None ≡ Some p
+    → p.index < length d.ids.now.nodes.items
 place_low d places kept k p h within so lt is =
     let below : ℕ → Type 0 = λ q. q < length (resolved_view d).graph.nodes in
-    let low = All-contains below (there_in kept) p (All-permutation below places (there_in kept) so.whole within) (there kept k p (slice_get-get_or kept k None lt ∙ ap (λ (o : Option ℕ). Some o) is)) in
-    subst (λ (m : ℕ). p < m) (nodes_long d h).0 low
+    let low = All-contains below (there_in kept) p.index (All-permutation below places (there_in kept) so.whole within) (there kept k p (slice_get-get_or kept k None lt ∙ ap (λ (o : Option NodePlace). Some o) is)) in
+    subst (λ (m : ℕ). p.index < m) (nodes_long d h).0 low
 
 -- the ids are those at the places that are there, and each of them has its rank
-abbrev pub AreRanked : List Identity → List (Option ℕ) → List Identity → List (Option ℕ) → Type 0
+abbrev pub AreRanked : List Identity → List (Option NodePlace) → List Identity → List (Option ℕ) → Type 0
 AreRanked ids kept kids numbers = AreAt ids (there_in kept) kids × (numbers ≡ ranks_from 0 kept)
 
-there_push : (kept : List (Option ℕ)) (o : Option ℕ) → there_in (kept ++ o ∷ []) ≡ there_in kept ++ there_in (o ∷ [])
+there_push : (kept : List (Option NodePlace)) (o : Option NodePlace) → there_in (kept ++ o ∷ []) ≡ there_in kept ++ there_in (o ∷ [])
 there_push [] o = refl
 there_push (None ∷ kept) o = there_push kept o
-there_push (Some p ∷ kept) o = ap (λ (ps : List ℕ). p ∷ ps) (there_push kept o)
+there_push (Some p ∷ kept) o = ap (λ (ps : List ℕ). p.index ∷ ps) (there_push kept o)
 
-ranks_push : (n : ℕ) (kept : List (Option ℕ)) (o : Option ℕ) → ranks_from n (kept ++ o ∷ []) ≡ ranks_from n kept ++ ranks_from (n + length (there_in kept)) (o ∷ [])
+ranks_push : (n : ℕ) (kept : List (Option NodePlace)) (o : Option NodePlace) → ranks_from n (kept ++ o ∷ []) ≡ ranks_from n kept ++ ranks_from (n + length (there_in kept)) (o ∷ [])
 ranks_push n [] o = ap (λ (m : ℕ). ranks_from m (o ∷ [])) (omega arith)
 ranks_push n (None ∷ kept) o = ap (λ (rs : List (Option ℕ)). None ∷ rs) (ranks_push n kept o)
 ranks_push n (Some p ∷ kept) o =
@@ -156,20 +158,20 @@ kids_long : (ids : List Identity) (places : List ℕ) (kids : List Identity) →
 kids_long ids places kids at = sym (length-map kids (λ (k : Identity). Some k)) ∙ ap length (sym at) ∙ length-map places (slice_get ids)
 
 -- a crate that isn't kept
-pub ranked_none : (ids : List Identity) (kept : List (Option ℕ)) (k : ℕ) (kids : List Identity) (numbers : List (Option ℕ)) → k < length kept → get_or kept k None ≡ None → AreRanked ids (take k kept) kids numbers
+pub ranked_none : (ids : List Identity) (kept : List (Option NodePlace)) (k : ℕ) (kids : List Identity) (numbers : List (Option ℕ)) → k < length kept → get_or kept k None ≡ None → AreRanked ids (take k kept) kids numbers
     → AreRanked ids (take (k + 1) kept) kids (numbers ++ None ∷ [])
 ranked_none ids kept k kids numbers lt is so =
-    subst (λ (os : List (Option ℕ)). AreRanked ids os kids (numbers ++ None ∷ [])) (sym (take_more kept k None lt ∙ ap (λ (o : Option ℕ). take k kept ++ o ∷ []) is))
+    subst (λ (os : List (Option NodePlace)). AreRanked ids os kids (numbers ++ None ∷ [])) (sym (take_more kept k None lt ∙ ap (λ (o : Option NodePlace). take k kept ++ o ∷ []) is))
     (subst (λ (ps : List ℕ). AreAt ids ps kids) (sym (there_push (take k kept) None ∙ append-nil (there_in (take k kept)))) so.0, ap (λ (rs : List (Option ℕ)). rs ++ None ∷ []) so.1 ∙ sym (ranks_push 0 (take k kept) None))
 
 -- one that is
-pub ranked_some : (ids : List Identity) (kept : List (Option ℕ)) (k p : ℕ) (kid : Identity) (kids : List Identity) (numbers : List (Option ℕ)) → k < length kept → get_or kept k None ≡ Some p → slice_get ids p ≡ Some kid
+pub ranked_some : (ids : List Identity) (kept : List (Option NodePlace)) (k : ℕ) (p : NodePlace) (kid : Identity) (kids : List Identity) (numbers : List (Option ℕ)) → k < length kept → get_or kept k None ≡ Some p → slice_get ids p.index ≡ Some kid
     → AreRanked ids (take k kept) kids numbers → AreRanked ids (take (k + 1) kept) (kids ++ kid ∷ []) (numbers ++ Some (length kids) ∷ [])
 ranked_some ids kept k p kid kids numbers lt is at so =
     let early = take k kept in
     let long = kids_long ids (there_in early) kids so.0 in
-    subst (λ (os : List (Option ℕ)). AreRanked ids os (kids ++ kid ∷ []) (numbers ++ Some (length kids) ∷ [])) (sym (take_more kept k None lt ∙ ap (λ (o : Option ℕ). early ++ o ∷ []) is)) (
-      ap (map (slice_get ids)) (there_push early (Some p)) ∙ map-append (slice_get ids) (there_in early) (p ∷ []) ∙ ap (λ (os : List (Option Identity)). os ++ slice_get ids p ∷ []) so.0
+    subst (λ (os : List (Option NodePlace)). AreRanked ids os (kids ++ kid ∷ []) (numbers ++ Some (length kids) ∷ [])) (sym (take_more kept k None lt ∙ ap (λ (o : Option NodePlace). early ++ o ∷ []) is)) (
+      ap (map (slice_get ids)) (there_push early (Some p)) ∙ map-append (slice_get ids) (there_in early) (p.index ∷ []) ∙ ap (λ (os : List (Option Identity)). os ++ slice_get ids p.index ∷ []) so.0
           ∙ ap (λ (o : Option Identity). map (λ (k : Identity). Some k) kids ++ o ∷ []) at ∙ sym (map-append (λ (k : Identity). Some k) kids (kid ∷ [])),
       ap (λ (rs : List (Option ℕ)). rs ++ Some (length kids) ∷ []) so.1 ∙ ap (λ (n : ℕ). ranks_from 0 early ++ Some n ∷ []) (omega (arith, long)) ∙ sym (ranks_push 0 early (Some p)),
     )
@@ -177,19 +179,19 @@ ranked_some ids kept k p kid kids numbers lt is at so =
 -- ---- by their ids
 
 -- the ids whose place is there
-abbrev picked : List Id → List (Option ℕ) → List Id
+abbrev picked : List Id → List (Option NodePlace) → List Id
 picked [] kept = []
 picked (i ∷ ids) [] = []
 picked (i ∷ ids) (None ∷ kept) = picked ids kept
 picked (i ∷ ids) (Some p ∷ kept) = i ∷ picked ids kept
 
-above : (i : Id) (ids : List Id) (kept : List (Option ℕ)) → AllByRecursion (λ j. id_order i j ≡ Less) ids → AllByRecursion (λ j. id_order i j ≡ Less) (picked ids kept)
+above : (i : Id) (ids : List Id) (kept : List (Option NodePlace)) → AllByRecursion (λ j. id_order i j ≡ Less) ids → AllByRecursion (λ j. id_order i j ≡ Less) (picked ids kept)
 above i [] kept h = tt
 above i (j ∷ ids) [] h = tt
 above i (j ∷ ids) (None ∷ kept) h = above i ids kept h.1
 above i (j ∷ ids) (Some p ∷ kept) h = (h.0, above i ids kept h.1)
 
-picked_ascend : (ids : List Id) (kept : List (Option ℕ)) → AreNumbered ids → AreNumbered (picked ids kept)
+picked_ascend : (ids : List Id) (kept : List (Option NodePlace)) → AreNumbered ids → AreNumbered (picked ids kept)
 unfolding IsStrictlySortedBy
 picked_ascend [] kept h = tt
 picked_ascend (i ∷ ids) [] h = tt
@@ -204,7 +206,7 @@ at_end [] i ids = refl
 at_end (j ∷ done) i ids = at_end done i ids
 
 -- their ranks are their numbers
-picked_numbers : (done ids : List Id) (kept : List (Option ℕ)) → length kept ≡ length ids → AreNumbered ids → ((j : Id) → Contains ids j → Contains done j → ⊥) → AllZip (IsNumberOf (done ++ picked ids kept)) ids (ranks_from (length done) kept)
+picked_numbers : (done ids : List Id) (kept : List (Option NodePlace)) → length kept ≡ length ids → AreNumbered ids → ((j : Id) → Contains ids j → Contains done j → ⊥) → AllZip (IsNumberOf (done ++ picked ids kept)) ids (ranks_from (length done) kept)
 unfolding IsStrictlySortedBy
 picked_numbers done [] [] long h apart = tt
 picked_numbers done [] (o ∷ kept) long h apart = absurd (omega (arith, long))
@@ -227,8 +229,8 @@ picked_numbers done (i ∷ ids) (Some p ∷ kept) long h apart =
     )
 
 -- and theirs are the ids at the places
-picked_ids : (nodes : List Identity) (ids : List Id) (kept : List (Option ℕ)) (kids : List Identity) → length kept ≡ length ids → AreAt nodes (there_in kept) kids
-    → ((n p : ℕ) (k : Identity) → slice_get kept n ≡ Some (Some p) → slice_get nodes p ≡ Some k → slice_get ids n ≡ Some (id_of k)) → map id_of kids ≡ picked ids kept
+picked_ids : (nodes : List Identity) (ids : List Id) (kept : List (Option NodePlace)) (kids : List Identity) → length kept ≡ length ids → AreAt nodes (there_in kept) kids
+    → ((n : ℕ) (p : NodePlace) (k : Identity) → slice_get kept n ≡ Some (Some p) → slice_get nodes p.index ≡ Some k → slice_get ids n ≡ Some (id_of k)) → map id_of kids ≡ picked ids kept
 picked_ids nodes [] [] [] long at each = refl
 picked_ids nodes [] [] (k ∷ kids) long at each = absurd (omega (arith, ap length at))
 picked_ids nodes [] (o ∷ kept) kids long at each = absurd (omega (arith, long))
@@ -240,12 +242,12 @@ picked_ids nodes (i ∷ ids) (Some p ∷ kept) (k ∷ kids) long at each =
     ap (λ (j : Id). j ∷ map id_of kids) (sym id) ∙ ap (λ (js : List Id). i ∷ js) (picked_ids nodes ids kept kids (omega (arith, long)) (ap (drop 1) at) (λ n. each (suc n)))
 
 -- all of it
-pub kept_whole : (d : Lookup) (places : List ℕ) (kept : List (Option ℕ)) (kids : List Identity) (numbers : List (Option ℕ)) → IsLookup d → AreNodePlaces d places kept → AreRanked d.ids.now.nodes.items kept kids numbers → AreKept d places kids numbers
+pub kept_whole : (d : Lookup) (places : List ℕ) (kept : List (Option NodePlace)) (kids : List Identity) (numbers : List (Option ℕ)) → IsLookup d → AreNodePlaces d places kept → AreRanked d.ids.now.nodes.items kept kids numbers → AreKept d places kids numbers
 kept_whole d places kept kids numbers h so ranked =
     let ids = map id_of d.ids.now.table.ids.items in
     let nodes = d.ids.now.nodes.items in
     let long : length kept ≡ length ids = so.long ∙ sym (length-map d.ids.now.table.ids.items id_of) in
-    let same = picked_ids nodes ids kept kids long ranked.0 (λ n p k at there. so.numbered n p (id_of k) at (node_here (resolved_view d) nodes p k h.ids.nodes there)) in
+    let same = picked_ids nodes ids kept kids long ranked.0 (λ n p k at there. so.numbered n p (id_of k) at (node_here (resolved_view d) nodes p.index k h.ids.nodes there)) in
     let numbered = picked_numbers [] ids kept long d.ids.now.indexed.numbered (λ j c none. absurd (omega (arith, none.1))) in
     record {
       order = there_in kept;

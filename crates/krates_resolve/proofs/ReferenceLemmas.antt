@@ -27,6 +27,7 @@ use Rattle.krates_search.specs.declared.search_state.SearchState.{SearchState}
 use Rattle.krates_search.specs.declared.links.Links.{Links}
 use Rattle.krates_questions.specs.declared.node_entry.NodeEntry.{NodeEntry}
 use Rattle.krates_questions.specs.declared.node_entry.NodeParts.{NodeParts}
+use Rattle.krates_questions.specs.declared.node_place.NodePlace.{NodePlace}
 use Rattle.krates_rules.proofs.Readings.{ReadsOnce}
 use Rattle.krates_rules.proofs.Zips.{zip_next}
 use Rattle.krates_resolve.proofs.Counted.{counted_more}
@@ -103,16 +104,16 @@ found_node r x i found none = none found.node.node (record { among = contains_at
 -- ---- a dependency that is asked for
 
 -- an entry's own dependency
-pub dep_of_entry : (r : Resolved) (parts : NodeParts) (y : NodeEntry) (index : ℕ) → IsEntryOf parts index y → IsEntry r y → DepAt r (id_of parts.parent.now) (child_of y) parts.place index
+pub dep_of_entry : (r : Resolved) (parts : NodeParts) (y : NodeEntry) (index : ℕ) → IsEntryOf parts index y → IsEntry r y → DepAt r (id_of parts.parent.now) (child_of y) parts.place.index index
 dep_of_entry r parts y index e is =
-    let of_parent = subst (λ (i : Identity). DepAt r (id_of i) (child_of y) y.place y.index) e.parent is.at in
-    subst (λ (n : ℕ). DepAt r (id_of parts.parent.now) (child_of y) n index) e.place (subst (λ (n : ℕ). DepAt r (id_of parts.parent.now) (child_of y) y.place n) e.index of_parent)
+    let of_parent = subst (λ (i : Identity). DepAt r (id_of i) (child_of y) y.place.index y.index) e.parent is.at in
+    subst (λ (p : NodePlace). DepAt r (id_of parts.parent.now) (child_of y) p.index index) e.place (subst (λ (n : ℕ). DepAt r (id_of parts.parent.now) (child_of y) y.place.index n) e.index of_parent)
 
-pub tried_at : ReadsOnce → (r : Resolved) (s : SettingModel) (x : SearchState) (parts : NodeParts) (y : NodeEntry) (index : ℕ) (e : Edge) → NoneDoubled r.metadata r.graph → AreParts r parts.place parts → IsEntryOf parts index y
-    → AreTried r s x (parent_of y) (child_of y) (node_dep_view y.dep.now) IsAny → DepAt r e.parent e.child parts.place index → IsTried r s x e IsAny
+pub tried_at : ReadsOnce → (r : Resolved) (s : SettingModel) (x : SearchState) (parts : NodeParts) (y : NodeEntry) (index : ℕ) (e : Edge) → NoneDoubled r.metadata r.graph → AreParts r parts.place.index parts → IsEntryOf parts index y
+    → AreTried r s x (parent_of y) (child_of y) (node_dep_view y.dep.now) IsAny → DepAt r e.parent e.child parts.place.index index → IsTried r s x e IsAny
 tried_at once r s x parts y index e none p of tried there =
-    let is = entry_here r parts.place parts index y p of in
-    let same = one_way once r (id_of parts.parent.now) (child_of y) e.parent e.child parts.place index (dep_of_entry r parts y index of is) there in
+    let is = entry_here r parts.place.index parts index y p of in
+    let same = one_way once r (id_of parts.parent.now) (child_of y) e.parent e.child parts.place.index index (dep_of_entry r parts y index of is) there in
     entry_tried r s x y e none is (ap id_of of.parent ∙ same.0) same.1 tried
 
 -- ---- a feature that is toggled strongly
@@ -128,12 +129,12 @@ unmarked_strongly r s x p g place index sound is_asked unmarked e d same there w
 
 -- one more feature waits, for a dependency to which no edge is kept yet
 pub wait_advances : ReadsOnce → (by : Referrer) (x : SearchState) (links : Links) (c : Text) (feature : Bor (List ℕ)) (index : ℕ) → IsSound (document_of by.context) by.context.setting.now x → RefersTo by x (weak c feature.now) index
-    → HasWaiter x.links links by.parts.place index (record { name = feature; step = by.step }) → (IsMarked x.links by.parts.place index → ⊥) → Advances (document_of by.context) by.context.setting.now x (with_links x links)
+    → HasWaiter x.links links by.parts.place.index index (record { name = feature; step = by.step }) → (IsMarked x.links by.parts.place.index index → ⊥) → Advances (document_of by.context) by.context.setting.now x (with_links x links)
 wait_advances once by x links c feature index sound to more unmarked =
     let r = document_of by.context in
     let s = by.context.setting.now in
     let p = krate_of by.parts in
-    let place = by.parts.place in
+    let place = by.parts.place.index in
     let may = to.refers.may in
     let step = to.refers.has_step in
     let same : (q child : Id) → DepAt r q child place index → p ≡ q = λ q child there. (one_way once r p to.child q child place index to.dep there).0 in

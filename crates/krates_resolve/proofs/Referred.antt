@@ -57,7 +57,7 @@ refers_to once by f reference xs x h among refers =
       refers = refers;
       child = referent_id x;
       dep = at.dep;
-      is = λ other there. subst (IsReferent r by.context.setting.now.all_named p (name_of reference)) (one_way once r p (referent_id x) p other by.parts.place x.place at.dep there).1 at.is;
+      is = λ other there. subst (IsReferent r by.context.setting.now.all_named p (name_of reference)) (one_way once r p (referent_id x) p other by.parts.place.index x.place at.dep there).1 at.is;
     }
 
 -- ---- what was found at each
@@ -84,19 +84,19 @@ followed_each by f (weak c g) xs none named h each = λ child place index refere
     let r = document_of by.context in
     let p = krate_of by.parts in
     let m = meant_at by (weak c g) xs child h referent in
-    let at = one_dep_place r p child by.parts.place m.0.place place index none m.2 there in
-    subst (λ (n : ℕ). WaitsOrIsToggled r f p child n index g) at.0 (subst (λ (n : ℕ). WaitsOrIsToggled r f p child by.parts.place n g) at.1 (each m.0 m.1 child m.2))
+    let at = one_dep_place r p child by.parts.place.index m.0.place place index none m.2 there in
+    subst (λ (n : ℕ). WaitsOrIsToggled r f p child n index g) at.0 (subst (λ (n : ℕ). WaitsOrIsToggled r f p child by.parts.place.index n g) at.1 (each m.0 m.1 child m.2))
 
 -- it stays found
 pub followed_at_grows : (by : Referrer) (f g : SearchState) (reference : Reference) (index : ℕ) → Grows (document_of by.context) f g → HasFollowedAt by f reference index → HasFollowedAt by g reference index
 followed_at_grows by f g (simple t) index more h = tt
-followed_at_grows by f g (krate c) index more h = asked_at_grows (document_of by.context) by.context.setting.now f g (krate_of by.parts) by.parts.place index more h
+followed_at_grows by f g (krate c) index more h = asked_at_grows (document_of by.context) by.context.setting.now f g (krate_of by.parts) by.parts.place.index index more h
 followed_at_grows by f g (strong c t) index more h =
     let r = document_of by.context in
     let s = by.context.setting.now in
     let p = krate_of by.parts in
-    (asked_at_grows r s f g p by.parts.place index more h.0, strongly_at_grows r s f g p by.parts.place index t more h.1)
-followed_at_grows by f g (weak c t) index more h = waiting_at_grows (document_of by.context) f g (krate_of by.parts) by.parts.place index t more h
+    (asked_at_grows r s f g p by.parts.place.index index more h.0, strongly_at_grows r s f g p by.parts.place.index index t more h.1)
+followed_at_grows by f g (weak c t) index more h = waiting_at_grows (document_of by.context) f g (krate_of by.parts) by.parts.place.index index t more h
 
 -- ---- how often a reference counts
 

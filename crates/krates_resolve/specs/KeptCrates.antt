@@ -7,27 +7,28 @@ use Rattle.krates_rules.specs.Resolved.{NodeAt, id_of}
 use Rattle.krates_document.specs.CrateTable.{AreNumbersOf}
 use Rattle.krates_questions.specs.Lookup.{IsNumberIn, resolved_view}
 use Rattle.krates_questions.specs.declared.lookup.Lookup.{Lookup}
+use Rattle.krates_questions.specs.declared.node_place.NodePlace.{NodePlace}
 
 -- the ids are those at the places
 abbrev pub AreAt : List Identity → List ℕ → List Identity → Type 0
 AreAt ids places kids = map (slice_get ids) places ≡ map (λ k. Some k) kids
 
 -- the places that are there
-abbrev pub there_in : List (Option ℕ) → List ℕ
+abbrev pub there_in : List (Option NodePlace) → List ℕ
 there_in [] = []
 there_in (None ∷ places) = there_in places
-there_in (Some p ∷ places) = p ∷ there_in places
+there_in (Some p ∷ places) = p.index ∷ there_in places
 
 -- for each that is there, how many are there before it, counted on from a number
-abbrev pub ranks_from : ℕ → List (Option ℕ) → List (Option ℕ)
+abbrev pub ranks_from : ℕ → List (Option NodePlace) → List (Option ℕ)
 ranks_from n [] = []
 ranks_from n (None ∷ places) = None ∷ ranks_from n places
 ranks_from n (Some p ∷ places) = Some n ∷ ranks_from (n + 1) places
 
 -- by the numbers of their crates, these places of nodes
-pub record AreNodePlaces (d : Lookup) (places : List ℕ) (kept : List (Option ℕ)) : Type 0 where
+pub record AreNodePlaces (d : Lookup) (places : List ℕ) (kept : List (Option NodePlace)) : Type 0 where
   pub long : length kept ≡ length d.ids.now.table.ids.items
-  pub numbered : (n p : ℕ) (i : Id) → slice_get kept n ≡ Some (Some p) → NodeAt (resolved_view d) i p → IsNumberIn d i (Some n)
+  pub numbered : (n : ℕ) (p : NodePlace) (i : Id) → slice_get kept n ≡ Some (Some p) → NodeAt (resolved_view d) i p.index → IsNumberIn d i (Some n)
   pub whole : IsPermutation places (there_in kept)
 
 -- the ids of the nodes at these places, in order, and the number among them of each crate of the document

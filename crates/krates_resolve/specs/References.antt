@@ -27,11 +27,11 @@ NamesDependency _ = ⊤
 
 -- its node is taken apart of the document
 abbrev pub HasItsParts : Referrer → Type 0
-HasItsParts by = HasParts by.context by.parts.place by.parts
+HasItsParts by = HasParts by.context by.parts.place.index by.parts
 
 -- the dependency at this place of its node is that on the child
 abbrev pub DependsAt : Referrer → Id → ℕ → Type 0
-DependsAt by child index = IsDepAt by.context (krate_of by.parts) child by.parts.place index
+DependsAt by child index = IsDepAt by.context (krate_of by.parts) child by.parts.place.index index
 
 -- the reference is one of its enabled feature, which was found by the step
 pub record Refers (by : Referrer) (x : SearchState) (reference : Reference) : Type 0 where
@@ -53,15 +53,15 @@ pub record DemandsAt (by : Referrer) (x : SearchState) (index : ℕ) : Type 0 wh
 
 -- the edges by the dependency at this place have been tried
 abbrev pub HasAskedAt : Referrer → SearchState → ℕ → Type 0
-HasAskedAt by x index = IsAskedAt (document_of by.context) by.context.setting.now x (krate_of by.parts) by.parts.place index
+HasAskedAt by x index = IsAskedAt (document_of by.context) by.context.setting.now x (krate_of by.parts) by.parts.place.index index
 
 -- all that the reference gives at this place: edges are tried, and the feature is toggled where one may be kept, or waits for one
 abbrev pub HasFollowedAt : Referrer → SearchState → Reference → ℕ → Type 0
 HasFollowedAt by x (simple g) index = ⊤
 HasFollowedAt by x (krate c) index = HasAskedAt by x index
 HasFollowedAt by x (strong c g) index =
-    HasAskedAt by x index × IsToggledStronglyAt (document_of by.context) by.context.setting.now x (krate_of by.parts) by.parts.place index g
-HasFollowedAt by x (weak c g) index = IsWaitingAt (document_of by.context) x (krate_of by.parts) by.parts.place index g
+    HasAskedAt by x index × IsToggledStronglyAt (document_of by.context) by.context.setting.now x (krate_of by.parts) by.parts.place.index index g
+HasFollowedAt by x (weak c g) index = IsWaitingAt (document_of by.context) x (krate_of by.parts) by.parts.place.index index g
 
 -- the feature of the dependency at this place may be toggled, or is, or it follows that it is
 abbrev pub MayToggleAt : Referrer → Text → ℕ → Type 0

@@ -5,7 +5,7 @@ ghost use Rattle.krates_questions.specs.Lookup.{resolved_view};
 ghost use Rattle.krates_resolve.specs.KeptCrates.{AreKept, AreNodePlaces};
 
 use krates_ids::Kid;
-use krates_questions::Document;
+use krates_questions::{Document, NodePlace};
 use std::alloc::{AllocError, Global};
 
 /// Which crates of a document are kept.
@@ -40,7 +40,7 @@ impl KeptCrates {
             match *place {
                 Some(place) => {
                     numbers.push(Some(krates.len()))?;
-                    krates.push(ids[place].clone()?)?;
+                    krates.push(ids[place.index].clone()?)?;
                 }
                 None => numbers.push(None)?,
             }
@@ -54,16 +54,17 @@ fn places_by_number(
     alloc: Global,
     document: &Document<'_>,
     places: &[usize],
-) -> Result<Vec<Option<usize>>, AllocError>
+) -> Result<Vec<Option<NodePlace>>, AllocError>
     requires within { All (λ place. place < length (resolved_view document.now).graph.nodes) places.now }
     requires once { AllPairs (λ a b. a ≢ b) places.now }
     ensures { IfOk result (λ kept. AreNodePlaces document.now places.now kept.items) }
 {
     document.agrees();
-    let mut kept: Vec<Option<usize>> = vec![in alloc; None; document.crate_ids().len()]?;
-    for place in places {
-        if let Some(number) = document.node_number(*place) {
-            kept[number] = Some(*place);
+    let mut kept: Vec<Option<NodePlace>> = vec![in alloc; None; document.crate_ids().len()]?;
+    for index in places {
+        let place = NodePlace { index: *index };
+        if let Some(number) = document.node_number(place) {
+            kept[number] = Some(place);
         }
     }
     Ok(kept)

@@ -216,7 +216,7 @@ impl<'a> Referrer<'a, '_> {
         requires parts { HasItsParts self.now }
         requires within { index < length self.now.parts.children.now }
         requires sound { IsRight self.now.context found.old }
-        requires marked { IsMarked found.old.links self.now.parts.place index }
+        requires marked { IsMarked found.old.links self.now.parts.place.index index }
         requires may { MayToggleAt self.now name.now index }
         requires step { FindsToggledAt self.now found.old reason name.now index }
         ensures advanced { OnOk result (Moves self.now.context found.old found.new) }

@@ -133,7 +133,7 @@ fn put_once<'a>(
     ensures refused { IfErr result (Refuses context.now) }
 {
     laws::one_reading();
-    if !places.put(node.place) {
+    if !places.put(node.place.index) {
         return Ok(());
     }
     put_krate(context, node.place, Reason::by_nothing(1), found)?;

@@ -25,7 +25,7 @@ parts_of-parts-requires c =
     let r = resolved_view c.args.context.now.document.now in
     let feature = c.listed_feature-feature.result in
     let at = c.listed_feature-feature.ensures in
-    record { within = listed_place r c.number.result feature.place feature.name.now at }
+    record { within = listed_place r c.number.result feature.place.index feature.name.now at }
 
 pub loop-text-init : goal.loop-text-init
 loop-text-init c = (advances_refl (resolved_view c.args.context.now.document.now) c.args.context.now.setting.now c.args.found.now c.requires.sound, λ k d lt. absurd (omega (arith, lt)), none_counted (resolved_view c.args.context.now.document.now) c.args.context.now.setting.now (id_of c.parts_of-parts.result.parent.now) c.values-values.result.now)
@@ -41,7 +41,7 @@ follow-requires-clause-kept c =
     let f = feature.name.now in
     let i = id_of c.parts_of-parts.result.parent.now in
     let at = c.listed_feature-feature.ensures in
-    let enabled = listed_found r x c.args.taken c.number.result i feature.place f c.requires.put c.number.ensures at c.parts_of-parts.ensures.at in
+    let enabled = listed_found r x c.args.taken c.number.result i feature.place.index f c.requires.put c.number.ensures at c.parts_of-parts.ensures.at in
     c.loop-text.invariant.0.grows.found (Crate i) (c.requires.sound.enabled i f enabled)
 
 pub follow-requires-clause-value : goal.follow-requires-clause-value
@@ -53,7 +53,7 @@ follow-requires-clause-value c =
     let f = feature.name.now in
     let i = id_of c.parts_of-parts.result.parent.now in
     let at = c.listed_feature-feature.ensures in
-    let enabled = listed_found r x c.args.taken c.number.result i feature.place f c.requires.put c.number.ensures at c.parts_of-parts.ensures.at in
+    let enabled = listed_found r x c.args.taken c.number.result i feature.place.index f c.requires.put c.number.ensures at c.parts_of-parts.ensures.at in
     let texts = c.values-values.result.now in
     let among = value_at texts c.loop-text.text-index c.text-item.result c.loop-text-test.true c.text-item.is in
     subst (λ (t : Text). IsValueOfEnabled r s i t) (sym c.as_str.ensures.value)
@@ -68,7 +68,7 @@ follow-requires-clause-step c =
     let f = feature.name.now in
     let i = id_of c.parts_of-parts.result.parent.now in
     let at = c.listed_feature-feature.ensures in
-    let numbered : FeatureAt r i f c.number.result = record { place = feature.place; at = at; node = c.parts_of-parts.ensures.at } in
+    let numbered : FeatureAt r i f c.number.result = record { place = feature.place.index; at = at; node = c.parts_of-parts.ensures.at } in
     let here = c.requires.step i f (subst (λ (n : ℕ). FeatureAt r i f n) c.number.ensures numbered) in
     let texts = c.values-values.result.now in
     let among = value_at texts c.loop-text.text-index c.text-item.result c.loop-text-test.true c.text-item.is in
@@ -103,7 +103,7 @@ returns-clause-followed_all c krate f there =
     let feature = c.listed_feature-feature.result in
     let i = id_of c.parts_of-parts.result.parent.now in
     let at = c.listed_feature-feature.ensures in
-    let same = one_feature c.one_reading.ensures.once r i krate feature.place number feature.name.now f c.parts_of-parts.ensures.at at (subst (λ (n : ℕ). FeatureAt r krate f n) (sym c.number.ensures) there) in
+    let same = one_feature c.one_reading.ensures.once r i krate feature.place.index number feature.name.now f c.parts_of-parts.ensures.at at (subst (λ (n : ℕ). FeatureAt r krate f n) (sym c.number.ensures) there) in
     let texts = c.values-values.result.now in
     let each = each_seen text_view (λ (t : Text). (reference : Reference) → IsReference t reference → IsFollowed r s x i reference) texts texts c.loop-text.text-index refl (omega arith) c.loop-text.invariant.1 in
     let followed_all : HasFollowedAll r s x i feature.name.now = followed_all_here r s x i feature.name.now (map text_view texts) c.values-values.ensures.references each in
@@ -118,7 +118,7 @@ returns-clause-counted c =
     let feature = c.listed_feature-feature.result in
     let i = id_of c.parts_of-parts.result.parent.now in
     let at = c.listed_feature-feature.ensures in
-    let enabled = listed_found r x c.args.taken number i feature.place feature.name.now c.requires.put c.number.ensures at c.parts_of-parts.ensures.at in
+    let enabled = listed_found r x c.args.taken number i feature.place.index feature.name.now c.requires.put c.number.ensures at c.parts_of-parts.ensures.at in
     let so_far = c.loop-text.invariant.2 in
     let texts = c.values-values.result.now in
     let each = zip_all (CountsText r s.all_named i) text_view texts c.loop-text.text-index so_far.counts (omega arith) so_far.each in
@@ -127,7 +127,7 @@ returns-clause-counted c =
     record {
       number = n;
       has = λ krate f there. (
-          let same = one_feature c.one_reading.ensures.once r i krate feature.place number feature.name.now f c.parts_of-parts.ensures.at at (subst (λ (k : ℕ). FeatureAt r krate f k) (sym c.number.ensures) there) in
+          let same = one_feature c.one_reading.ensures.once r i krate feature.place.index number feature.name.now f c.parts_of-parts.ensures.at at (subst (λ (k : ℕ). FeatureAt r krate f k) (sym c.number.ensures) there) in
           subst (λ (j : Id). HasReferences r s j f n) same.0 (subst (λ (g : Text). HasReferences r s i g n) same.1 here));
       count = so_far.count;
     }

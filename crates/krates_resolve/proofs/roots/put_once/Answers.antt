@@ -16,14 +16,14 @@ pub put-requires : goal.put-requires
 put-requires c =
     let at = c.requires.node.at in
     let node = c.args.node in
-    subst (λ (n : ℕ). node.place < n) (sym c.requires.each.size) (slice_get_within (resolved_view c.args.context.now.document.now).graph.nodes node.place at.node at.at)
+    subst (λ (n : ℕ). node.place.index < n) (sym c.requires.each.size) (slice_get_within (resolved_view c.args.context.now.document.now).graph.nodes node.place.index at.node at.at)
 
 pub returns-then-not-put-clause-advanced : goal.returns-then-not-put-clause-advanced
 returns-then-not-put-clause-advanced c = advances_refl (resolved_view c.args.context.now.document.now) c.args.context.now.setting.now c.args.found.now c.requires.sound
 
 pub returns-then-not-put-clause-rooted : goal.returns-then-not-put-clause-rooted
 returns-then-not-put-clause-rooted c =
-    c.requires.each.each c.args.node.place (id_of c.args.node.id.now) (on_false c.put.result c.if-not-put.true c.put.ensures.old) c.requires.node.at
+    c.requires.each.each c.args.node.place.index (id_of c.args.node.id.now) (on_false c.put.result c.if-not-put.true c.put.ensures.old) c.requires.node.at
 
 pub returns-then-not-put-clause-each : goal.returns-then-not-put-clause-each
 returns-then-not-put-clause-each c = each_stays c.args.context.now c.args.found.now c.args.places.now c.put.new.self (on_false c.put.result c.if-not-put.true c.put.ensures.unchanged) c.requires.each
@@ -40,7 +40,7 @@ pub enable_listed-requires-clause-sound : goal.enable_listed-requires-clause-sou
 enable_listed-requires-clause-sound c = c.in_ok-put_krate.ensures.advanced.sound
 
 pub enable_listed-requires-clause-kept : goal.enable_listed-requires-clause-kept
-enable_listed-requires-clause-kept c = record { place = c.args.node.place; among = c.in_ok-put_krate.ensures.put; node = c.requires.node.at }
+enable_listed-requires-clause-kept c = record { place = c.args.node.place.index; among = c.in_ok-put_krate.ensures.put; node = c.requires.node.at }
 
 pub enable_listed-requires-clause-may : goal.enable_listed-requires-clause-may
 enable_listed-requires-clause-may c = root_enables (resolved_view c.args.context.now.document.now) c.args.context.now.setting.now (id_of c.args.node.id.now) c.requires.root.0 c.requires.root.1
@@ -56,7 +56,7 @@ returns-clause-rooted c =
     let r = resolved_view c.args.context.now.document.now in
     let s = c.args.context.now.setting.now in
     let i = id_of c.args.node.id.now in
-    let kept : HasFound r c.put_krate.new.found (Crate i) = record { place = c.args.node.place; among = c.in_ok-put_krate.ensures.put; node = c.requires.node.at } in
+    let kept : HasFound r c.put_krate.new.found (Crate i) = record { place = c.args.node.place.index; among = c.in_ok-put_krate.ensures.put; node = c.requires.node.at } in
     on_ok_both c.enable_listed.result (λ a enabled. rooted_here r s c.enable_listed.new.found i c.requires.root.1 (a.grows.found (Crate i) kept) enabled) c.enable_listed.ensures.advanced c.enable_listed.ensures.enabled
 
 pub returns-clause-each : goal.returns-clause-each
@@ -68,9 +68,9 @@ returns-clause-each c =
     let x = c.args.found.now in
     let y = c.put_krate.new.found in
     let z = c.enable_listed.new.found in
-    let kept : HasFound r y (Crate i) = record { place = c.args.node.place; among = c.in_ok-put_krate.ensures.put; node = c.requires.node.at } in
+    let kept : HasFound r y (Crate i) = record { place = c.args.node.place.index; among = c.in_ok-put_krate.ensures.put; node = c.requires.node.at } in
     let added = on_true c.put.result c.if-not-put.false c.put.ensures.added in
     on_ok_both c.enable_listed.result (λ a enabled.
-    each_put c.one_reading.ensures.once b z c.args.places.now c.put.new.self c.args.node.place i added c.requires.node.at (rooted_here r s z i c.requires.root.1 (a.grows.found (Crate i) kept) enabled)
+    each_put c.one_reading.ensures.once b z c.args.places.now c.put.new.self c.args.node.place.index i added c.requires.node.at (rooted_here r s z i c.requires.root.1 (a.grows.found (Crate i) kept) enabled)
     (each_grows b y z c.args.places.now a.grows (each_grows b x y c.args.places.now c.in_ok-put_krate.ensures.advanced.grows c.requires.each)))
     c.enable_listed.ensures.advanced c.enable_listed.ensures.enabled

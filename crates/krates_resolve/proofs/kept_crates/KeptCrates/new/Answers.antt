@@ -1,7 +1,8 @@
-use Rattle.std.proofs.Common.{◌<◌, List, Option, ℕ, length, refl, sym, subst, arith, rules}
+use Rattle.std.proofs.Common.{◌<◌, List, Option, length, refl, sym, subst, arith, rules}
 use Rattle.std.proofs.lemmas.List.{take_all}
 use Rattle.std.proofs.lemmas.Option.{slice_get_read}
 use Rattle.krates_ids.specs.Identity.{Identity}
+use Rattle.krates_questions.specs.declared.node_place.NodePlace.{NodePlace}
 use Rattle.krates_resolve.specs.KeptCrates.{AreNodePlaces}
 use Rattle.krates_resolve.proofs.KeptCrates.{AreRanked, kept_whole, place_low, ranked_none, ranked_some}
 use Rattle.krates_resolve.proofs.kept_crates.KeptCrates.new.Goals as goal
@@ -13,7 +14,7 @@ bounds-ids-place c =
     let places = c.args.places.now in
     let so = subst (AreNodePlaces d places) (sym c.deref-place-items.ensures.value) c.in_ok-kept.ensures in
     let low = place_low d places c.deref-place-items.result.now c.loop-place.place-index c.in-Some.place c.agrees.ensures c.requires.within so c.loop-place-test.true c.in-Some.is in
-    subst (λ (ids : List Identity). c.in-Some.place < length ids) (sym c.node_ids-ids.ensures) low
+    subst (λ (ids : List Identity). c.in-Some.place.index < length ids) (sym c.node_ids-ids.ensures) low
 
 pub offset_bounds-ids-place : goal.offset_bounds-ids-place
 offset_bounds-ids-place c = let within = bounds-ids-place c in search rules
@@ -33,7 +34,7 @@ loop-place-preserved c =
           let kid = w.index-ids-place.result in
           let so = subst (AreNodePlaces d places) (sym c.deref-place-items.ensures.value) c.in_ok-kept.ensures in
           let low = place_low d places kept k p c.agrees.ensures c.requires.within so c.loop-place-test.true w.in-Some.is in
-          let at = slice_get_read ids (length ids) p kid refl (subst (λ (is : List Identity). p < length is) (sym c.node_ids-ids.ensures) low) w.index-ids-place.is in
+          let at = slice_get_read ids (length ids) p.index kid refl (subst (λ (is : List Identity). p.index < length is) (sym c.node_ids-ids.ensures) low) w.index-ids-place.is in
           let more = ranked_some ids kept k p kid kids numbers c.loop-place-test.true w.in-Some.is at c.loop-place.invariant in
           rw (w.krates-is, w.numbers-is, w.in_ok-push-in-Some-2.ensures.items, w.in_ok-clone-in-Some.ensures.cases, w.in_ok-push-in-Some.ensures.items, w.len-in-Some.ensures, c.loop-place.krates.ok.0) more)
       | in-None+in_ok-push-in-None w ↦ (
@@ -48,5 +49,5 @@ returns c =
     let kids = c.loop-place.krates.items in
     let numbers = c.loop-place.numbers.items in
     let so = subst (AreNodePlaces d c.args.places.now) (sym c.deref-place-items.ensures.value) c.in_ok-kept.ensures in
-    let all = subst (λ (os : List (Option ℕ)). AreRanked c.node_ids-ids.result.now os kids numbers) (take_all c.loop-place.place-index kept (omega arith)) c.loop-place.invariant in
+    let all = subst (λ (os : List (Option NodePlace)). AreRanked c.node_ids-ids.result.now os kids numbers) (take_all c.loop-place.place-index kept (omega arith)) c.loop-place.invariant in
     kept_whole d c.args.places.now kept kids numbers c.agrees.ensures so (subst (λ (ids : List Identity). AreRanked ids kept kids numbers) c.node_ids-ids.ensures all)

@@ -18,22 +18,22 @@ use Rattle.krates_resolve.proofs.references.Referrer.ask_at.Goals.{After-entry_a
 use Rattle.krates_resolve.proofs.references.Referrer.ask_at.Goals as goal
 
 pub is_asked-requires : goal.is_asked-requires
-is_asked-requires c = c.requires.sound.has_links (krate_of c.args.self.now.parts) c.requires.demands.refers.child c.args.self.now.parts.place c.args.index c.requires.demands.refers.dep
+is_asked-requires c = c.requires.sound.has_links (krate_of c.args.self.now.parts) c.requires.demands.refers.child c.args.self.now.parts.place.index c.args.index c.requires.demands.refers.dep
 
 pub returns-then-is_asked-clause-asked : goal.returns-then-is_asked-clause-asked
 returns-then-is_asked-clause-asked c e same there =
     let parts = c.args.self.now.parts in
-    let at = subst (λ (i : Id). DepAt (resolved_view c.args.self.now.context.document.now) i e.child parts.place c.args.index) (sym same) there in
-    c.requires.sound.tried e parts.place c.args.index at (c.is_asked.ensures.0 c.if-is_asked.true)
+    let at = subst (λ (i : Id). DepAt (resolved_view c.args.self.now.context.document.now) i e.child parts.place.index c.args.index) (sym same) there in
+    c.requires.sound.tried e parts.place.index c.args.index at (c.is_asked.ensures.0 c.if-is_asked.true)
 
 pub entry_at-entry-requires-clause-lengths : goal.entry_at-entry-requires-clause-lengths
-entry_at-entry-requires-clause-lengths c = sym (deps_long (resolved_view c.args.self.now.context.document.now) c.args.self.now.parts.place c.args.self.now.parts c.requires.parts)
+entry_at-entry-requires-clause-lengths c = sym (deps_long (resolved_view c.args.self.now.context.document.now) c.args.self.now.parts.place.index c.args.self.now.parts c.requires.parts)
 
 pub entry_at-entry-requires-clause-versions : goal.entry_at-entry-requires-clause-versions
-entry_at-entry-requires-clause-versions c = own_long (resolved_view c.args.self.now.context.document.now) c.args.self.now.parts.place c.args.self.now.parts c.requires.parts
+entry_at-entry-requires-clause-versions c = own_long (resolved_view c.args.self.now.context.document.now) c.args.self.now.parts.place.index c.args.self.now.parts c.requires.parts
 
 is_entry : (c : After-entry_at-entry) → HasEntry c.args.self.now.context c.entry_at-entry.result
-is_entry c = entry_here (document_of c.args.self.now.context) c.args.self.now.parts.place c.args.self.now.parts c.args.index c.entry_at-entry.result c.requires.parts c.entry_at-entry.ensures
+is_entry c = entry_here (document_of c.args.self.now.context) c.args.self.now.parts.place.index c.args.self.now.parts c.args.index c.entry_at-entry.result c.requires.parts c.entry_at-entry.ensures
 
 -- the reference's name means its crate
 is_meant : (c : After-entry_at-entry) → IsReferent (document_of c.args.self.now.context) c.args.self.now.context.setting.now.all_named (krate_of c.args.self.now.parts) (name_of c.requires.demands.reference) (child_of c.entry_at-entry.result)
@@ -74,6 +74,6 @@ returns-clause-asked c =
     let s = c.args.self.now.context.setting.now in
     let parts = c.args.self.now.parts in
     on_ok_weaker c.expand_entry.result (λ tried e same there.
-    let at = subst (λ (i : Id). DepAt r i e.child parts.place c.args.index) (sym same) there in
+    let at = subst (λ (i : Id). DepAt r i e.child parts.place.index c.args.index) (sym same) there in
     tried_at c.one_reading.ensures.once r s c.expand_entry.new.found parts c.entry_at-entry.result c.args.index e c.agrees.ensures.distinct c.requires.parts c.entry_at-entry.ensures tried at)
     c.expand_entry.ensures.tried

@@ -21,14 +21,14 @@ ask_at-requires-in-Strong-clause-demands c = record { reference = reference_of c
 -- ---- and toggles a feature
 
 pub kept-requires : goal.kept-requires
-kept-requires c = c.in_ok-ask_at-in-Strong.ensures.advanced.sound.has_links (krate_of c.args.self.now.parts) c.requires.refers.child c.args.self.now.parts.place c.args.index c.requires.refers.dep
+kept-requires c = c.in_ok-ask_at-in-Strong.ensures.advanced.sound.has_links (krate_of c.args.self.now.parts) c.requires.refers.child c.args.self.now.parts.place.index c.args.index c.requires.refers.dep
 
 pub toggle_at-requires-clause-may : goal.toggle_at-requires-clause-may
 toggle_at-requires-clause-may c child there =
     let by = c.args.self.now in
     let p = krate_of by.parts in
     let to = rw c.in-Strong.is at c.requires.refers in
-    let kept = c.in_ok-ask_at-in-Strong.ensures.advanced.sound.kept p child by.parts.place c.args.index there (c.in-Some.kept, c.in-Some.ensures) in
+    let kept = c.in_ok-ask_at-in-Strong.ensures.advanced.sound.kept p child by.parts.place.index c.args.index there (c.in-Some.kept, c.in-Some.ensures) in
     may_toggle_strongly (document_of by.context) by.context.setting.now (edge_between p child kept.0) c.in-Strong.krate.now c.in-Strong.name.now to.refers.may (to.is child there) kept.1
 
 pub toggle_at-requires-clause-step : goal.toggle_at-requires-clause-step
@@ -43,7 +43,7 @@ toggle_at-requires-clause-step c child there lists =
     let to = rw c.in-Strong.is at c.requires.refers in
     let step = c.in_ok-ask_at-in-Strong.ensures.advanced in
     let y = c.ask_at-in-Strong.new.found in
-    let has = step.sound.numbered.marked p child by.parts.place c.args.index m there c.in-Some.ensures in
+    let has = step.sound.numbered.marked p child by.parts.place.index c.args.index m there c.in-Some.ensures in
     for_reason r s y.trace.items _ _ (Toggled p child g) c.by_two-reason.ensures
     (finds_strongly r s y.trace.items by.step m (edge_between p child has.0) name g (refers_more by c.args.found.now y (strong name g) step.grows to.refers).has_step (to.is child there) has.1 lists)
 
@@ -57,25 +57,25 @@ returns-in-Some-clause-followed c =
     let by = c.args.self.now in
     let x = c.ask_at-in-Strong.new.found in
     let y = c.toggle_at.new.found in
-    rw c.in-Strong.is (on_ok_both c.toggle_at.result (λ a toggled. (asked_at_grows (document_of by.context) by.context.setting.now x y (krate_of by.parts) by.parts.place c.args.index a.grows c.in_ok-ask_at-in-Strong.ensures.asked, λ e d same there w stands. toggled e.child there)) c.toggle_at.ensures.advanced c.toggle_at.ensures.toggled)
+    rw c.in-Strong.is (on_ok_both c.toggle_at.result (λ a toggled. (asked_at_grows (document_of by.context) by.context.setting.now x y (krate_of by.parts) by.parts.place.index c.args.index a.grows c.in_ok-ask_at-in-Strong.ensures.asked, λ e d same there w stands. toggled e.child there)) c.toggle_at.ensures.advanced c.toggle_at.ensures.toggled)
 
 pub returns-in_default-clause-followed : goal.returns-in_default-clause-followed
 returns-in_default-clause-followed c =
     let by = c.args.self.now in
     let asked = c.in_ok-ask_at-in-Strong.ensures in
-    rw c.in-Strong.is (asked.asked, unmarked_strongly (document_of by.context) by.context.setting.now c.ask_at-in-Strong.new.found (krate_of by.parts) c.in-Strong.name.now by.parts.place c.args.index asked.advanced.sound asked.asked c.in_default.ensures)
+    rw c.in-Strong.is (asked.asked, unmarked_strongly (document_of by.context) by.context.setting.now c.ask_at-in-Strong.new.found (krate_of by.parts) c.in-Strong.name.now by.parts.place.index c.args.index asked.advanced.sound asked.asked c.in_default.ensures)
 
 -- ---- or lets it wait
 
 pub kept-requires-in-Weak : goal.kept-requires-in-Weak
-kept-requires-in-Weak c = c.requires.sound.has_links (krate_of c.args.self.now.parts) c.requires.refers.child c.args.self.now.parts.place c.args.index c.requires.refers.dep
+kept-requires-in-Weak c = c.requires.sound.has_links (krate_of c.args.self.now.parts) c.requires.refers.child c.args.self.now.parts.place.index c.args.index c.requires.refers.dep
 
 pub toggle_at-requires-in-Some-kept-clause-may : goal.toggle_at-requires-in-Some-kept-clause-may
 toggle_at-requires-in-Some-kept-clause-may c child there =
     let by = c.args.self.now in
     let p = krate_of by.parts in
     let to = rw c.in-Weak.is at c.requires.refers in
-    let kept = c.requires.sound.kept p child by.parts.place c.args.index there (c.in-Some-kept.kept, c.in-Some-kept.ensures) in
+    let kept = c.requires.sound.kept p child by.parts.place.index c.args.index there (c.in-Some-kept.kept, c.in-Some-kept.ensures) in
     may_toggle_weakly (document_of by.context) by.context.setting.now (edge_between p child kept.0) c.in-Weak.krate.now c.in-Weak.name.now to.refers.may (to.is child there) kept.1
 
 pub toggle_at-requires-in-Some-kept-clause-step : goal.toggle_at-requires-in-Some-kept-clause-step
@@ -88,12 +88,12 @@ toggle_at-requires-in-Some-kept-clause-step c child there lists =
     let g = c.in-Weak.name.now in
     let to = rw c.in-Weak.is at c.requires.refers in
     let trace = c.args.found.now.trace.items in
-    let has = c.requires.sound.numbered.marked p child by.parts.place c.args.index m there c.in-Some-kept.ensures in
+    let has = c.requires.sound.numbered.marked p child by.parts.place.index c.args.index m there c.in-Some-kept.ensures in
     for_reason r s trace _ _ (Toggled p child g) c.by_two-reason-in-Some-kept.ensures
     (finds_weakly r s trace by.step m (edge_between p child has.0) c.in-Weak.krate.now g to.refers.has_step (to.is child there) has.1 lists)
 
 pub let_wait-requires : goal.let_wait-requires
-let_wait-requires c = c.requires.sound.has_links (krate_of c.args.self.now.parts) c.requires.refers.child c.args.self.now.parts.place c.args.index c.requires.refers.dep
+let_wait-requires c = c.requires.sound.has_links (krate_of c.args.self.now.parts) c.requires.refers.child c.args.self.now.parts.place.index c.args.index c.requires.refers.dep
 
 pub returns-in_ok-let_wait-in-Weak-clause-advanced : goal.returns-in_ok-let_wait-in-Weak-clause-advanced
 returns-in_ok-let_wait-in-Weak-clause-advanced c =

@@ -13,21 +13,21 @@ use Rattle.krates_resolve.proofs.references.Referrer.toggle_at.Goals.{After-entr
 use Rattle.krates_resolve.proofs.references.Referrer.toggle_at.Goals as goal
 
 pub entry_at-entry-requires-clause-lengths : goal.entry_at-entry-requires-clause-lengths
-entry_at-entry-requires-clause-lengths c = sym (deps_long (document_of c.args.self.now.context) c.args.self.now.parts.place c.args.self.now.parts c.requires.parts)
+entry_at-entry-requires-clause-lengths c = sym (deps_long (document_of c.args.self.now.context) c.args.self.now.parts.place.index c.args.self.now.parts c.requires.parts)
 
 pub entry_at-entry-requires-clause-versions : goal.entry_at-entry-requires-clause-versions
-entry_at-entry-requires-clause-versions c = own_long (document_of c.args.self.now.context) c.args.self.now.parts.place c.args.self.now.parts c.requires.parts
+entry_at-entry-requires-clause-versions c = own_long (document_of c.args.self.now.context) c.args.self.now.parts.place.index c.args.self.now.parts c.requires.parts
 
 -- its entry is one of the document
 is_entry : (c : After-entry_at-entry) → HasEntry c.args.self.now.context c.entry_at-entry.result
-is_entry c = entry_here (document_of c.args.self.now.context) c.args.self.now.parts.place c.args.self.now.parts c.args.index c.entry_at-entry.result c.requires.parts c.entry_at-entry.ensures
+is_entry c = entry_here (document_of c.args.self.now.context) c.args.self.now.parts.place.index c.args.self.now.parts c.args.index c.entry_at-entry.result c.requires.parts c.entry_at-entry.ensures
 
 depends : (c : After-entry_at-entry) → DependsAt c.args.self.now (child_of c.entry_at-entry.result) c.args.index
 depends c = dep_of_entry (document_of c.args.self.now.context) c.args.self.now.parts c.entry_at-entry.result c.args.index c.entry_at-entry.ensures (is_entry c)
 
 -- and its crate is kept
 is_kept : (c : After-entry_at-entry) → Has c.args.self.now.context c.args.found.now (Crate (child_of c.entry_at-entry.result))
-is_kept c = c.requires.sound.arrived (krate_of c.args.self.now.parts) (child_of c.entry_at-entry.result) c.args.self.now.parts.place c.args.index (depends c) c.requires.marked
+is_kept c = c.requires.sound.arrived (krate_of c.args.self.now.parts) (child_of c.entry_at-entry.result) c.args.self.now.parts.place.index c.args.index (depends c) c.requires.marked
 
 pub child_place-requires : goal.child_place-requires
 child_place-requires c = record { entry = is_entry (goal.at.child_place-requires c).After-entry_at-entry }
@@ -58,5 +58,5 @@ returns-clause-toggled c =
     let p = krate_of by.parts in
     let child = child_of c.entry_at-entry.result in
     let dep = depends (goal.at.returns-clause-toggled c).After-entry_at-entry in
-    on_ok_weaker c.toggle.result (λ toggled other there. subst (λ (i : Id). IsToggledIn r c.toggle.new.found p i c.args.name.now) (one_way c.one_reading.ensures.once r p child p other by.parts.place c.args.index dep there).1 toggled)
+    on_ok_weaker c.toggle.result (λ toggled other there. subst (λ (i : Id). IsToggledIn r c.toggle.new.found p i c.args.name.now) (one_way c.one_reading.ensures.once r p child p other by.parts.place.index c.args.index dep there).1 toggled)
     c.toggle.ensures.toggled
