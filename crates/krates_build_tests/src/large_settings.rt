@@ -13,14 +13,15 @@ use krates_samples::documents::metadata;
 use krates_samples::large::{large_document, push_features, push_names};
 use krates_samples::settings;
 use krates_samples::settings::{package_specs, targets_of};
+use krates_samples::text::Text;
 use std::alloc::Global;
 use std::test::Fail;
 
 /// The names of many packages, each behind this text, with blanks between them.
 fn named(alloc: Global, before: &str) -> Result<String, Fail> {
-    let mut names = String::new(alloc);
-    push_names(&mut names, before, " ")?;
-    Ok(names)
+    let mut names = Text::new(alloc);
+    push_names(&mut names, before, " ");
+    Ok(names.whole()?)
 }
 
 /// The same names, each by itself.
@@ -115,9 +116,10 @@ fn index(alloc: Global) -> Result<CachingIndex, Fail> {
 
 /// The document of a package with the many features.
 fn featured(alloc: Global) -> Result<Metadata, Fail> {
-    let mut line = String::from_str(alloc, "p@1.0.0&crates.io;")?;
-    push_features(&mut line)?;
-    metadata(alloc, line.as_str())
+    let mut line = Text::new(alloc);
+    line.push_str("p@1.0.0&crates.io;");
+    push_features(&mut line);
+    metadata(alloc, line.whole()?.as_str())
 }
 
 /// Corrects the first of the packages; how many features it then has.

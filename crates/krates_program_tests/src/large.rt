@@ -2,15 +2,21 @@
 
 use krates_cli::{Counted, Options, run};
 use krates_samples::large::{large_document, long_name, push_names};
+use krates_samples::text::Text;
 use std::alloc::Global;
 use std::test::Fail;
 
 /// What a run writes of the document.
 fn lines(alloc: Global) -> Result<String, Fail> {
     let long = long_name(alloc)?;
-    let mut kept = String::from_str(alloc, "+ path+file:///w/a#0.1.0\n")?;
-    push_names(&mut kept, "+ path+file:///w/", "#0.1.0\n")?;
-    Ok(format!(in alloc; "{kept}+ path+file:///w/{long}#0.1.0\n- path+file:///w/z#0.1.0\n")?)
+    let mut lines = Text::new(alloc);
+    lines.push_str("+ path+file:///w/a#0.1.0\n");
+    push_names(&mut lines, "+ path+file:///w/", "#0.1.0\n");
+    write!(
+        lines,
+        "+ path+file:///w/{long}#0.1.0\n- path+file:///w/z#0.1.0\n"
+    );
+    Ok(lines.whole()?)
 }
 
 /// Runs without options over this text.

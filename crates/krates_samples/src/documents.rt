@@ -25,10 +25,11 @@
 //!
 //! Any other section is skipped here: it says how the document is used. A tilde anywhere stands for a blank.
 
+use crate::text::Text;
 use krates_cm::{DependencyKind, Metadata, PackageId};
 use krates_cm_json::parse;
 use krates_ids::Kid;
-use std::alloc::{AllocError, Global};
+use std::alloc::Global;
 use std::test::Fail;
 
 /// The index of crates.io, as a source.
@@ -77,24 +78,23 @@ fn is_marked(word: &str, mark: char) -> bool {
 }
 
 /// Writes the id of a word.
-fn push_id(text: &mut String, word: &str) -> Result<(), AllocError> {
-    let (name, version) = named(word);
+fn push_id(text: &mut Text, word: &str) {
     if let Some(id) = option_of(word, "id=") {
-        text.push_str(id)
-    } else if option_of(word, "crates.io").is_some() {
-        write!(text, "{CRATES_IO}#{name}@{version}")
-    } else if version == "0.1.0" {
-        write!(text, "path+file:///w/{name}#{version}")
-    } else {
-        write!(text, "path+file:///w/{name}#{name}@{version}")
+        return text.push_str(id);
     }
-}
-
-/// The id of a word.
-pub fn id_of(alloc: Global, word: &str) -> Result<String, Fail> {
-    let mut id = String::new(alloc);
-    push_id(&mut id, word)?;
-    Ok(id)
+    let (name, version) = named(word);
+    let is_registered = option_of(word, "crates.io").is_some();
+    text.push_str(if is_registered {
+        CRATES_IO
+    } else {
+        "path+file:///w/"
+    });
+    text.push_str(if is_registered { "" } else { name });
+    text.push_str("#");
+    if is_registered || version != "0.1.0" {
+        write!(text, "{name}@");
+    }
+    text.push_str(version);
 }
 
 /// The word for an id of a crate at `/w`, or the id itself where it is another.
@@ -110,45 +110,35 @@ pub fn word_of(id: &str) -> &str {
     if own == name { version } else { id }
 }
 
-/// What divides the next item of a JSON list or object from the one before it, if there is one.
-fn comma(json: &str) -> &'static str {
-    if json.ends_with('[') || json.ends_with('{') {
-        ""
-    } else {
-        ","
+/// Divides the next item of a JSON list or object from the one before it, if there is one.
+fn divide(json: &mut Text) {
+    if !json.as_str().ends_with(['[', '{']) {
+        json.push_str(",");
     }
-}
-
-/// Writes a text as an item of a JSON list.
-fn push_text(json: &mut String, text: &str) -> Result<(), AllocError> {
-    let comma = comma(json.as_str());
-    write!(json, "{comma}{text:?}")
 }
 
 /// Writes the texts between commas as items of a JSON list.
-fn push_texts(json: &mut String, texts: &str) -> Result<(), AllocError> {
+fn push_texts(json: &mut Text, texts: &str) {
     for text in texts.split(',') {
         if !text.is_empty() {
-            push_text(json, text)?;
+            divide(json);
+            write!(json, "{text:?}");
         }
     }
-    Ok(())
 }
 
 /// Writes a member of a JSON object, where there is a text for it.
-fn push_member(json: &mut String, key: &str, text: Option<&str>) -> Result<(), AllocError> {
-    let Some(text) = text else {
-        return Ok(());
-    };
-    let comma = comma(json.as_str());
-    write!(json, "{comma}{key:?}:{text:?}")
+fn push_member(json: &mut Text, key: &str, text: Option<&str>) {
+    if let Some(text) = text {
+        write!(json, ",{key:?}:{text:?}");
+    }
 }
 
 /// Writes the id of a word as a JSON text.
-fn push_quoted_id(json: &mut String, word: &str) -> Result<(), AllocError> {
-    json.push('"')?;
-    push_id(json, word)?;
-    json.push('"')
+fn push_quoted_id(json: &mut Text, word: &str) {
+    json.push_str("\"");
+    push_id(json, word);
+    json.push_str("\"");
 }
 
 /// The kind of dependency of this name: `dev`, `build`, and any other for a normal one.
@@ -186,73 +176,52 @@ fn first_kind(word: &str) -> &'static str {
     "null"
 }
 
-/// Writes what every declared dependency has, up to the first of its features.
-fn push_declared(json: &mut String, word: &str) -> Result<(), AllocError> {
-    let comma = comma(json.as_str());
+/// Writes a declared dependency.
+fn push_declaration(json: &mut Text, word: &str) {
     let (name, _) = named(word);
     let kind = first_kind(word);
     let (optional, defaults) = (is_marked(word, '?'), is_marked(word, '!'));
     write!(
         json,
-        "{comma}{{\"name\":{name:?},\"req\":\"*\",\"kind\":{kind},\"optional\":{optional},\"uses_default_features\":{defaults},\"features\":["
-    )
-}
-
-/// Writes what a declared dependency has only where its word says so.
-fn push_options(json: &mut String, word: &str) -> Result<(), AllocError> {
+        "{{\"name\":{name:?},\"req\":\"*\",\"kind\":{kind},\"optional\":{optional},\"uses_default_features\":{defaults},\"features\":["
+    );
+    push_texts(json, option_of(word, "with=").unwrap_or(""));
+    json.push_str("]");
     for &(option, key) in OPTIONS {
-        push_member(json, key, option_of(word, option))?;
+        push_member(json, key, option_of(word, option));
     }
-    Ok(())
-}
-
-/// Writes a declared dependency.
-fn push_declaration(json: &mut String, word: &str) -> Result<(), AllocError> {
-    push_declared(json, word)?;
-    push_texts(json, option_of(word, "with=").unwrap_or(""))?;
-    json.push(']')?;
-    push_options(json, word)?;
-    json.push('}')
+    json.push_str("}");
 }
 
 /// Writes one of the `dep_kinds` of a dependency of a node.
-fn push_kind(json: &mut String, word: &str, kind: DependencyKind) -> Result<(), AllocError> {
-    let comma = comma(json.as_str());
-    let kind = json_of(kind);
-    write!(json, "{comma}{{\"kind\":{kind}")?;
-    push_member(json, "target", option_of(word, "on="))?;
-    json.push('}')
-}
-
-/// Writes each kind that a word lists.
-fn push_listed_kinds(json: &mut String, word: &str) -> Result<(), AllocError> {
-    for option in word.split('&') {
-        if is_kind(option) {
-            push_kind(json, word, kind_named(option))?;
-        }
-    }
-    Ok(())
+fn push_kind(json: &mut Text, word: &str, kind: DependencyKind) {
+    divide(json);
+    write!(json, "{{\"kind\":{}", json_of(kind));
+    push_member(json, "target", option_of(word, "on="));
+    json.push_str("}");
 }
 
 /// Writes the kinds of a dependency of a node: those that its word lists, or the normal one.
-fn push_kinds(json: &mut String, word: &str) -> Result<(), AllocError> {
-    push_listed_kinds(json, word)?;
-    if json.as_str().ends_with('[') {
-        push_kind(json, word, DependencyKind::Normal)?;
+fn push_kinds(json: &mut Text, word: &str) {
+    for option in word.split('&') {
+        if is_kind(option) {
+            push_kind(json, word, kind_named(option));
+        }
     }
-    Ok(())
+    if json.as_str().ends_with('[') {
+        push_kind(json, word, DependencyKind::Normal);
+    }
 }
 
 /// Writes a dependency of a node.
-fn push_dependency(json: &mut String, word: &str) -> Result<(), AllocError> {
-    let comma = comma(json.as_str());
+fn push_dependency(json: &mut Text, word: &str) {
     let (name, _) = named(word);
     let name = option_of(word, "as=").unwrap_or(name);
-    write!(json, "{comma}{{\"name\":{name:?},\"pkg\":")?;
-    push_quoted_id(json, word)?;
-    json.push_str(",\"dep_kinds\":[")?;
-    push_kinds(json, word)?;
-    json.push_str("]}")
+    write!(json, "{{\"name\":{name:?},\"pkg\":");
+    push_quoted_id(json, word);
+    json.push_str(",\"dep_kinds\":[");
+    push_kinds(json, word);
+    json.push_str("]}");
 }
 
 /// The name of a feature of a manifest, and its references.
@@ -261,19 +230,11 @@ fn feature_of(word: &str) -> (&str, &str) {
 }
 
 /// Writes a feature of a manifest.
-fn push_manifest_feature(json: &mut String, word: &str) -> Result<(), AllocError> {
-    let comma = comma(json.as_str());
+fn push_manifest_feature(json: &mut Text, word: &str) {
     let (name, references) = feature_of(word);
-    write!(json, "{comma}{name:?}:[")?;
-    push_texts(json, references)?;
-    json.push(']')
-}
-
-/// Writes a member of the workspace.
-fn push_workspace_member(json: &mut String, word: &str) -> Result<(), AllocError> {
-    let comma = comma(json.as_str());
-    json.push_str(comma)?;
-    push_quoted_id(json, word)
+    write!(json, "{name:?}:[");
+    push_texts(json, references);
+    json.push_str("]");
 }
 
 /// What words are written as.
@@ -292,23 +253,23 @@ enum Item {
 }
 
 /// Writes a word as this.
-fn push_item(json: &mut String, item: Item, word: &str) -> Result<(), AllocError> {
+fn push_item(json: &mut Text, item: Item, word: &str) {
     match item {
         Item::Declaration => push_declaration(json, word),
         Item::Dependency => push_dependency(json, word),
         Item::Feature => push_manifest_feature(json, word),
-        Item::FeatureName => push_text(json, feature_of(word).0),
-        Item::Member => push_workspace_member(json, word),
+        Item::FeatureName => write!(json, "{:?}", feature_of(word).0),
+        Item::Member => push_quoted_id(json, word),
     }
 }
 
 /// Writes how a list begins, and each word as this.
-fn push_items(json: &mut String, begin: &str, item: Item, words: &str) -> Result<(), AllocError> {
-    json.push_str(begin)?;
+fn push_items(json: &mut Text, begin: &str, item: Item, words: &str) {
+    json.push_str(begin);
     for word in words.split_whitespace() {
-        push_item(json, item, word)?;
+        divide(json);
+        push_item(json, item, word);
     }
-    Ok(())
 }
 
 /// The word of a package or a node, those of what it needs, and its features.
@@ -319,20 +280,8 @@ fn parts_of(item: &str) -> (&str, &str, &str) {
     (word, needs, features)
 }
 
-/// Writes what the word of a package itself says, up to its library.
-fn push_named(json: &mut String, word: &str) -> Result<(), AllocError> {
-    let comma = comma(json.as_str());
-    let (name, version) = named(word);
-    write!(
-        json,
-        "{comma}{{\"name\":{name:?},\"version\":\"{version}\",\"id\":"
-    )?;
-    push_quoted_id(json, word)?;
-    write!(json, ",\"manifest_path\":\"/w/{name}/Cargo.toml\"")
-}
-
 /// Writes the end of the features, and the targets of a package: its library, where its word has one.
-fn push_targets(json: &mut String, word: &str) -> Result<(), AllocError> {
+fn push_targets(json: &mut Text, word: &str) {
     match option_of(word, "lib=") {
         Some(library) => write!(
             json,
@@ -349,94 +298,91 @@ fn source_of(word: &str) -> Option<&'static str> {
 }
 
 /// Writes a package.
-fn push_package(json: &mut String, item: &str) -> Result<(), AllocError> {
+fn push_package(json: &mut Text, item: &str) {
     let (word, needs, features) = parts_of(item);
-    push_named(json, word)?;
-    push_items(json, ",\"dependencies\":[", Item::Declaration, needs)?;
-    push_items(json, "],\"features\":{", Item::Feature, features)?;
-    push_targets(json, word)?;
-    push_member(json, "source", source_of(word))?;
-    json.push('}')
+    let (name, version) = named(word);
+    write!(
+        json,
+        "{{\"name\":{name:?},\"version\":\"{version}\",\"manifest_path\":\"/w/{name}/Cargo.toml\",\"id\":"
+    );
+    push_quoted_id(json, word);
+    push_items(json, ",\"dependencies\":[", Item::Declaration, needs);
+    push_items(json, "],\"features\":{", Item::Feature, features);
+    push_targets(json, word);
+    push_member(json, "source", source_of(word));
+    json.push_str("}");
 }
 
 /// Writes a node. Its `dependencies` have a text that isn't an id, since nothing looks at them.
-fn push_node(json: &mut String, item: &str) -> Result<(), AllocError> {
-    let comma = comma(json.as_str());
+fn push_node(json: &mut Text, item: &str) {
     let (word, needs, features) = parts_of(item);
-    write!(json, "{comma}{{\"id\":")?;
-    push_quoted_id(json, word)?;
+    json.push_str("{\"id\":");
+    push_quoted_id(json, word);
     let begin = ",\"dependencies\":[\"x\"],\"features\":[";
-    push_items(json, begin, Item::FeatureName, features)?;
-    push_items(json, "],\"deps\":[", Item::Dependency, needs)?;
-    json.push_str("]}")
+    push_items(json, begin, Item::FeatureName, features);
+    push_items(json, "],\"deps\":[", Item::Dependency, needs);
+    json.push_str("]}");
 }
 
-/// Writes the packages between bars.
-fn push_packages(json: &mut String, packages: &str) -> Result<(), AllocError> {
-    for item in packages.split('|') {
+/// What items between bars are.
+#[derive(Clone, Copy)]
+enum Listed {
+    Packages,
+    Nodes,
+}
+
+/// Writes the packages or the nodes between bars.
+fn push_listed(json: &mut Text, listed: Listed, items: &str) {
+    for item in items.split('|') {
         if !item.trim().is_empty() {
-            push_package(json, item)?;
+            divide(json);
+            match listed {
+                Listed::Packages => push_package(json, item),
+                Listed::Nodes => push_node(json, item),
+            }
         }
     }
-    Ok(())
 }
 
-/// Writes the nodes between bars.
-fn push_nodes(json: &mut String, nodes: &str) -> Result<(), AllocError> {
-    for item in nodes.split('|') {
-        if !item.trim().is_empty() {
-            push_node(json, item)?;
-        }
-    }
-    Ok(())
-}
-
-/// Writes the id of the root, or null where there is none.
-fn push_root(json: &mut String, line: &str) -> Result<(), AllocError> {
-    match section(line, "root ") {
-        Some(word) => push_quoted_id(json, word),
-        None => json.push_str("null"),
-    }
-}
-
-/// Writes the end of the list of members, and the resolved graph of these nodes.
-fn push_resolved(json: &mut String, line: &str, nodes: &str) -> Result<(), AllocError> {
-    json.push_str("],\"resolve\":{\"nodes\":[")?;
-    push_nodes(json, nodes)?;
-    json.push_str("],\"root\":")?;
-    push_root(json, line)?;
-    json.push('}')
-}
-
-/// Writes the end of the list of members, and behind it the resolved graph, or null in its place, or neither.
-fn push_graph(json: &mut String, line: &str, packages: &str) -> Result<(), AllocError> {
+/// Writes the resolved graph, or null in its place, or neither.
+fn push_graph(json: &mut Text, line: &str, packages: &str) {
     if section(line, "null graph").is_some() {
-        json.push_str("],\"resolve\":null")
-    } else if section(line, "no graph").is_some() {
-        json.push(']')
-    } else {
-        push_resolved(json, line, section(line, "nodes").unwrap_or(packages))
+        json.push_str(",\"resolve\":null");
+    } else if section(line, "no graph").is_none() {
+        json.push_str(",\"resolve\":{\"nodes\":[");
+        push_listed(
+            json,
+            Listed::Nodes,
+            section(line, "nodes").unwrap_or(packages),
+        );
+        json.push_str("],\"root\":");
+        match section(line, "root ") {
+            Some(word) => push_quoted_id(json, word),
+            None => json.push_str("null"),
+        }
+        json.push_str("}");
     }
 }
 
 /// Writes the document of a line. Its default members aren't ids, since nothing looks at them.
-fn push_document(json: &mut String, line: &str) -> Result<(), AllocError> {
+fn push_document(json: &mut Text, line: &str) {
     let (packages, _) = line.split_once(" / ").unwrap_or((line, ""));
     json.push_str(
         "{\"workspace_root\":\"/w\",\"target_directory\":\"/t\",\"workspace_default_members\":[\"x\"],\"packages\":[",
-    )?;
-    push_packages(json, packages)?;
+    );
+    push_listed(json, Listed::Packages, packages);
     let members = section(line, "members").unwrap_or("a");
-    push_items(json, "],\"workspace_members\":[", Item::Member, members)?;
-    push_graph(json, line, packages)?;
-    json.push('}')
+    push_items(json, "],\"workspace_members\":[", Item::Member, members);
+    json.push_str("]");
+    push_graph(json, line, packages);
+    json.push_str("}");
 }
 
 /// The text of the document of a line.
 pub fn document(alloc: Global, line: &str) -> Result<String, Fail> {
-    let mut json = String::new(alloc);
-    push_document(&mut json, line)?;
-    Ok(json.as_str().replace(alloc, '~', " ")?)
+    let mut json = Text::new(alloc);
+    push_document(&mut json, line);
+    Ok(json.whole()?.as_str().replace(alloc, '~', " ")?)
 }
 
 /// The document of a line, read.
@@ -447,6 +393,8 @@ pub fn metadata(alloc: Global, line: &str) -> Result<Metadata, Fail> {
 
 /// The id of a word, read.
 pub fn kid_of(alloc: Global, word: &str) -> Result<Kid, Fail> {
-    let repr = id_of(alloc, word)?;
+    let mut id = Text::new(alloc);
+    push_id(&mut id, word);
+    let repr = id.whole()?;
     Ok(Kid::try_from(PackageId { repr })?)
 }

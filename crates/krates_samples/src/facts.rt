@@ -8,10 +8,10 @@
 //! A step is the number of its rule, its fact, and the numbers of the steps that it uses, as `4 a>b 1`; a semicolon divides steps.
 
 use crate::documents::{kid_of, kind_named};
+use crate::settings::{FromText, all_of};
 use krates_ids::Kid;
 use krates_rules::{DepKind, Derivation, Fact, Step};
 use std::alloc::{AllocError, Global};
-use std::str::SplitWhitespace;
 use std::test::Fail;
 
 /// The text that may be there.
@@ -67,58 +67,49 @@ fn enabled(alloc: Global, word: &str) -> Result<Fact, Fail> {
 }
 
 /// The fact of a word.
-fn fact_of(alloc: Global, word: &str) -> Result<Fact, Fail> {
-    if let Some(krate) = word.strip_prefix("+") {
-        return Ok(Fact::Crate(kid_of(alloc, krate)?));
-    }
-    match word.split_once('>') {
-        Some((parent, rest)) => edge_fact(alloc, parent, rest),
-        None => enabled(alloc, word),
+impl FromText for Fact {
+    fn from_text(alloc: Global, word: &str) -> Result<Fact, Fail> {
+        if let Some(krate) = word.strip_prefix("+") {
+            return Ok(Fact::Crate(kid_of(alloc, krate)?));
+        }
+        match word.split_once('>') {
+            Some((parent, rest)) => edge_fact(alloc, parent, rest),
+            None => enabled(alloc, word),
+        }
     }
 }
 
-/// The numbers of the words.
-fn used_numbers(alloc: Global, words: SplitWhitespace<'_>) -> Result<Vec<usize>, Fail> {
-    let mut numbers = Vec::new(alloc);
-    for word in words {
-        numbers.push(word.parse()?)?;
+impl FromText for usize {
+    fn from_text(_alloc: Global, text: &str) -> Result<usize, Fail> {
+        Ok(text.parse()?)
     }
-    Ok(numbers)
 }
 
-/// Adds the step of these words.
-fn push_step(steps: &mut Vec<Step>, alloc: Global, text: &str) -> Result<(), Fail> {
-    let mut words = text.split_whitespace();
-    let rule = words.next().unwrap_or("").parse()?;
-    let word = words.next().unwrap_or("");
-    let uses = used_numbers(alloc, words)?;
-    let fact = fact_of(alloc, word)?;
-    steps.push(Step { rule, fact, uses })?;
-    Ok(())
+/// The step of its words.
+impl FromText for Step {
+    fn from_text(alloc: Global, text: &str) -> Result<Step, Fail> {
+        let (rule, rest) = text.split_once(' ').unwrap_or((text, ""));
+        let (word, uses) = rest.split_once(' ').unwrap_or((rest, ""));
+        let rule = rule.parse()?;
+        let uses = all_of(alloc, uses, ' ')?;
+        let fact = Fact::from_text(alloc, word)?;
+        Ok(Step { rule, fact, uses })
+    }
 }
 
 /// The steps of a text.
 pub fn steps_of(alloc: Global, text: &str) -> Result<Derivation, Fail> {
-    let mut steps = Vec::new(alloc);
-    for part in text.split(';') {
-        if !part.trim().is_empty() {
-            push_step(&mut steps, alloc, part)?;
-        }
-    }
+    let steps = all_of(alloc, text, ';')?;
     Ok(Derivation { steps })
 }
 
 /// Adds the fact of a word.
 pub fn push_fact(facts: &mut Vec<Fact>, alloc: Global, word: &str) -> Result<(), Fail> {
-    facts.push(fact_of(alloc, word)?)?;
+    facts.push(Fact::from_text(alloc, word)?)?;
     Ok(())
 }
 
 /// The facts of the words.
 pub fn facts_of(alloc: Global, text: &str) -> Result<Vec<Fact>, Fail> {
-    let mut facts = Vec::new(alloc);
-    for word in text.split_whitespace() {
-        push_fact(&mut facts, alloc, word)?;
-    }
-    Ok(facts)
+    all_of(alloc, text, ' ')
 }

@@ -5,7 +5,7 @@
 //! - `include PATHS`: the crates with these manifests are roots.
 //! - `ignore KIND SCOPE`: this kind of dependency is ignored for the crates of the scope.
 //! - `without SPECS`: the packages that one of these fits are left out.
-//! - `for TARGETS`: the targets, each a triple, and behind a plus sign a feature that it has; or behind it, each behind a
+//! - `for TARGETS`: the targets, each a triple, and behind plus signs the features that it has; or behind it, each behind a
 //!   semicolon, the lines by which rustc describes it.
 //!
 //! Any other section sets nothing. Here the words after the names are read; whoever has a builder or a setting sets them.
@@ -34,13 +34,38 @@ pub fn scope_of(name: &str) -> Scope {
     }
 }
 
+/// A value that a text is read as.
+pub trait FromText: Sized + Drop {
+    /// What is read of this text.
+    fn from_text(alloc: Global, text: &str) -> Result<Self, Fail>;
+}
+
+/// What is read of each text between these characters that isn't blank.
+pub fn all_of<T: FromText>(alloc: Global, text: &str, between: char) -> Result<Vec<T>, Fail> {
+    let mut all = Vec::new(alloc);
+    for part in text.split(between) {
+        if !part.trim().is_empty() {
+            all.push(T::from_text(alloc, part.trim())?)?;
+        }
+    }
+    Ok(all)
+}
+
+impl FromText for String {
+    fn from_text(alloc: Global, text: &str) -> Result<String, Fail> {
+        Ok(String::from_str(alloc, text)?)
+    }
+}
+
+impl FromText for PkgSpec {
+    fn from_text(alloc: Global, text: &str) -> Result<PkgSpec, Fail> {
+        Ok(PkgSpec::from_str(alloc, text)?)
+    }
+}
+
 /// The specifications between blanks.
 pub fn package_specs(alloc: Global, text: &str) -> Result<Vec<PkgSpec>, Fail> {
-    let mut specs = Vec::new(alloc);
-    for word in text.split_whitespace() {
-        specs.push(PkgSpec::from_str(alloc, word)?)?;
-    }
-    Ok(specs)
+    all_of(alloc, text, ' ')
 }
 
 /// The target of a triple that these lines of rustc's describe.
@@ -50,24 +75,19 @@ fn described(alloc: Global, triple: &str, lines: &str) -> Result<(Target, Vec<St
     Ok((Target::Builtin(info), features))
 }
 
-/// The target of a word.
-fn target(alloc: Global, word: &str) -> Result<(Target, Vec<String>), Fail> {
-    if let Some((triple, lines)) = word.split_once(';') {
-        return described(alloc, triple, lines);
+/// The target of a word, with its feature.
+impl FromText for (Target, Vec<String>) {
+    fn from_text(alloc: Global, word: &str) -> Result<(Target, Vec<String>), Fail> {
+        if let Some((triple, lines)) = word.split_once(';') {
+            return described(alloc, triple, lines);
+        }
+        let (triple, feature) = word.split_once('+').unwrap_or((word, ""));
+        let features = all_of(alloc, feature, '+')?;
+        Ok((Target::new(alloc, triple)?, features))
     }
-    let (triple, feature) = word.split_once('+').unwrap_or((word, ""));
-    let mut features = Vec::new(alloc);
-    if !feature.is_empty() {
-        features.push(String::from_str(alloc, feature)?)?;
-    }
-    Ok((Target::new(alloc, triple)?, features))
 }
 
 /// The targets between blanks.
 pub fn targets_of(alloc: Global, text: &str) -> Result<Vec<(Target, Vec<String>)>, Fail> {
-    let mut targets = Vec::new(alloc);
-    for word in text.split_whitespace() {
-        targets.push(target(alloc, word)?)?;
-    }
-    Ok(targets)
+    all_of(alloc, text, ' ')
 }

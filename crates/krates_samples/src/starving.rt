@@ -134,17 +134,22 @@ fn steps_to_enough<C: Call>(alloc: Global, call: &C) -> Result<usize, Fail> {
 const SCRIPT: &str =
     "ulimit -v 100000; exec env GLIBC_TUNABLES=glibc.malloc.tcache_count=0:glibc.malloc.mxfast=0:glibc.malloc.mmap_max=0:glibc.malloc.arena_max=1:glibc.malloc.trim_threshold=1000000000 \"$0\" \"$1\" now";
 
-/// What a program, started with little memory for the test of this name, writes, and how it ends.
-fn output_of(rt: &HostRuntime, program: &str, name: &str) -> Result<Output, Fail> {
-    let mut command = Command::new(rt.alloc(), "/bin/sh")?;
-    command.args(&["-c", SCRIPT, program, name])?;
-    Ok(command.output(rt)?)
+/// What a shell writes that starts this program with little memory for the test of this name, and how it ends.
+fn output_of(
+    rt: &HostRuntime,
+    shell: &mut Command,
+    program: &str,
+    name: &str,
+) -> Result<Output, Fail> {
+    shell.args(&["-c", SCRIPT, program, name])?;
+    Ok(shell.output(rt)?)
 }
 
 /// What this program, started again with little memory for the test of this name, writes, and how it ends.
 fn output(rt: &HostRuntime, name: &str) -> Result<Output, Fail> {
     let this = std::env::current_exe(rt)?;
-    output_of(rt, this.as_str(), name)
+    let mut shell = Command::new(rt.alloc(), "/bin/sh")?;
+    output_of(rt, &mut shell, this.as_str(), name)
 }
 
 /// Fails, and names the call, which is told last, with what was told of it.
