@@ -59,7 +59,7 @@ pub one_in : (r : Resolved) (parts : NodeParts) (name : Text) (x : Referent) →
 one_in r parts name x w at =
     let same : w.child ≡ x.id.now = same_Some w.child x.id.now (sym w.at ∙ at) in
     let is = subst (λ (c : Identity). IsReferent r false (krate_of parts) name (id_of c)) same w.is in
-    let here : IsReferentIn r false parts name x = record { at = at; dep = subst (λ (c : Identity). DepAt r (krate_of parts) (id_of c) parts.place x.place) same w.dep; is = is } in
+    let here : IsReferentIn r false parts name x = record { at = at; dep = subst (λ (c : Identity). DepAt r (krate_of parts) (id_of c) parts.place.index x.place) same w.dep; is = is } in
     record { each = λ y m. (let w = place_in (x ∷ []) y m in subst (IsReferentIn r false parts name) (only_one x y w.0 w.1) here); are = one_meant r (krate_of parts) name (referent_id x) is }
 
 -- ---- one dependency of a node
@@ -180,10 +180,10 @@ ids_ascend (x ∷ xs) own h = (below_each x xs (λ k y at. own 0 (suc k) x y ref
 -- ---- all of them
 
 -- a dependency that answers is meant
-meant_here : (r : Resolved) (parts : NodeParts) (name : Text) (x : Referent) → AreParts r parts.place parts → AnswersAt r parts name x.place x.id.now → IsReferentIn r true parts name x
+meant_here : (r : Resolved) (parts : NodeParts) (name : Text) (x : Referent) → AreParts r parts.place.index parts → AnswersAt r parts name x.place x.id.now → IsReferentIn r true parts name x
 meant_here r parts name x p a = record {
   at = a.at;
-  dep = dep_of_child r parts.place parts x.place x.id.now p a.at;
+  dep = dep_of_child r parts.place.index parts x.place x.id.now p a.at;
   is = record { is_named = named_there r parts name x.place x.id.now p a; least = λ off. absurd cc };
 }
 
@@ -202,7 +202,7 @@ pub if_ok_three : {T E : Type 0} {P Q R S : T → Type 0} (result : Result T E) 
 if_ok_three (Ok x) f p q r = f x p q r
 if_ok_three (Err e) f p q r = tt
 
-pub sorted_in : ReadsOnce → OrderTellsSame → (r : Resolved) (parts : NodeParts) (name : Text) (places : List ℕ) (found sorted : List Referent) → NoneDoubled r.metadata r.graph → AreParts r parts.place parts
+pub sorted_in : ReadsOnce → OrderTellsSame → (r : Resolved) (parts : NodeParts) (name : Text) (places : List ℕ) (found sorted : List Referent) → NoneDoubled r.metadata r.graph → AreParts r parts.place.index parts
     → ((k : ℕ) (c : Identity) → AnswersAt r parts name k c → Contains places k) → HasAnswering r parts name places found → SortsOut found sorted → AreReferentsIn r true parts name sorted
 sorted_in once tells r parts name places found sorted none p among h s = record { each = each; are = record { exactly = λ c. (meant c, there c); ascending = ids_ascend sorted own s.ascending } }
   where
@@ -231,4 +231,4 @@ sorted_in once tells r parts name places found sorted none p among h s = record 
         let m = each x (contains_at sorted j x a) in
         let n = each y (contains_at sorted k y b) in
         let same : id_of x.id.now ≡ id_of y.id.now = id_of_same x.id.now y.id.now ((tells x.id.now y.id.now).0 e) in
-        (one_dep_place r (krate_of parts) (id_of y.id.now) parts.place x.place parts.place y.place none (subst (λ i. DepAt r (krate_of parts) i parts.place x.place) same m.dep) n.dep).1
+        (one_dep_place r (krate_of parts) (id_of y.id.now) parts.place.index x.place parts.place.index y.place none (subst (λ i. DepAt r (krate_of parts) i parts.place.index x.place) same m.dep) n.dep).1

@@ -62,7 +62,7 @@ no_dep_told once r parent child x none of absent n d has dep =
 pub entry_told : (r : Resolved) (parent child : Id) (x : NodeParts) (k : ℕ) (y : NodeEntry) → ArePartsOf r parent x → StandsAt x.children.now child k → IsEntryOf x k y → IsEntryBetween r parent child y
 entry_told r parent child x k y of s e =
     record {
-      entry = entry_here r x.place x k y of.parts e;
+      entry = entry_here r x.place.index x k y of.parts e;
       parent = ap id_of e.parent ∙ of.parent;
       child = ap id_of (same_Some y.child.now s.there (sym e.child ∙ s.at)) ∙ s.same;
     }

@@ -31,7 +31,7 @@ both_true false b h = absurd cc
 same_listed_true : (a b : ListedFeature) → same_listed a b ≡ true → listed_view a ≡ listed_view b
 same_listed_true a b h =
     let w = both_true _ _ h in
-    let place : a.place ≡ b.place = eqb-true _ _ w.0 in
+    let place : a.place.index ≡ b.place.index = eqb-true _ _ w.0 in
     let name : a.name.now ≡ b.name.now = (bytes_decides a.name.now b.name.now).0 w.1 in
     rw (place, name) refl
 
@@ -43,9 +43,9 @@ listed_true a b h = same_listed_true a b (listed_ties a b ∙ h)
 
 same_listed_of : (a b : ListedFeature) → listed_view a ≡ listed_view b → same_listed a b ≡ true
 same_listed_of a b e =
-    let place : a.place ≡ b.place = ap (λ (p : ℕ × Text). p.0) e in
+    let place : a.place.index ≡ b.place.index = ap (λ (p : ℕ × Text). p.0) e in
     let name : a.name.now ≡ b.name.now = ap (λ (p : ℕ × Text). p.1) e in
-    rw (place, name, eq-eqb b.place b.place refl, (bytes_decides b.name.now b.name.now).1 refl) refl
+    rw (place, name, eq-eqb b.place.index b.place.index refl, (bytes_decides b.name.now b.name.now).1 refl) refl
 
 listed_of : (a b : ListedFeature) → listed_view a ≡ listed_view b → is_eq (listed_cmp a b) ≡ true
 listed_of a b e = sym (listed_ties a b) ∙ same_listed_of a b e

@@ -143,17 +143,17 @@ past_here r parts name i least past (e, w, before) = let lt = slice_get_within p
 
 -- ---- what the name means
 
-pub has_dep_at : (r : Resolved) (parts : NodeParts) (name : Text) (k : ℕ) (c : Identity) → (p : AreParts r parts.place parts) → (a : AnswersAt r parts name k c) → (slice_get p.at.node.deps k ≡ Some a.dep) × HasDep p.at.node (id_of c) a.dep
+pub has_dep_at : (r : Resolved) (parts : NodeParts) (name : Text) (k : ℕ) (c : Identity) → (p : AreParts r parts.place.index parts) → (a : AnswersAt r parts name k c) → (slice_get p.at.node.deps k ≡ Some a.dep) × HasDep p.at.node (id_of c) a.dep
 has_dep_at r parts name k c p a =
     let here : slice_get p.at.node.deps k ≡ Some a.dep = ap (λ ds. slice_get ds k) p.deps ∙ a.here in
     (here, has_dep_here p.at.node parts.children.now k a.dep c p.children here a.at)
 
 -- what answers is named
-pub named_there : (r : Resolved) (parts : NodeParts) (name : Text) (k : ℕ) (c : Identity) → AreParts r parts.place parts → AnswersAt r parts name k c → AnswersIn r (id_of parts.parent.now) name (id_of c)
+pub named_there : (r : Resolved) (parts : NodeParts) (name : Text) (k : ℕ) (c : Identity) → AreParts r parts.place.index parts → AnswersAt r parts name k c → AnswersIn r (id_of parts.parent.now) name (id_of c)
 named_there r parts name k c p a = record { node = p.at.node; has_node = p.has_node; dep = a.dep; has_dep = (has_dep_at r parts name k c p a).1; answers = a.answers }
 
 -- and what is named answers at some place
-pub answers_there : ReadsOnce → (r : Resolved) (parts : NodeParts) (name : Text) (child : Id) → NoneDoubled r.metadata r.graph → AreParts r parts.place parts → AnswersIn r (id_of parts.parent.now) name child
+pub answers_there : ReadsOnce → (r : Resolved) (parts : NodeParts) (name : Text) (child : Id) → NoneDoubled r.metadata r.graph → AreParts r parts.place.index parts → AnswersIn r (id_of parts.parent.now) name child
     → (k : ℕ) × (c : Identity) × (k < length parts.children.now) × AnswersAt r parts name k c × (id_of c ≡ child)
 answers_there once r parts name child none p n =
     let same = one_node r (id_of parts.parent.now) n.node p.at.node none n.has_node p.has_node in
@@ -195,7 +195,7 @@ by_either r parts name n kids own children these those k c d a b seen shown at t
     Contains-append_right these those k (shown.each k (subst (λ (t : Text). StandsUnder children t no_target k) (sym e) (b.each k c d p there at h l)))
 
 -- each dependency that answers is among them
-pub answers_among : ReadsOnce → (r : Resolved) (parts : NodeParts) (name : Text) (kids : List Identity) (own children : List NamedPlace) (these those : List ℕ) (k : ℕ) (c : Identity) → (p : AreParts r parts.place parts) → AreDepIds p.at.node kids
+pub answers_among : ReadsOnce → (r : Resolved) (parts : NodeParts) (name : Text) (kids : List Identity) (own children : List NamedPlace) (these those : List ℕ) (k : ℕ) (c : Identity) → (p : AreParts r parts.place.index parts) → AreDepIds p.at.node kids
     → AreDepsOf p.at.node own → FindsRenamed r p.at.node kids children → AreLookedAt name own these → AreLookedAt name children those → AnswersAt r parts name k c → Contains (these ++ those) k
 answers_among once r parts name kids own children these those k c p read a b seen shown w =
     let at = (has_dep_at r parts name k c p w).0 in
@@ -203,7 +203,7 @@ answers_among once r parts name kids own children these those k c p read a b see
 
 -- all have been gone over
 pub referent_told : ReadsOnce → (r : Resolved) (parts : NodeParts) (name : Text) (kids : List Identity) (own children : List NamedPlace) (these those : List ℕ) (least : Option ℕ) → NoneDoubled r.metadata r.graph
-    → (p : AreParts r parts.place parts) → AreDepIds p.at.node kids → AreDepsOf p.at.node own → FindsRenamed r p.at.node kids children → AreLookedAt name own these → AreLookedAt name children those → IsLeastOf r parts name (these ++ those) least
+    → (p : AreParts r parts.place.index parts) → AreDepIds p.at.node kids → AreDepsOf p.at.node own → FindsRenamed r p.at.node kids children → AreLookedAt name own these → AreLookedAt name children those → IsLeastOf r parts name (these ++ those) least
     → MatchOption least ((child : Id) → IsReferent r false (id_of parts.parent.now) name child → ⊥) (IsReferentAt r parts name)
 referent_told once r parts name kids own children these those None doubled p read a b seen shown none = λ child referent.
     let w = answers_there once r parts name child doubled p referent.is_named in

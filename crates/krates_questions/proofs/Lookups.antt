@@ -1,13 +1,13 @@
 -- Look-ups in the list of ids agree with the document.
-use Rattle.std.proofs.Common.{◌≡◌, ℕ, zero, suc, List, [], ◌∷◌, map, Option, Some, None, option_map, refl, sym, ap, ◌∙◌, subst, Contains, is_some}
+use Rattle.std.proofs.Common.{◌≡◌, ℕ, zero, suc, List, [], ◌∷◌, map, Option, Some, None, MatchOption, option_map, refl, sym, ap, ◌∙◌, subst, Contains, is_some}
 use Rattle.std.proofs.lemmas.Option.{slice_get-map, slice_get-get_or, same_Some}
 use Rattle.std.specs.List.{AllZip, slice_get}
 use Rattle.krates_cm.specs.Document.{Text, PackageModel, NodeModel}
 use Rattle.krates_ids.specs.Identity.{Identity, Reads}
 use Rattle.krates_rules.specs.Facts.{Id}
 use Rattle.krates_rules.specs.Admission.{package_texts, node_texts}
-use Rattle.krates_questions.specs.Lookup.{IsPackagePlace, IsNodePlace, TellsMember}
-use Rattle.krates_rules.specs.Resolved.{Resolved, id_of, ReadsAs, StandsAt, NodeAt}
+use Rattle.krates_questions.specs.Lookup.{IsPackagePlace, TellsMember}
+use Rattle.krates_rules.specs.Resolved.{Resolved, id_of, ReadsAs, StandsAt, NoNode, NodeAt}
 use Rattle.krates_questions.specs.CrateTable.{IsPlaceOf}
 use Rattle.krates_rules.proofs.Readings.{ReadsOnce, left_of, right_of}
 use Rattle.krates_rules.proofs.OnlyOne.{place_in}
@@ -51,7 +51,7 @@ member_answer r ids i (Some place) once z s =
     record { text = t.0; among = contains_at r.metadata.workspace_members place t.0 t.1; id = record { read = s.there; reads = t.2; same = s.same } }
 
 -- a place in the list of ids is a place of the node
-pub node_answer : (r : Resolved) (ids : List Identity) (i : Id) (answer : Option ℕ) → ReadsOnce → AllZip Reads (node_texts r.graph) ids → IsPlaceOf ids i answer → IsNodePlace r i answer
+pub node_answer : (r : Resolved) (ids : List Identity) (i : Id) (answer : Option ℕ) → ReadsOnce → AllZip Reads (node_texts r.graph) ids → IsPlaceOf ids i answer → MatchOption answer (NoNode r i) (NodeAt r i)
 node_answer r ids i None once z none = λ n h. nowhere (λ (n : NodeModel). n.id) r.graph.nodes ids i once z none n h.among h.id
 node_answer r ids i (Some place) once z s = let w = at_place (λ (n : NodeModel). n.id) r.graph.nodes ids i place z s in record { node = w.0; at = w.1; id = w.2 }
 

@@ -22,6 +22,7 @@ use Rattle.krates_questions.specs.NodeEntry.{AreDeclaredBy, AreParts, HasItsVers
 use Rattle.krates_questions.specs.declared.lookup.Lookup.{Lookup}
 use Rattle.krates_questions.specs.declared.node_entry.NodeEntry.{NodeEntry}
 use Rattle.krates_questions.specs.declared.node_entry.NodeParts.{NodeParts}
+use Rattle.krates_questions.specs.declared.node_place.NodePlace.{NodePlace}
 use Rattle.krates_rules.proofs.Readings.{left_of}
 use Rattle.krates_questions.proofs.Lookups.{at_place}
 use Rattle.krates_questions.proofs.ReadIds.{read_at}
@@ -104,7 +105,7 @@ versions_here d place x ids versions h lt is_ids is_versions children own =
 
 pub parts_here : (d : Lookup) (place : ℕ) (x : NodeParts) (n : Node) (ids : Vec Identity) → IsLookup d → place < length (resolved_view d).graph.nodes → x.parent.now ≡ get_or d.ids.now.nodes.items place x.parent.now
     → n ≡ get_or d.resolve.now.nodes.items place n → ids ≡ get_or d.ids.now.deps.items place ids → x.deps.now ≡ n.deps.items → x.children.now ≡ ids.items → AllZip HasThisVersion x.children.now (map parts_of x.versions.now)
-    → AreDeclaredBy (resolved_view d) (id_of x.parent.now) (map dependency_view x.declared.now) → TellsMember (resolved_view d) (id_of x.parent.now) x.is_member → x.place ≡ place → AreParts (resolved_view d) place x
+    → AreDeclaredBy (resolved_view d) (id_of x.parent.now) (map dependency_view x.declared.now) → TellsMember (resolved_view d) (id_of x.parent.now) x.is_member → x.place.index ≡ place → AreParts (resolved_view d) place x
 parts_here d place x n ids h lt is_id is_node is_ids deps children versions declares tells place_is =
     let r = resolved_view d in
     let long = nodes_long d h in
@@ -143,14 +144,14 @@ id_seen ids k i lt is = slice_get_read ids (length ids) k i refl lt is
 
 -- the dependency at a place leads to the child there
 pub dep_there : (r : Resolved) (place : ℕ) (x : NodeParts) (k : ℕ) (d : NodeDepModel) (child : Identity) → AreParts r place x → slice_get (map node_dep_view x.deps.now) k ≡ Some d → slice_get x.children.now k ≡ Some child
-    → DepAt r (id_of x.parent.now) (id_of child) x.place k
+    → DepAt r (id_of x.parent.now) (id_of child) x.place.index k
 dep_there r place x k d child p dep there =
     let here = ap (λ (ds : List NodeDepModel). slice_get ds k) p.deps ∙ dep in
     let at : DepAt r (id_of x.parent.now) (id_of child) place k = record { node = p.at; dep = d; at = here; id = (has_dep_here p.at.node x.children.now k d child p.children here there).id } in
     subst (λ (n : ℕ). DepAt r (id_of x.parent.now) (id_of child) n k) (sym p.place_is) at
 
 -- there is one at the place of each child
-pub dep_of_child : (r : Resolved) (place : ℕ) (x : NodeParts) (k : ℕ) (child : Identity) → AreParts r place x → slice_get x.children.now k ≡ Some child → DepAt r (id_of x.parent.now) (id_of child) x.place k
+pub dep_of_child : (r : Resolved) (place : ℕ) (x : NodeParts) (k : ℕ) (child : Identity) → AreParts r place x → slice_get x.children.now k ≡ Some child → DepAt r (id_of x.parent.now) (id_of child) x.place.index k
 dep_of_child r place x k child p there =
     let lt = subst (λ (n : ℕ). k < n) (deps_long r place x p ∙ sym (length-map x.deps.now node_dep_view)) (slice_get_within x.children.now k child there) in
     elim (slice_get_cases (map node_dep_view x.deps.now) k).1 [
@@ -177,7 +178,7 @@ version_here r place x k y p e =
 pub entry_here : (r : Resolved) (place : ℕ) (x : NodeParts) (k : ℕ) (y : NodeEntry) → AreParts r place x → IsEntryOf x k y → IsEntry r y
 entry_here r place x k y p e =
     let dep = slice_get-map node_dep_view x.deps.now k ∙ ap (option_map node_dep_view) e.dep in
-    let here : HasEntry r (id_of x.parent.now) y.child.now (node_dep_view y.dep.now) (map dependency_view x.declared.now) x.is_member x.place k = record {
+    let here : HasEntry r (id_of x.parent.now) y.child.now (node_dep_view y.dep.now) (map dependency_view x.declared.now) x.is_member x.place.index k = record {
       node = p.at.node;
       has_node = p.has_node;
       has_dep = has_dep_here p.at.node x.children.now k (node_dep_view y.dep.now) y.child.now p.children (ap (λ (ds : List NodeDepModel). slice_get ds k) p.deps ∙ dep) e.child;
@@ -185,11 +186,11 @@ entry_here r place x k y p e =
       tells = p.tells;
       at = dep_there r place x k (node_dep_view y.dep.now) y.child.now p dep e.child;
     } in
-    let of_parent = subst (λ (i : Identity). HasEntry r (id_of i) y.child.now (node_dep_view y.dep.now) (map dependency_view x.declared.now) x.is_member x.place k) (sym e.parent) here in
-    let of_declared = subst (λ (ds : List Dependency). HasEntry r (id_of y.parent.now) y.child.now (node_dep_view y.dep.now) (map dependency_view ds) x.is_member x.place k) (sym e.declared) of_parent in
-    let of_member = subst (λ (b : Bool). HasEntry r (id_of y.parent.now) y.child.now (node_dep_view y.dep.now) (map dependency_view y.declared.now) b x.place k) (sym e.is_member) of_declared in
-    let of_place = subst (λ (n : ℕ). HasEntry r (id_of y.parent.now) y.child.now (node_dep_view y.dep.now) (map dependency_view y.declared.now) y.is_member n k) (sym e.place) of_member in
-    let whole = subst (λ (n : ℕ). HasEntry r (id_of y.parent.now) y.child.now (node_dep_view y.dep.now) (map dependency_view y.declared.now) y.is_member y.place n) (sym e.index) of_place in
+    let of_parent = subst (λ (i : Identity). HasEntry r (id_of i) y.child.now (node_dep_view y.dep.now) (map dependency_view x.declared.now) x.is_member x.place.index k) (sym e.parent) here in
+    let of_declared = subst (λ (ds : List Dependency). HasEntry r (id_of y.parent.now) y.child.now (node_dep_view y.dep.now) (map dependency_view ds) x.is_member x.place.index k) (sym e.declared) of_parent in
+    let of_member = subst (λ (b : Bool). HasEntry r (id_of y.parent.now) y.child.now (node_dep_view y.dep.now) (map dependency_view y.declared.now) b x.place.index k) (sym e.is_member) of_declared in
+    let of_place = subst (λ (p : NodePlace). HasEntry r (id_of y.parent.now) y.child.now (node_dep_view y.dep.now) (map dependency_view y.declared.now) y.is_member p.index k) (sym e.place) of_member in
+    let whole = subst (λ (n : ℕ). HasEntry r (id_of y.parent.now) y.child.now (node_dep_view y.dep.now) (map dependency_view y.declared.now) y.is_member y.place.index n) (sym e.index) of_place in
     record {
       node = whole.node;
       has_node = whole.has_node;

@@ -16,7 +16,7 @@ pub record IsExcludedOnly (r : Resolved) (s : SettingModel) (i : Id) : Type 0 wh
 
 -- the crate stands, with its node at this place, or lacks a package, or lacks a node, or is excluded: each answer refutes the others
 abbrev pub IsAvailability : Resolved → SettingModel → Id → Availability → Type 0
-IsAvailability r s i (available.Available place) = Stands r s i × NodeAt r i place
+IsAvailability r s i (available.Available place) = Stands r s i × NodeAt r i place.index
 IsAvailability r s i available.NoPackage = NoPackage r i
 IsAvailability r s i available.NoNode = LacksNode r s i
 IsAvailability r s i available.Excluded = IsExcludedOnly r s i

@@ -6,7 +6,7 @@ use Rattle.std.specs.Ordering.{nat_cmp, on, then_cmp, eq_of_both}
 use Rattle.krates_questions.specs.declared.feature_table.ListedFeature.{ListedFeature}
 
 abbrev pub same_listed : ListedFeature → ListedFeature → Bool
-same_listed = eq_of_both (on (λ x. x.place) ◌==◌) (on (λ x. x.name.now) (pointwise ◌==◌))
+same_listed = eq_of_both (on (λ x. x.place.index) ◌==◌) (on (λ x. x.name.now) (pointwise ◌==◌))
 
 abbrev pub listed_cmp : ListedFeature → ListedFeature → Ordering
-listed_cmp = then_cmp (on (λ x. x.place) nat_cmp) (on (λ x. x.name.now) (slice_cmp nat_cmp))
+listed_cmp = then_cmp (on (λ x. x.place.index) nat_cmp) (on (λ x. x.name.now) (slice_cmp nat_cmp))

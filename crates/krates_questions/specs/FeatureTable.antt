@@ -9,7 +9,7 @@ use Rattle.krates_questions.specs.declared.feature_table.FeatureTable.{FeatureTa
 use Rattle.krates_questions.specs.declared.feature_table.ListedFeature.{ListedFeature}
 
 abbrev pub listed_view : ListedFeature → ℕ × Text
-listed_view x = (x.place, x.name.now)
+listed_view x = (x.place.index, x.name.now)
 
 abbrev pub listed_in : FeatureTable → List (ℕ × Text)
 listed_in t = map listed_view t.listed.items

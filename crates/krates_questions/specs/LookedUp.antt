@@ -17,7 +17,7 @@ use Rattle.krates_questions.specs.declared.node_entry.NodeParts.{NodeParts}
 
 -- these are the parts of the crate's node
 pub record ArePartsOf (r : Resolved) (i : Id) (x : NodeParts) : Type 0 where
-  pub parts : AreParts r x.place x
+  pub parts : AreParts r x.place.index x
   pub parent : id_of x.parent.now ≡ i
 
 -- the parts of the crate's node, or none if it has no node

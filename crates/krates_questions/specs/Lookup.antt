@@ -18,6 +18,7 @@ use Rattle.krates_questions.specs.CrateTable.{IsNumberOf, IsTable, numbers_in}
 use Rattle.krates_questions.specs.NameIndex.{IsNameIndex, lists_in}
 use Rattle.krates_questions.specs.Renamed.{AreRenamedIn}
 use Rattle.krates_questions.specs.declared.lookup.Lookup.{Lookup}
+use Rattle.krates_questions.specs.declared.node_place.NodePlace.{NodePlace}
 
 abbrev pub resolved_view : Lookup → Resolved
 resolved_view d = record { metadata = metadata_view d.metadata.now; graph = resolve_view d.resolve.now }
@@ -45,8 +46,8 @@ abbrev pub IsPackageOf : Resolved → Id → Option PackageModel → Type 0
 IsPackageOf r i answer = MatchOption answer (NoPackage r i) (HasPackage r i)
 
 -- a place of the node with the id, or none where the graph has no such node
-abbrev pub IsNodePlace : Resolved → Id → Option ℕ → Type 0
-IsNodePlace r i answer = MatchOption answer (NoNode r i) (NodeAt r i)
+abbrev pub IsNodePlace : Resolved → Id → Option NodePlace → Type 0
+IsNodePlace r i answer = MatchOption answer (NoNode r i) (λ place. NodeAt r i place.index)
 
 abbrev pub TellsPackage : Resolved → Id → Option (Bor Package) → Type 0
 TellsPackage r i answer = IsPackageOf r i (option_map (λ pkg. package_view pkg.now) answer)

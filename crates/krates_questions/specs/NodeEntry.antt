@@ -31,7 +31,7 @@ pub record AreParts (r : Resolved) (place : ℕ) (x : NodeParts) : Type 0 where
   pub versions : AllZip HasThisVersion x.children.now (map parts_of x.versions.now)
   pub declares : AreDeclaredBy r (id_of x.parent.now) (map dependency_view x.declared.now)
   pub tells : TellsMember r (id_of x.parent.now) x.is_member
-  pub place_is : x.place ≡ place
+  pub place_is : x.place.index ≡ place
   pub read : IsReadOf r x.parent.now
 
 -- the crate of a node's parts
@@ -62,7 +62,7 @@ pub record IsEntry (r : Resolved) (x : NodeEntry) : Type 0 where
   pub version : HasItsVersion x
   pub declares : AreDeclaredBy r (parent_of x) (declared_in x)
   pub tells : TellsMember r (parent_of x) x.is_member
-  pub at : DepAt r (parent_of x) (child_of x) x.place x.index
+  pub at : DepAt r (parent_of x) (child_of x) x.place.index x.index
   pub parent_read : IsReadOf r x.parent.now
   pub child_read : IsReadOf r x.child.now
 

@@ -11,6 +11,7 @@ ghost use Rattle.krates_rules.specs.Setting.{SettingModel};
 ghost use Rattle.std.specs.Prelude.{◌↔◌, IfOk, IsTrue};
 
 use crate::context::Context;
+use crate::node_place::NodePlace;
 use crate::questions::Document;
 use krates_document::setting::Setting;
 use krates_ids::Kid;
@@ -20,7 +21,7 @@ use std::alloc::AllocError;
 #[derive(Clone, Copy, Debug, PartialEq, Eq)]
 pub enum Availability {
     /// A package that isn't excluded, and a node at this place.
-    Available(usize),
+    Available(NodePlace),
     /// No package.
     NoPackage,
     /// A package that isn't excluded, and no node.

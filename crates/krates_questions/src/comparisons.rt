@@ -11,11 +11,11 @@ use crate::referent::Referent;
 /// Listed features are compared by the place of the node and the bytes of the name, in this order.
 pub fn listed_features_compared()
     ensures equal { (a b : ListedFeature) → (⟦<ListedFeature<'static> as PartialEq>⟧.eq a b ≡ true)
-        ↔ (a.place ≡ b.place) × (a.name.now ≡ b.name.now) }
+        ↔ (a.place.index ≡ b.place.index) × (a.name.now ≡ b.name.now) }
     ensures partial_order { (a b : ListedFeature) → ⟦<ListedFeature<'static> as PartialOrd>⟧.partial_cmp a b
-        ≡ Some (ordering_then (nat_cmp a.place b.place) (slice_cmp nat_cmp a.name.now b.name.now)) }
+        ≡ Some (ordering_then (nat_cmp a.place.index b.place.index) (slice_cmp nat_cmp a.name.now b.name.now)) }
     ensures order { (a b : ListedFeature) → ⟦<ListedFeature<'static> as Ord>⟧.cmp a b
-        ≡ ordering_then (nat_cmp a.place b.place) (slice_cmp nat_cmp a.name.now b.name.now) }
+        ≡ ordering_then (nat_cmp a.place.index b.place.index) (slice_cmp nat_cmp a.name.now b.name.now) }
 {}
 
 /// What there is for a crate is equal to itself alone.

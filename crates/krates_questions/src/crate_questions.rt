@@ -34,7 +34,7 @@ impl<'a> Document<'a> {
             ↔ Contains (map text_view result.now) f }
     {
         match self.node_place(krate) {
-            Some(place) => self.lookup.resolve.nodes[place].features.as_slice(),
+            Some(place) => self.lookup.resolve.nodes[place.index].features.as_slice(),
             None => &[],
         }
     }

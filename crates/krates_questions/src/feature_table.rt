@@ -5,6 +5,7 @@ ghost use Rattle.krates_cm.specs.Document.{node_view};
 ghost use Rattle.krates_questions.specs.FeatureTable.{AreNumbered, ListsMore, listed_in, listed_view};
 ghost use Rattle.krates_questions.specs.ListedFeatures.{features_from};
 
+use crate::node_place::NodePlace;
 use krates_cm::Node;
 use std::alloc::{AllocError, Global};
 use std::collections::BTreeMap;
@@ -13,7 +14,7 @@ use std::collections::BTreeMap;
 #[derive(Clone, Copy, PartialEq, Eq, PartialOrd, Ord)]
 pub struct ListedFeature<'a> {
     /// The place of the node.
-    pub place: usize,
+    pub place: NodePlace,
     /// The name of the feature.
     pub name: &'a str,
 }
@@ -51,19 +52,19 @@ fn listed_features<'a>(
     ensures { IfOk result (λ all. map listed_view all.items ≡ features_from 0 (map node_view nodes.now)) }
 {
     let mut listed = Vec::new(alloc);
-    for (place, node) in nodes.iter().enumerate() {
-        list_features(place, &node.features, &mut listed)?;
+    for (index, node) in nodes.iter().enumerate() {
+        list_features(NodePlace { index }, &node.features, &mut listed)?;
     }
     Ok(listed)
 }
 
 /// Adds the features of the node at this place.
 fn list_features<'a>(
-    place: usize,
+    place: NodePlace,
     features: &'a [String],
     listed: &mut Vec<ListedFeature<'a>>,
 ) -> Result<(), AllocError>
-    ensures { OnOk result (ListsMore listed.old.items listed.new.items place features.now) }
+    ensures { OnOk result (ListsMore listed.old.items listed.new.items place.index features.now) }
 {
     for feature in features {
         listed.push(ListedFeature {

@@ -12,6 +12,7 @@ ghost use Rattle.krates_rules.specs.Resolved.{id_of};
 use crate::crate_table::{CrateTable, crate_table, number_of};
 use crate::feature_table::{FeatureTable, feature_table};
 use crate::name_index::{NameIndex, name_index};
+use crate::node_place::NodePlace;
 use crate::questions::Document;
 use crate::renamed::{Libraries, renamed_by_name};
 use krates_cm::{Metadata, Package, Resolve};
@@ -73,7 +74,7 @@ pub fn lookup_of<'a>(
 
 impl<'a> Document<'a> {
     /// The place of the node with the id. None where the graph has none. Time O(log n) in the crates.
-    pub fn node_place(&self, id: &Kid) -> Option<usize>
+    pub fn node_place(&self, id: &Kid) -> Option<NodePlace>
         ensures { IsNodePlace (resolved_view self.now) (id_of id.now) result }
     {
         self.node_place_at(self.crate_number(id))
@@ -126,12 +127,13 @@ impl<'a> Document<'a> {
     }
 
     /// The place of the node of the crate with the number. None where it has none. Time O(1).
-    pub fn node_place_at(&self, number: Option<usize>) -> Option<usize>
+    pub fn node_place_at(&self, number: Option<usize>) -> Option<NodePlace>
         requires number { IsNumber self.now number }
         ensures { (i : Id) → IsNumberIn self.now i number → IsNodePlace (resolved_view self.now) i result }
     {
         laws::one_reading();
-        at_number(&self.lookup.table.nodes, number)
+        let index = at_number(&self.lookup.table.nodes, number)?;
+        Some(NodePlace { index })
     }
 
     /// Whether the crate with the number is a member of the workspace.

@@ -8,6 +8,7 @@ ghost use Rattle.krates_questions.specs.NodeEntry.{AreDeclaredBy, AreParts, HasI
 ghost use Rattle.krates_rules.specs.Facts.{Id};
 ghost use Rattle.krates_rules.specs.Resolved.{DepAt, HasNode, NodeAt, id_of};
 
+use crate::node_place::NodePlace;
 use crate::questions::Document;
 use krates_cm::{DepKindInfo, Dependency, NodeDep};
 use krates_document::declared_dependency::{Sought, declared_of};
@@ -29,7 +30,7 @@ pub struct NodeEntry<'a> {
     /// The version of its id.
     pub version: &'a Version,
     /// The place of the node.
-    pub place: usize,
+    pub place: NodePlace,
     /// The place of the dependency among those of the node.
     pub index: usize,
     /// Whether the kept crate is a member of the workspace.
@@ -61,25 +62,25 @@ pub struct NodeParts<'a> {
     /// The versions of these.
     pub versions: &'a [Version],
     /// The place of the node.
-    pub place: usize,
+    pub place: NodePlace,
     /// Whether the kept crate is a member of the workspace.
     pub is_member: bool,
 }
 
 impl<'a> Document<'a> {
     /// The node at a place, taken apart. Time O(1).
-    pub fn parts_of(&self, place: usize) -> NodeParts<'a>
-        requires within { place < length (resolved_view self.now).graph.nodes }
-        ensures { AreParts (resolved_view self.now) place result }
+    pub fn parts_of(&self, place: NodePlace) -> NodeParts<'a>
+        requires within { place.index < length (resolved_view self.now).graph.nodes }
+        ensures { AreParts (resolved_view self.now) place.index result }
     {
-        let parent = &self.lookup.ids.nodes[place];
+        let parent = &self.lookup.ids.nodes[place.index];
         let number = self.node_number(place);
         NodeParts {
             parent,
             declared: self.declared_by(number),
-            deps: &self.lookup.resolve.nodes[place].deps,
-            children: &self.lookup.ids.deps[place],
-            versions: &self.lookup.ids.versions[place],
+            deps: &self.lookup.resolve.nodes[place.index].deps,
+            children: &self.lookup.ids.deps[place.index],
+            versions: &self.lookup.ids.versions[place.index],
             place,
             is_member: self.is_member_at(number),
         }
@@ -153,30 +154,34 @@ impl<'a> Document<'a> {
     }
 
     /// The number of the crate whose node stands at the place; it has one. Time O(1).
-    pub fn node_number(&self, place: usize) -> Option<usize>
-        requires within { place < length (resolved_view self.now).graph.nodes }
-        ensures number { (i : Id) → NodeAt (resolved_view self.now) i place → IsNumberIn self.now i result }
-        ensures has_one { (i : Id) → NodeAt (resolved_view self.now) i place → IsSome result }
+    pub fn node_number(&self, place: NodePlace) -> Option<usize>
+        requires within { place.index < length (resolved_view self.now).graph.nodes }
+        ensures number { (i : Id) → NodeAt (resolved_view self.now) i place.index
+            → IsNumberIn self.now i result }
+        ensures has_one { (i : Id) → NodeAt (resolved_view self.now) i place.index → IsSome result }
     {
         laws::one_reading();
-        self.lookup.table.node_numbers[place]
+        self.lookup.table.node_numbers[place.index]
     }
 
     /// The number of the crate that a dependency of a node leads to, by the places of both. None where that has neither
     /// package nor node and is no member. Time O(1).
-    pub fn child_number_at(&self, place: usize, index: usize) -> Option<usize>
-        requires there { (parent : Id) × (child : Id) × DepAt (resolved_view self.now) parent child place index }
-        ensures number { (parent : Id) (child : Id) → DepAt (resolved_view self.now) parent child place index
+    pub fn child_number_at(&self, place: NodePlace, index: usize) -> Option<usize>
+        requires there { (parent : Id) × (child : Id)
+            × DepAt (resolved_view self.now) parent child place.index index }
+        ensures number { (parent : Id) (child : Id)
+            → DepAt (resolved_view self.now) parent child place.index index
             → IsNumberIn self.now child result }
-        ensures has_one { (parent : Id) (child : Id) → DepAt (resolved_view self.now) parent child place index
+        ensures has_one { (parent : Id) (child : Id)
+            → DepAt (resolved_view self.now) parent child place.index index
             → (n : NodeModel) × HasNode (resolved_view self.now) child n → IsSome result }
     {
         laws::one_reading();
-        self.lookup.table.dep_numbers[place][index]
+        self.lookup.table.dep_numbers[place.index][index]
     }
 
     /// The place of the node of the crate that a dependency leads to. None where it has none. Time O(1).
-    pub fn child_place(&self, entry: &NodeEntry<'_>) -> Option<usize>
+    pub fn child_place(&self, entry: &NodeEntry<'_>) -> Option<NodePlace>
         requires entry { IsEntry (resolved_view self.now) entry.now }
         ensures { IsNodePlace (resolved_view self.now) (child_of entry.now) result }
     {

@@ -199,11 +199,15 @@ impl<'a> Document<'a> {
 
     /// The place of a node's dependency on a crate: of those whose package has its name, which are found by binary search, that with its id.
     fn place_of_child(&self, parts: &NodeParts<'a>, child: &Kid) -> Option<usize>
-        requires parts { AreParts (resolved_view self.now) parts.now.place parts.now }
+        requires parts { AreParts (resolved_view self.now) parts.now.place.index parts.now }
         ensures { IsPlaceOf parts.now.children.now (id_of child.now) result }
     {
         laws::one_reading();
-        let named = places_under(&self.lookup.names.children[parts.place], child.name(), "");
+        let named = places_under(
+            &self.lookup.names.children[parts.place.index],
+            child.name(),
+            "",
+        );
         place_among(parts.children, named, child)
     }
 }

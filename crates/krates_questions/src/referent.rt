@@ -38,7 +38,7 @@ impl<'a> Document<'a> {
         name: &str,
         all: bool,
     ) -> Result<Vec<Referent<'a>>, AllocError>
-        requires parts { AreParts (resolved_view self.now) parts.now.place parts.now }
+        requires parts { AreParts (resolved_view self.now) parts.now.place.index parts.now }
         ensures { IfOk result (λ found. AreReferentsIn (resolved_view self.now) all parts.now name.now
             found.items) }
     {
@@ -60,16 +60,16 @@ impl<'a> Document<'a> {
         parts: &NodeParts<'a>,
         name: &str,
     ) -> Result<Vec<Referent<'a>>, AllocError>
-        requires parts { AreParts (resolved_view self.now) parts.now.place parts.now }
+        requires parts { AreParts (resolved_view self.now) parts.now.place.index parts.now }
         ensures { IfOk result (λ found. AreReferentsIn (resolved_view self.now) true parts.now name.now
             found.items) }
     {
         laws::one_reading();
         laws::comparison();
         let mut referents = Vec::new(alloc);
-        let own = places_under(&self.lookup.names.deps[parts.place], name, "");
+        let own = places_under(&self.lookup.names.deps[parts.place.index], name, "");
         self.push_answering(parts, own, name, &mut referents)?;
-        let of_package = places_under(&self.lookup.renamed[parts.place], name, "");
+        let of_package = places_under(&self.lookup.renamed[parts.place.index], name, "");
         self.push_answering(parts, of_package, name, &mut referents)?;
         in_order(referents)
     }
@@ -82,7 +82,7 @@ impl<'a> Document<'a> {
         name: &str,
         referents: &mut Vec<Referent<'a>>,
     ) -> Result<(), AllocError>
-        requires parts { AreParts (resolved_view self.now) parts.now.place parts.now }
+        requires parts { AreParts (resolved_view self.now) parts.now.place.index parts.now }
         ensures { OnOk result (FindsMore (resolved_view self.now) parts.now name.now (places_in places.now)
             referents.old.items referents.new.items) }
     {
@@ -105,13 +105,13 @@ impl<'a> Document<'a> {
     ///
     /// Time: O(log n + k) for n dependencies, of which k have the name.
     pub fn referent_of(&self, parts: &NodeParts<'a>, name: &str) -> Option<usize>
-        requires parts { AreParts (resolved_view self.now) parts.now.place parts.now }
+        requires parts { AreParts (resolved_view self.now) parts.now.place.index parts.now }
         ensures { TellsReferent (resolved_view self.now) parts.now name.now result }
     {
         laws::one_reading();
-        let own = places_under(&self.lookup.names.deps[parts.place], name, "");
+        let own = places_under(&self.lookup.names.deps[parts.place.index], name, "");
         let least = self.least_answering(parts, own, name, None);
-        let of_package = places_under(&self.lookup.renamed[parts.place], name, "");
+        let of_package = places_under(&self.lookup.renamed[parts.place.index], name, "");
         self.least_answering(parts, of_package, name, least)
     }
 
@@ -123,7 +123,7 @@ impl<'a> Document<'a> {
         name: &str,
         before: Option<usize>,
     ) -> Option<usize>
-        requires parts { AreParts (resolved_view self.now) parts.now.place parts.now }
+        requires parts { AreParts (resolved_view self.now) parts.now.place.index parts.now }
         requires before { IfSome before (λ at. at < length parts.now.children.now) }
         ensures { GoesOn (resolved_view self.now) parts.now name.now (places_in places.now) before result }
     {
@@ -146,7 +146,7 @@ impl<'a> Document<'a> {
         index: usize,
         least: Option<usize>,
     ) -> bool
-        requires parts { AreParts (resolved_view self.now) parts.now.place parts.now }
+        requires parts { AreParts (resolved_view self.now) parts.now.place.index parts.now }
         requires least { IfSome least (λ at. at < length parts.now.children.now) }
         ensures { IsTrue result ↔ AnswersBefore (resolved_view self.now) parts.now name.now index least }
     {

@@ -28,7 +28,7 @@ impl<'a> Document<'a> {
             (λ node. node_view node.now) result) }
     {
         match self.node_place(krate) {
-            Some(place) => Some(&self.lookup.resolve.nodes[place]),
+            Some(place) => Some(&self.lookup.resolve.nodes[place.index]),
             None => None,
         }
     }

@@ -12,7 +12,7 @@ returns-then-excluded c s i p h has tells =
 pub returns-in-Some : goal.returns-in-Some
 returns-in-Some c s i p h has tells =
     let at = c.in-Some.ensures i h in
-    (stands_at (resolved_view c.args.self.now) s i p c.in-Some.place has (λ e. absurd (cc (tells.1 e, c.if-excluded.false))) at, at)
+    (stands_at (resolved_view c.args.self.now) s i p c.in-Some.place.index has (λ e. absurd (cc (tells.1 e, c.if-excluded.false))) at, at)
 
 pub returns-in-None : goal.returns-in-None
 returns-in-None c s i p h has tells = lacks_node (resolved_view c.args.self.now) s i p has (λ e. absurd (cc (tells.1 e, c.if-excluded.false))) (c.in-None.ensures i h)

@@ -4,20 +4,20 @@ use Rattle.krates_questions.proofs.questions.Document.child_number_at.Goals as g
 pub index-requires : goal.index-requires
 index-requires c =
     let there = (rw (← c.self.view_is) at c.requires.there) in
-    dep_numbers_within c.self.inside.lookup there.0 there.1 c.args.place c.args.index c.self.invariant there.2
+    dep_numbers_within c.self.inside.lookup there.0 there.1 c.args.place.index c.args.index c.self.invariant there.2
 
 pub index-requires-2 : goal.index-requires-2
 index-requires-2 c =
     let there = (rw (← c.self.view_is) at c.requires.there) in
-    dep_number_within c.one_reading.ensures.once c.self.inside.lookup there.0 there.1 c.args.place c.args.index c.index.result.now c.self.invariant there.2 c.index.ensures
+    dep_number_within c.one_reading.ensures.once c.self.inside.lookup there.0 there.1 c.args.place.index c.args.index c.index.result.now c.self.invariant there.2 c.index.ensures
 
 pub returns-clause-number : goal.returns-clause-number
 returns-clause-number c =
-    rw (← c.self.view_is) (λ parent child at. dep_numbered c.one_reading.ensures.once c.self.inside.lookup parent child c.args.place c.args.index c.index.result.now c.index-2.result.now c.self.invariant at c.index.ensures c.index-2.ensures)
+    rw (← c.self.view_is) (λ parent child at. dep_numbered c.one_reading.ensures.once c.self.inside.lookup parent child c.args.place.index c.args.index c.index.result.now c.index-2.result.now c.self.invariant at c.index.ensures c.index-2.ensures)
 
 pub returns-clause-has_one : goal.returns-clause-has_one
 returns-clause-has_one c =
     rw (← c.self.view_is) (λ parent child at has. (
     let d = c.self.inside.lookup in
     let once = c.one_reading.ensures.once in
-    node_has_number once d child c.index-2.result.now c.self.invariant has (dep_numbered once d parent child c.args.place c.args.index c.index.result.now c.index-2.result.now c.self.invariant at c.index.ensures c.index-2.ensures)))
+    node_has_number once d child c.index-2.result.now c.self.invariant has (dep_numbered once d parent child c.args.place.index c.args.index c.index.result.now c.index-2.result.now c.self.invariant at c.index.ensures c.index-2.ensures)))

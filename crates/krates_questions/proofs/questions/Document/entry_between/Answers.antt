@@ -14,10 +14,10 @@ returns-in_default-place_of_child c =
     no_dep_told c.one_reading.ensures.once (resolved_view c.args.self.now) (id_of c.args.parent.now) (id_of c.args.child.now) c.in-Some.parts c.agrees.ensures.distinct c.in-Some.ensures c.in_default-place_of_child.ensures
 
 pub entry_at-requires-clause-lengths : goal.entry_at-requires-clause-lengths
-entry_at-requires-clause-lengths c = sym (deps_long (resolved_view c.args.self.now) c.in-Some.parts.place c.in-Some.parts c.in-Some.ensures.parts)
+entry_at-requires-clause-lengths c = sym (deps_long (resolved_view c.args.self.now) c.in-Some.parts.place.index c.in-Some.parts c.in-Some.ensures.parts)
 
 pub entry_at-requires-clause-versions : goal.entry_at-requires-clause-versions
-entry_at-requires-clause-versions c = own_long (resolved_view c.args.self.now) c.in-Some.parts.place c.in-Some.parts c.in-Some.ensures.parts
+entry_at-requires-clause-versions c = own_long (resolved_view c.args.self.now) c.in-Some.parts.place.index c.in-Some.parts c.in-Some.ensures.parts
 
 pub entry_at-requires-clause-within : goal.entry_at-requires-clause-within
 entry_at-requires-clause-within c = slice_get_within c.in-Some.parts.children.now c.in-Some-place_of_child.index c.in-Some-place_of_child.ensures.there c.in-Some-place_of_child.ensures.at

@@ -16,15 +16,15 @@ pub index-requires : goal.index-requires
 index-requires c =
     let d = c.self.inside.lookup in
     let p = (rw (← c.self.view_is) at c.requires.parts) in
-    let kids = right_of AreDepIds (resolved_view d).graph.nodes (ids_view d.ids.now).deps c.args.parts.now.place p.at.node c.self.invariant.ids.deps p.at.at in
-    names_within AreIdsNamed (ids_view d.ids.now).deps d.names.children c.args.parts.now.place kids.0 c.self.invariant.names.children kids.1
+    let kids = right_of AreDepIds (resolved_view d).graph.nodes (ids_view d.ids.now).deps c.args.parts.now.place.index p.at.node c.self.invariant.ids.deps p.at.at in
+    names_within AreIdsNamed (ids_view d.ids.now).deps d.names.children c.args.parts.now.place.index kids.0 c.self.invariant.names.children kids.1
 
 pub places_under-named-requires : goal.places_under-named-requires
 places_under-named-requires c =
     let d = c.self.inside.lookup in
     let p = (rw (← c.self.view_is) at c.requires.parts) in
-    let kids = right_of AreDepIds (resolved_view d).graph.nodes (ids_view d.ids.now).deps c.args.parts.now.place p.at.node c.self.invariant.ids.deps p.at.at in
-    let names = names_at AreIdsNamed (ids_view d.ids.now).deps d.names.children c.args.parts.now.place kids.0 c.index.result.now c.self.invariant.names.children kids.1 c.index.ensures in
+    let kids = right_of AreDepIds (resolved_view d).graph.nodes (ids_view d.ids.now).deps c.args.parts.now.place.index p.at.node c.self.invariant.ids.deps p.at.at in
+    let names = names_at AreIdsNamed (ids_view d.ids.now).deps d.names.children c.args.parts.now.place.index kids.0 c.index.result.now c.self.invariant.names.children kids.1 c.index.ensures in
     subst AreInOrder (sym c.deref.ensures.value) names.sorted
 
 pub returns : goal.returns
@@ -32,8 +32,8 @@ returns c =
     let d = c.self.inside.lookup in
     let p = (rw (← c.self.view_is) at c.requires.parts) in
     let parts = c.args.parts.now in
-    let kids = right_of AreDepIds (resolved_view d).graph.nodes (ids_view d.ids.now).deps parts.place p.at.node c.self.invariant.ids.deps p.at.at in
-    let names = names_at AreIdsNamed (ids_view d.ids.now).deps d.names.children parts.place kids.0 c.index.result.now c.self.invariant.names.children kids.1 c.index.ensures in
+    let kids = right_of AreDepIds (resolved_view d).graph.nodes (ids_view d.ids.now).deps parts.place.index p.at.node c.self.invariant.ids.deps p.at.at in
+    let names = names_at AreIdsNamed (ids_view d.ids.now).deps d.names.children parts.place.index kids.0 c.index.result.now c.self.invariant.names.children kids.1 c.index.ensures in
     let these = places_in c.places_under-named.result.now in
     let seen : AreLookedAt c.name.result.now c.index.result.now.items these = record { each = λ k s. c.places_under-named.ensures k (subst (λ (all : List NamedPlace). StandsUnder all c.name.result.now no_target k) (sym c.deref.ensures.value) s) } in
     let its = subst (λ (t : Text). AreLookedAt t c.index.result.now.items these) c.name.ensures seen in

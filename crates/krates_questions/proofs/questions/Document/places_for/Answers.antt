@@ -12,7 +12,7 @@ use Rattle.krates_questions.proofs.questions.Document.places_for.Goals as goal
 pub node_number-requires : goal.node_number-requires
 node_number-requires c =
     let at = c.requires.entry.at.node in
-    record { within = slice_get_within (resolved_view c.args.self.now).graph.nodes c.args.entry.now.place at.node at.at }
+    record { within = slice_get_within (resolved_view c.args.self.now).graph.nodes c.args.entry.now.place.index at.node at.at }
 
 pub package_place_at-requires : goal.package_place_at-requires
 package_place_at-requires c = record { number = (parent_of c.args.entry.now, c.node_number.ensures.number (parent_of c.args.entry.now) c.requires.entry.at.node) }

@@ -17,10 +17,10 @@ returns-in_default-referent_of c =
     c.in_default-referent_of.ensures child (subst (λ (i : Id). IsReferent r false i c.args.name.now child) (sym c.in-Some.ensures.parent) is))
 
 pub entry_at-requires-clause-lengths : goal.entry_at-requires-clause-lengths
-entry_at-requires-clause-lengths c = sym (deps_long (resolved_view c.args.self.now) c.in-Some.parts.place c.in-Some.parts c.in-Some.ensures.parts)
+entry_at-requires-clause-lengths c = sym (deps_long (resolved_view c.args.self.now) c.in-Some.parts.place.index c.in-Some.parts c.in-Some.ensures.parts)
 
 pub entry_at-requires-clause-versions : goal.entry_at-requires-clause-versions
-entry_at-requires-clause-versions c = own_long (resolved_view c.args.self.now) c.in-Some.parts.place c.in-Some.parts c.in-Some.ensures.parts
+entry_at-requires-clause-versions c = own_long (resolved_view c.args.self.now) c.in-Some.parts.place.index c.in-Some.parts c.in-Some.ensures.parts
 
 pub entry_at-requires-clause-within : goal.entry_at-requires-clause-within
 entry_at-requires-clause-within c = slice_get_within c.in-Some.parts.children.now c.in-Some-referent_of.index c.in-Some-referent_of.ensures.child c.in-Some-referent_of.ensures.at

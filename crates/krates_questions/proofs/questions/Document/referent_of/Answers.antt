@@ -15,28 +15,28 @@ pub index-requires : goal.index-requires
 index-requires c =
     let d = c.self.inside.lookup in
     let p = (rw (← c.self.view_is) at c.requires.parts) in
-    names_within AreDepsOf (resolved_view d).graph.nodes d.names.deps c.args.parts.now.place p.at.node c.self.invariant.names.deps p.at.at
+    names_within AreDepsOf (resolved_view d).graph.nodes d.names.deps c.args.parts.now.place.index p.at.node c.self.invariant.names.deps p.at.at
 
 pub places_under-own-requires : goal.places_under-own-requires
 places_under-own-requires c =
     let d = c.self.inside.lookup in
     let p = (rw (← c.self.view_is) at c.requires.parts) in
-    let own = names_at AreDepsOf (resolved_view d).graph.nodes d.names.deps c.args.parts.now.place p.at.node c.index.result.now c.self.invariant.names.deps p.at.at c.index.ensures in
+    let own = names_at AreDepsOf (resolved_view d).graph.nodes d.names.deps c.args.parts.now.place.index p.at.node c.index.result.now c.self.invariant.names.deps p.at.at c.index.ensures in
     subst AreInOrder (sym c.deref.ensures.value) own.sorted
 
 pub index-requires-2 : goal.index-requires-2
 index-requires-2 c =
     let d = c.self.inside.lookup in
     let p = (rw (← c.self.view_is) at c.requires.parts) in
-    let kids = right_of AreDepIds (resolved_view d).graph.nodes (ids_view d.ids.now).deps c.args.parts.now.place p.at.node c.self.invariant.ids.deps p.at.at in
-    renamed_within d c.args.parts.now.place p.at.node kids.0 c.self.invariant p.at.at kids.1
+    let kids = right_of AreDepIds (resolved_view d).graph.nodes (ids_view d.ids.now).deps c.args.parts.now.place.index p.at.node c.self.invariant.ids.deps p.at.at in
+    renamed_within d c.args.parts.now.place.index p.at.node kids.0 c.self.invariant p.at.at kids.1
 
 pub places_under-of_package-requires : goal.places_under-of_package-requires
 places_under-of_package-requires c =
     let d = c.self.inside.lookup in
     let p = (rw (← c.self.view_is) at c.requires.parts) in
-    let kids = right_of AreDepIds (resolved_view d).graph.nodes (ids_view d.ids.now).deps c.args.parts.now.place p.at.node c.self.invariant.ids.deps p.at.at in
-    let children = renamed_at c.one_reading.ensures.once d c.args.parts.now.place p.at.node kids.0 c.index-2.result.now c.self.invariant p.at.at kids.1 c.index-2.ensures in
+    let kids = right_of AreDepIds (resolved_view d).graph.nodes (ids_view d.ids.now).deps c.args.parts.now.place.index p.at.node c.self.invariant.ids.deps p.at.at in
+    let children = renamed_at c.one_reading.ensures.once d c.args.parts.now.place.index p.at.node kids.0 c.index-2.result.now c.self.invariant p.at.at kids.1 c.index-2.ensures in
     subst AreInOrder (sym c.deref-2.ensures.value) children.sorted
 
 pub least_answering-requires-clause-before : goal.least_answering-requires-clause-before
@@ -53,9 +53,9 @@ returns c =
     let parts = c.args.parts.now in
     let name = c.args.name.now in
     let p = (rw (← c.self.view_is) at c.requires.parts) in
-    let own = names_at AreDepsOf r.graph.nodes d.names.deps parts.place p.at.node c.index.result.now c.self.invariant.names.deps p.at.at c.index.ensures in
-    let kids = right_of AreDepIds r.graph.nodes (ids_view d.ids.now).deps parts.place p.at.node c.self.invariant.ids.deps p.at.at in
-    let children = renamed_at c.one_reading.ensures.once d parts.place p.at.node kids.0 c.index-2.result.now c.self.invariant p.at.at kids.1 c.index-2.ensures in
+    let own = names_at AreDepsOf r.graph.nodes d.names.deps parts.place.index p.at.node c.index.result.now c.self.invariant.names.deps p.at.at c.index.ensures in
+    let kids = right_of AreDepIds r.graph.nodes (ids_view d.ids.now).deps parts.place.index p.at.node c.self.invariant.ids.deps p.at.at in
+    let children = renamed_at c.one_reading.ensures.once d parts.place.index p.at.node kids.0 c.index-2.result.now c.self.invariant p.at.at kids.1 c.index-2.ensures in
     let these = places_in c.places_under-own.result.now in
     let those = places_in c.places_under-of_package.result.now in
     let seen : AreLookedAt name c.index.result.now.items these = record { each = λ k s. c.places_under-own.ensures k (subst (λ (all : List NamedPlace). StandsUnder all name no_target k) (sym c.deref.ensures.value) s) } in
