@@ -1,13 +1,8 @@
--- What a document gives from single edges and references, and when all of that stands in a list.
+-- What a document gives from single edges, and when all of that stands in a list.
 use Rattle.std.proofs.Common.{◌≡◌, ◌↔◌, List, Bool, true, false, IsTrue, Contains, refl, subst}
-use Rattle.krates_cm.specs.Document.{Text, DependencyModel, DepKindInfoModel}
-use Rattle.krates_derive.specs.Giving.{AskedByIn, EdgesToIn, NamedIn, IsTaken, ChildIn, EdgeIn, SimpleIn, TogglingIn, DepIn}
-use Rattle.krates_derive.specs.Referring.{toggling}
-use Rattle.krates_derive.proofs.ReferenceForms.{asks_nothing, not_simple, one_form, same_toggling}
-use Rattle.krates_text.specs.FeatureReference.{Reference, IsReference, HasOneReading, simple}
+use Rattle.krates_cm.specs.Document.{DependencyModel, DepKindInfoModel}
+use Rattle.krates_derive.specs.Giving.{IsTaken, ChildIn, EdgeIn}
 use Rattle.krates_rules.specs.Facts.{Id, Edge, Fact, Kept}
-use Rattle.krates_rules.specs.Referent.{IsReferent}
-use Rattle.krates_rules.specs.Demands.{Demands}
 use Rattle.krates_questions.specs.Need.{IsWantedAs, NotWanted, ListsKind, HasChild}
 use Rattle.krates_rules.specs.Questions.{edge_between, Stands, IsLoose}
 use Rattle.krates_rules.specs.Resolved.{Resolved}
