@@ -33,8 +33,8 @@ SHOWN_BY = {
     # a checker with an index looks at the corrected document, and asks what each fact of a list gives
     "check_closed": (
         "corrected Document::means FactSet::of FactSet::has_crate FactSet::has_feature ClosureCheck::are_roots_in"
-        " ClosureCheck::is_crate_in ClosureCheck::is_kept_in ClosureCheck::are_simple_in ClosureCheck::are_toggling_in"
-        " ClosureCheck::are_asked_in"
+        " ClosureCheck::is_crate_in ClosureCheck::is_kept_in ClosureCheck::is_named_in ClosureCheck::is_dep_in"
+        " ClosureCheck::are_edges_to_in"
     ).split(),
     # one step is asked by the number of its premises
     "check": ("from_nothing", "from_one", "from_two"),

@@ -21,31 +21,24 @@ use Rattle.krates_rules.specs.Setting.{SettingModel}
 
 -- ---- references of a feature
 
--- it holds of each text among the values, and so of each reference of the feature
-pub simple_among : (r : Resolved) (fs : List Fact) (p : Id) (f : Text) (values : List Text) → AreValuesOf r p f values → SimpleAmongIn r fs p values ↔ ((g : Text) → HasReference r p f (simple g) → NamedIn r fs p g)
-simple_among r fs p f values are = (
-  λ h g has. (let a = (are (simple g)).0 has in h a.text a.among g a.is),
-  λ h text among g is. h g ((are (simple g)).1 (record { text = text; among = among; is = is })),
+-- a text is only one reference, so what that gives is all that the text gives
+pub reference_told : {text : Text} → HasOneReading text → (r : Resolved) (s : SettingModel) (fs : List Fact) (p : Id) (a : Reference) (b : Bool) → IsReference text a → (IsTrue b ↔ GivesIn r s fs p a) → IsTrue b ↔ ReferenceIn r s fs p text
+reference_told {text} h r s fs p a b x told = (λ t other y. subst (GivesIn r s fs p) (h.only a x ∙ sym (h.only other y)) (told.0 t), λ all. told.1 (all a x))
+
+-- the references of a feature are those that its values are
+pub references_among : (r : Resolved) (s : SettingModel) (fs : List Fact) (p : Id) (f : Text) (values : List Text) → AreValuesOf r p f values
+    → ReferencesIn r s fs p values ↔ ((a : Reference) → HasReference r p f a → GivesIn r s fs p a)
+references_among r s fs p f values are = (
+  λ h a has. (let at = (are a).0 has in h at.text at.among a at.is),
+  λ h text among a is. h a ((are a).1 (record { text = text; among = among; is = is })),
 )
 
-pub toggling_among : (r : Resolved) (s : SettingModel) (fs : List Fact) (p : Id) (f : Text) (values : List Text) → AreValuesOf r p f values
-    → TogglingAmongIn r s fs p values ↔ ((weakly : Bool) (dep g : Text) → HasReference r p f (toggling weakly dep g) → DepIn r s fs p dep g)
-toggling_among r s fs p f values are = (
-  λ h weakly dep g has. (let a = (are (toggling weakly dep g)).0 has in h a.text a.among weakly dep g a.is),
-  λ h text among weakly dep g is. h weakly dep g ((are (toggling weakly dep g)).1 (record { text = text; among = among; is = is })),
-)
-
-pub asked_in : (r : Resolved) (s : SettingModel) (fs : List Fact) (p : Id) (f : Text) (values : List Text) → AreValuesOf r p f values → AskedAmongIn r s fs p values ↔ AskedIn r s fs p f
-asked_in r s fs p f values are = (
-  λ h c asks k. (let a = (are asks.reference).0 asks.refers in h a.text a.among c (record { reference = asks.reference; is = a.is; dep = asks.dep; asks = asks.asks; referent = asks.referent }) k),
-  λ h text among c by k. h c (record {
-    reference = by.reference;
-    dep = by.dep;
-    refers = (are by.reference).1 (record { text = text; among = among; is = by.is });
-    asks = by.asks;
-    referent = by.referent;
-  }) k,
-)
+-- a reference that asks for the edges to what a name means gives them
+edges_given : (r : Resolved) (s : SettingModel) (fs : List Fact) (p : Id) (a : Reference) (dep : Text) → Demands a dep → GivesIn r s fs p a → EdgesToIn r s fs p dep
+edges_given r s fs p (simple g) dep asks h = absurd asks
+edges_given r s fs p (krate c) dep asks h = subst (EdgesToIn r s fs p) (sym asks) h
+edges_given r s fs p (strong c g) dep asks h = subst (EdgesToIn r s fs p) (sym asks) h.0
+edges_given r s fs p (weak c g) dep asks h = absurd asks
 
 -- ---- lists that are closed
 
@@ -96,33 +89,18 @@ crate_given r s fs p lost closed here c k =
       declared = λ is l. lost _ (closed _ _ _ (lost_undeclared {e = e} l) (one (Contains fs) (Crate p) here));
     }
 
-asked_for : (r : Resolved) (s : SettingModel) (p : Id) (f : Text) (c : Id) (k : DepKindInfoModel) → Asks r s p f c → IsAskedFor (questions r s) f (edge_between p c k)
+asked_for : (r : Resolved) (s : SettingModel) (p : Id) (f : Text) (a : Reference) (dep : Text) (c : Id) (k : DepKindInfoModel) → HasReference r p f a → Demands a dep → IsReferent r s.all_named p dep c → IsAskedFor (questions r s) f (edge_between p c k)
 unfolding questions
-asked_for r s p f c k a = record { reference = a.reference; dep = a.dep; refers = a.refers; asks = a.asks; referent = a.referent }
+asked_for r s p f a dep c k has asks is = record { reference = a; dep = dep; refers = has; asks = asks; referent = is }
 
 feature_given : (r : Resolved) (s : SettingModel) (fs : List Fact) (p : Id) (f : Text) → ((c : Cause) → Contains fs (Lost c) → ⊥) → IsClosed (questions r s) fs → Contains fs (Feature p f) → FeatureIn r s fs p f
 unfolding questions
 feature_given r s fs p f lost closed here =
-    let from = one (Contains fs) (Feature p f) here in
-    record {
-      crate = closed _ _ _ (feature_crate {p = p} {f = f}) from;
-      named = λ g has. record {
-        enabled = λ lists. closed _ _ _ (named {p = p} {f = f} {g = g} has lists) from;
-        listed = λ lacks. lost _ (closed _ _ _ (lost_named {p = p} {f = f} {g = g} has lacks) from);
-      };
-      toggled = over;
-      asked = λ c a k. (
-          let e : Edge = edge_between p c k in
-          record {
-            child = λ d w t. record {
-              kept = λ stands. closed _ _ _ (asked {e = e} {f = f} {d = d} (asked_for r s p f c k a) (record { wanted = w; stands = stands })) from;
-              has_package = λ out. lost _ (closed _ _ _ (lost_asked_package {e = e} {f = f} {d = d} (asked_for r s p f c k a) w out) from);
-              has_node = λ out. lost _ (closed _ _ _ (lost_asked_node {e = e} {f = f} {d = d} (asked_for r s p f c k a) w out) from);
-            };
-            declared = λ is l. absurd cc;
-          });
-    }
+    record { crate = closed _ _ _ (feature_crate {p = p} {f = f}) from; given = gives }
   where
+    from : (g : Fact) → Among g (Feature p f ∷ []) → Contains fs g
+    from = one (Contains fs) (Feature p f) here
+
     at_edge : (weakly : Bool) (dep g : Text) (e : Edge) → HasReference r e.parent f (toggling weakly dep g) → IsReferent r s.all_named e.parent dep e.child → Contains fs (Feature e.parent f) → Contains fs (Kept e) → ToggledIn r fs e.parent e.child g
     at_edge true dep g e has is feature kept = record {
       toggled = λ lists. closed _ _ _ (toggled_weakly {e = e} {f = f} {g = g} {c = dep} has is lists) (two (Contains fs) (Feature e.parent f) (Kept e) feature kept);
@@ -137,6 +115,28 @@ feature_given r s fs p f lost closed here =
     over weakly dep g has c is e kept same child =
         let h = at_edge weakly dep g e (subst (λ i. HasReference r i f (toggling weakly dep g)) (sym same) has) (subst (λ i. IsReferent r s.all_named i dep e.child) (sym same) (subst (IsReferent r s.all_named p dep) (sym child) is)) (subst (λ i. Contains fs (Feature i f)) (sym same) here) kept in
         subst (λ i. ToggledIn r fs p i g) child (subst (λ i. ToggledIn r fs i e.child g) same h)
+
+    edges_to : (a : Reference) (dep : Text) → Demands a dep → HasReference r p f a → EdgesToIn r s fs p dep
+    edges_to a dep asks has c is k =
+        let e : Edge = edge_between p c k in
+        let by = asked_for r s p f a dep c k has asks is in
+        record {
+          child = λ d w t. record {
+            kept = λ stands. closed _ _ _ (asked {e = e} {f = f} {d = d} by (record { wanted = w; stands = stands })) from;
+            has_package = λ out. lost _ (closed _ _ _ (lost_asked_package {e = e} {f = f} {d = d} by w out) from);
+            has_node = λ out. lost _ (closed _ _ _ (lost_asked_node {e = e} {f = f} {d = d} by w out) from);
+          };
+          declared = λ is l. absurd cc;
+        }
+
+    gives : (a : Reference) → HasReference r p f a → GivesIn r s fs p a
+    gives (simple g) has = record {
+      enabled = λ lists. closed _ _ _ (named {p = p} {f = f} {g = g} has lists) from;
+      listed = λ lacks. lost _ (closed _ _ _ (lost_named {p = p} {f = f} {g = g} has lacks) from);
+    }
+    gives (krate dep) has = edges_to (krate dep) dep refl has
+    gives (strong dep g) has = (edges_to (strong dep g) dep refl has, over false dep g has)
+    gives (weak dep g) has = over true dep g has
 
 kept_given : (r : Resolved) (s : SettingModel) (fs : List Fact) (e : Edge) → ((c : Cause) → Contains fs (Lost c) → ⊥) → IsClosed (questions r s) fs → Contains fs (Kept e) → KeptIn r fs e
 unfolding questions
@@ -168,18 +168,18 @@ facts_closed r s fs roots facts n ps x (root_feature {p} {f} root stands lists) 
 facts_closed r s fs roots facts n ps x (lost_root_package {p} root out) from = absurd ((roots p root).has_package out)
 facts_closed r s fs roots facts n ps x (lost_root_node {p} root out) from = absurd ((roots p root).has_node out)
 facts_closed r s fs roots facts n ps x (feature_crate {p} {f}) from = (facts (Feature p f) (from _ (inl refl))).crate
-facts_closed r s fs roots facts n ps x (named {p} {f} {g} has lists) from = ((facts (Feature p f) (from _ (inl refl))).named g has).enabled lists
-facts_closed r s fs roots facts n ps x (lost_named {p} {f} {g} has lacks) from = absurd (((facts (Feature p f) (from _ (inl refl))).named g has).listed lacks)
+facts_closed r s fs roots facts n ps x (named {p} {f} {g} has lists) from = ((facts (Feature p f) (from _ (inl refl))).given (simple g) has).enabled lists
+facts_closed r s fs roots facts n ps x (lost_named {p} {f} {g} has lacks) from = absurd (((facts (Feature p f) (from _ (inl refl))).given (simple g) has).listed lacks)
 facts_closed r s fs roots facts n ps x (asked {e} {f} {d} a o) from =
-    (((facts (Feature e.parent f) (from _ (inl refl))).asked e.child (record { reference = a.reference; dep = a.dep; refers = a.refers; asks = a.asks; referent = a.referent }) (record { kind = e.kind; target = e.cfg })).child d o.wanted tt).kept o.stands
+    ((edges_given r s fs e.parent a.reference a.dep a.asks ((facts (Feature e.parent f) (from _ (inl refl))).given a.reference a.refers) e.child a.referent (record { kind = e.kind; target = e.cfg })).child d o.wanted tt).kept o.stands
 facts_closed r s fs roots facts n ps x (toggled_strongly {e} {f} {g} {c} has is lists) from =
-    ((facts (Feature e.parent f) (from _ (inl refl))).toggled false c g has e.child is e (from _ (inr (inl refl))) refl refl).toggled lists
+    (((facts (Feature e.parent f) (from _ (inl refl))).given (strong c g) has).1 e.child is e (from _ (inr (inl refl))) refl refl).toggled lists
 facts_closed r s fs roots facts n ps x (lost_asked_package {e} {f} {d} a w out) from =
-    absurd ((((facts (Feature e.parent f) (from _ (inl refl))).asked e.child (record { reference = a.reference; dep = a.dep; refers = a.refers; asks = a.asks; referent = a.referent }) (record { kind = e.kind; target = e.cfg })).child d w tt).has_package out)
+    absurd (((edges_given r s fs e.parent a.reference a.dep a.asks ((facts (Feature e.parent f) (from _ (inl refl))).given a.reference a.refers) e.child a.referent (record { kind = e.kind; target = e.cfg })).child d w tt).has_package out)
 facts_closed r s fs roots facts n ps x (lost_asked_node {e} {f} {d} a w out) from =
-    absurd ((((facts (Feature e.parent f) (from _ (inl refl))).asked e.child (record { reference = a.reference; dep = a.dep; refers = a.refers; asks = a.asks; referent = a.referent }) (record { kind = e.kind; target = e.cfg })).child d w tt).has_node out)
+    absurd (((edges_given r s fs e.parent a.reference a.dep a.asks ((facts (Feature e.parent f) (from _ (inl refl))).given a.reference a.refers) e.child a.referent (record { kind = e.kind; target = e.cfg })).child d w tt).has_node out)
 facts_closed r s fs roots facts n ps x (lost_toggled_strongly {e} {f} {g} {c} has is lacks) from =
-    absurd (((facts (Feature e.parent f) (from _ (inl refl))).toggled false c g has e.child is e (from _ (inr (inl refl))) refl refl).listed lacks)
+    absurd ((((facts (Feature e.parent f) (from _ (inl refl))).given (strong c g) has).1 e.child is e (from _ (inr (inl refl))) refl refl).listed lacks)
 facts_closed r s fs roots facts n ps x (required {e} {d} o t) from = (((facts (Crate e.parent) (from _ (inl refl))) e.child (record { kind = e.kind; target = e.cfg })).child d o.wanted t).kept o.stands
 facts_closed r s fs roots facts n ps x (target {e}) from = (facts (Kept e) (from _ (inl refl))).crate
 facts_closed r s fs roots facts n ps x (lost_undeclared {e} l) from = absurd (((facts (Crate e.parent) (from _ (inl refl))) e.child (record { kind = e.kind; target = e.cfg })).declared refl l)
@@ -189,10 +189,10 @@ facts_closed r s fs roots facts n ps x (declared {e} {d} {g} w among lists) from
 facts_closed r s fs roots facts n ps x (by_default {e} {d} w uses lists) from = ((facts (Kept e) (from _ (inl refl))).used d w).by_default uses lists
 facts_closed r s fs roots facts n ps x (lost_declared {e} {d} {g} w among lacks) from = absurd ((((facts (Kept e) (from _ (inl refl))).used d w).declared g among).listed lacks)
 facts_closed r s fs roots facts n ps x (toggled_weakly {e} {f} {g} {c} has is lists) from =
-    ((facts (Feature e.parent f) (from _ (inl refl))).toggled true c g has e.child is e (from _ (inr (inl refl))) refl refl).toggled lists
+    ((facts (Feature e.parent f) (from _ (inl refl))).given (weak c g) has e.child is e (from _ (inr (inl refl))) refl refl).toggled lists
 facts_closed r s fs roots facts n ps x (toggled_feature {p} {c} {g}) from = facts (Toggled p c g) (from _ (inl refl))
 facts_closed r s fs roots facts n ps x (lost_toggled_weakly {e} {f} {g} {c} has is lacks) from =
-    absurd (((facts (Feature e.parent f) (from _ (inl refl))).toggled true c g has e.child is e (from _ (inr (inl refl))) refl refl).listed lacks)
+    absurd (((facts (Feature e.parent f) (from _ (inl refl))).given (weak c g) has e.child is e (from _ (inr (inl refl))) refl refl).listed lacks)
 
 -- a list without lost facts is closed exactly where all of that stands in it
 pub closed_told : (r : Resolved) (s : SettingModel) (xs : List ToldFact) → (RootsIn r s (facts_view xs) × ((f : Fact) → Contains (facts_view xs) f → FactIn r s (facts_view xs) f)) ↔ IsClosed (questions r s) (facts_view xs)

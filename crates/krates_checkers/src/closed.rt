@@ -3,10 +3,11 @@
 //! For each fact there is one question: whether all that it gives stands in the list. What a feature gives together with an edge
 //! is asked with the feature, for the edges in the list.
 
-ghost use Rattle.std.specs.Prelude.{◌↔◌, IfOk, IsTrue};
+ghost use Rattle.std.specs.Prelude.{◌↔◌, IfOk, IsTrue, map};
+ghost use Rattle.krates_cm.specs.Document.{text_view};
 ghost use Rattle.krates_questions.specs.Context.{rules_of};
-ghost use Rattle.krates_derive.specs.ClosureCheck.{document_in, facts_in};
-ghost use Rattle.krates_derive.specs.Giving.{AllIn, FactIn, FeatureIn};
+ghost use Rattle.krates_derive.specs.ClosureCheck.{document_in, facts_in, setting_in};
+ghost use Rattle.krates_derive.specs.Giving.{AllIn, FactIn, FeatureIn, ReferenceIn, ReferencesIn};
 ghost use Rattle.krates_rules.specs.Derivation.{IsClosed};
 ghost use Rattle.krates_rules.specs.Resolved.{id_of};
 ghost use Rattle.krates_rules.specs.StepViews.{fact_view, facts_view};
@@ -17,6 +18,8 @@ use krates_derive::fact_set::FactSet;
 use krates_ids::Kid;
 use krates_questions::context::Context;
 use krates_rules::Fact;
+use krates_text::features::{Feature, ParsedFeature};
+use krates_text::laws;
 use std::alloc::AllocError;
 
 /// Whether a list is closed.
@@ -29,9 +32,7 @@ pub(crate) fn is_closed<'a>(
     let set = FactSet::of(context.alloc, facts)?;
     let roots = context.document.roots(context.alloc, context.setting)?;
     let check = ClosureCheck {
-        alloc: context.alloc,
-        document: context.document,
-        setting: context.setting,
+        context: *context,
         facts: &set,
     };
     if !check.are_roots_in(&roots) {
@@ -43,7 +44,7 @@ pub(crate) fn is_closed<'a>(
 /// Whether all that these facts give stands in the list.
 fn are_facts_in<'a>(check: &ClosureCheck<'a, '_>, facts: &'a [Fact]) -> Result<bool, AllocError>
     ensures { IfOk result
-        (λ b. IsTrue b ↔ AllIn (document_in check.now) check.now.setting.now (facts_in check.now)
+        (λ b. IsTrue b ↔ AllIn (document_in check.now) (setting_in check.now) (facts_in check.now)
         (facts_view facts.now)) }
 {
     for fact in facts {
@@ -57,7 +58,7 @@ fn are_facts_in<'a>(check: &ClosureCheck<'a, '_>, facts: &'a [Fact]) -> Result<b
 /// Whether all that a fact gives stands in the list.
 fn is_fact_in<'a>(check: &ClosureCheck<'a, '_>, fact: &'a Fact) -> Result<bool, AllocError>
     ensures { IfOk result
-        (λ b. IsTrue b ↔ FactIn (document_in check.now) check.now.setting.now (facts_in check.now)
+        (λ b. IsTrue b ↔ FactIn (document_in check.now) (setting_in check.now) (facts_in check.now)
         (fact_view fact.now)) }
 {
     match fact {
@@ -88,18 +89,54 @@ fn is_feature_in<'a>(
     feature: &'a str,
 ) -> Result<bool, AllocError>
     ensures { IfOk result
-        (λ b. IsTrue b ↔ FeatureIn (document_in check.now) check.now.setting.now (facts_in check.now)
+        (λ b. IsTrue b ↔ FeatureIn (document_in check.now) (setting_in check.now) (facts_in check.now)
         (id_of krate.now) feature.now) }
 {
     if !check.facts.has_crate(krate) {
         return Ok(false);
     }
-    let values = check.document.values(krate, feature);
-    if !check.are_simple_in(krate, values) {
-        return Ok(false);
+    are_references_in(check, krate, check.context.document.values(krate, feature))
+}
+
+/// Whether all that these references of a feature of the crate give stands in the list.
+fn are_references_in<'a>(
+    check: &ClosureCheck<'a, '_>,
+    krate: &'a Kid,
+    values: &'a [String],
+) -> Result<bool, AllocError>
+    ensures { let texts = map text_view values.now in
+        IfOk result (λ b. IsTrue b ↔ ReferencesIn (document_in check.now) (setting_in check.now) (facts_in check.now)
+        (id_of krate.now) texts) }
+{
+    for value in values {
+        if !is_reference_in(check, krate, value.as_str())? {
+            return Ok(false);
+        }
     }
-    if !check.are_toggling_in(krate, values)? {
-        return Ok(false);
+    Ok(true)
+}
+
+/// Whether all that a reference of a feature of the crate gives stands in the list.
+fn is_reference_in<'a>(
+    check: &ClosureCheck<'a, '_>,
+    krate: &'a Kid,
+    text: &'a str,
+) -> Result<bool, AllocError>
+    ensures { IfOk result
+        (λ b. IsTrue b ↔ ReferenceIn (document_in check.now) (setting_in check.now) (facts_in check.now)
+        (id_of krate.now) text.now) }
+{
+    laws::one_reference();
+    match ParsedFeature::from(text).feat() {
+        Feature::Simple(name) => Ok(check.is_named_in(krate, name)),
+        Feature::Krate(dep) => check.are_edges_to_in(krate, dep),
+        Feature::Strong {
+            krate: dep,
+            feature,
+        } => Ok(check.are_edges_to_in(krate, dep)? && check.is_dep_in(krate, dep, feature)?),
+        Feature::Weak {
+            krate: dep,
+            feature,
+        } => check.is_dep_in(krate, dep, feature),
     }
-    check.are_asked_in(krate, values)
 }

@@ -1,13 +1,8 @@
--- What a document gives from single edges and references, and when all of that stands in a list.
+-- What a document gives from single edges, and when all of that stands in a list.
 use Rattle.std.proofs.Common.{◌≡◌, ◌↔◌, List, Bool, true, false, IsTrue, Contains, refl, subst}
-use Rattle.krates_cm.specs.Document.{Text, DependencyModel, DepKindInfoModel}
-use Rattle.krates_derive.specs.Giving.{AskedByIn, EdgesToIn, NamedIn, IsTaken, ChildIn, EdgeIn, SimpleIn, TogglingIn, DepIn}
-use Rattle.krates_derive.specs.Referring.{toggling}
-use Rattle.krates_derive.proofs.ReferenceForms.{asks_nothing, not_simple, one_form, same_toggling}
-use Rattle.krates_text.specs.FeatureReference.{Reference, IsReference, HasOneReading, simple}
+use Rattle.krates_cm.specs.Document.{DependencyModel, DepKindInfoModel}
+use Rattle.krates_derive.specs.Giving.{IsTaken, ChildIn, EdgeIn}
 use Rattle.krates_rules.specs.Facts.{Id, Edge, Fact, Kept}
-use Rattle.krates_rules.specs.Referent.{IsReferent}
-use Rattle.krates_rules.specs.Demands.{Demands}
 use Rattle.krates_questions.specs.Need.{IsWantedAs, NotWanted, ListsKind, HasChild}
 use Rattle.krates_rules.specs.Questions.{edge_between, Stands, IsLoose}
 use Rattle.krates_rules.specs.Resolved.{Resolved}
@@ -54,45 +49,3 @@ edge_listed r s fs p c k ask h = record {
 -- and only one to a crate on which the node of its parent depends
 pub edge_of_child : (r : Resolved) (s : SettingModel) (fs : List Fact) (p c : Id) (k : DepKindInfoModel) (ask : Bool) → (HasChild r p c → EdgeIn r s fs (edge_between p c k) ask) → EdgeIn r s fs (edge_between p c k) ask
 edge_of_child r s fs p c k ask h = edge_listed r s fs p c k ask (λ l. h (record { node = l.lists.node; has_node = l.lists.has_node; dep = l.dep; has_dep = l.lists.has_dep }))
-
--- ---- references of a feature
-
--- a reference that is a feature of its own crate
-pub simple_in : {text : Text} → HasOneReading text → (r : Resolved) (fs : List Fact) (p : Id) (name : Text) (b : Bool) → IsReference text (simple name) → (IsTrue b ↔ NamedIn r fs p name) → IsTrue b ↔ SimpleIn r fs p text
-simple_in {text} h r fs p name b x told = (
-  λ t g y. subst (λ n. NamedIn r fs p n) (let e : simple name ≡ simple g = one_form h _ _ x y in cc) (told.0 t),
-  λ v. told.1 (v name x),
-)
-
--- a reference of another form names none
-pub simple_nothing : {text : Text} → HasOneReading text → (r : Resolved) (fs : List Fact) (p : Id) (a : Reference) → IsReference text a → ((n : Text) → a ≡ simple n → ⊥) → SimpleIn r fs p text
-simple_nothing {text} h r fs p a x other g y = absurd (not_simple h a g x other y)
-
--- a reference to no feature of another crate toggles nothing
-pub toggling_nothing : {text : Text} → HasOneReading text → (r : Resolved) (s : SettingModel) (fs : List Fact) (p : Id) (a : Reference) → IsReference text a
-    → ((weakly : Bool) (dep g : Text) → a ≡ toggling weakly dep g → ⊥) → TogglingIn r s fs p text
-toggling_nothing {text} h r s fs p a x none weakly dep g y = absurd (none weakly dep g (one_form h _ _ x y))
-
--- and one to a feature of another crate toggles that
-pub toggling_in : {text : Text} → HasOneReading text → (r : Resolved) (s : SettingModel) (fs : List Fact) (p : Id) (form : Bool) (dep g : Text) (b : Bool) → IsReference text (toggling form dep g) → (IsTrue b ↔ DepIn r s fs p dep g)
-    → IsTrue b ↔ TogglingIn r s fs p text
-toggling_in {text} h r s fs p form dep g b x told = (
-  λ t weakly d n y. (
-      let same = same_toggling form weakly dep d g n (one_form h _ _ x y) in
-      subst (λ m. DepIn r s fs p d m) same.2 (subst (λ m. DepIn r s fs p m g) same.1 (told.0 t))),
-  λ v. told.1 (v form dep g x),
-)
-
--- a reference that asks for what it names
-pub asked_told : {text : Text} → HasOneReading text → (r : Resolved) (s : SettingModel) (fs : List Fact) (p : Id) (a : Reference) (dep : Text) (b : Bool) → IsReference text a → Demands a dep
-    → ((other : Text) → Demands a other → other ≡ dep) → (IsTrue b ↔ EdgesToIn r s fs p dep) → IsTrue b ↔ AskedByIn r s fs p text
-asked_told {text} h r s fs p a dep b x asks only told = (
-  λ t c by. (
-      let same : by.reference ≡ a = one_form h by.reference a by.is x in
-      told.0 t c (subst (λ d. IsReferent r s.all_named p d c) (only by.dep (subst (λ z. Demands z by.dep) same by.asks)) by.referent)),
-  λ all. told.1 (λ c means. all c (record { reference = a; is = x; dep = dep; asks = asks; referent = means })),
-)
-
--- a reference that asks for nothing
-pub asked_nothing : {text : Text} → HasOneReading text → (r : Resolved) (s : SettingModel) (fs : List Fact) (p : Id) (a : Reference) → IsReference text a → ((dep : Text) → Demands a dep → ⊥) → AskedByIn r s fs p text
-asked_nothing {text} h r s fs p a x none c by = absurd (asks_nothing h r s p c a x none by)

@@ -1,7 +1,6 @@
 -- What single facts give by one rule, and when all of that stands in a list.
 use Rattle.std.specs.Prelude.{◌≡◌, List, Bool, true, false, Contains, ⊤}
 use Rattle.krates_cm.specs.Document.{Text, DependencyModel, DepKindInfoModel}
-use Rattle.krates_derive.specs.Referring.{Asks, AsksBy, toggling}
 use Rattle.krates_rules.specs.Facts.{Id, Edge, Fact, Crate, Feature, Kept, Toggled}
 use Rattle.krates_rules.specs.Features.{ListsFeature, LacksFeature, HasReference}
 use Rattle.krates_rules.specs.Questions.{Stands, LacksNode, IsDeclaredAs, IsWanted, IsLoose, edge_between}
@@ -10,7 +9,7 @@ use Rattle.krates_rules.specs.Resolved.{Resolved, NoPackage}
 use Rattle.krates_rules.specs.Roots.{IsRoot}
 use Rattle.krates_rules.specs.Rules.{default_name}
 use Rattle.krates_rules.specs.Setting.{SettingModel}
-use Rattle.krates_text.specs.FeatureReference.{IsReference, simple}
+use Rattle.krates_text.specs.FeatureReference.{IsReference, Reference, krate, simple, strong, weak}
 
 -- ---- by single facts
 
@@ -55,21 +54,9 @@ RootsIn r s fs = (i : Id) → IsRoot r s i → RootIn r s fs i
 abbrev pub CrateIn : Resolved → SettingModel → List Fact → Id → Type 0
 CrateIn r s fs p = (c : Id) (k : DepKindInfoModel) → EdgeIn r s fs (edge_between p c k) false
 
--- the edges between the two are in the list, where the feature asks for them
-abbrev pub AskedOf : Resolved → SettingModel → List Fact → Id → Text → Id → Type 0
-AskedOf r s fs p f c = Asks r s p f c → (k : DepKindInfoModel) → EdgeIn r s fs (edge_between p c k) true
-
--- all that it asks for
-abbrev pub AskedIn : Resolved → SettingModel → List Fact → Id → Text → Type 0
-AskedIn r s fs p f = (c : Id) → AskedOf r s fs p f c
-
 -- the edges to each crate that the name means are in the list
 abbrev pub EdgesToIn : Resolved → SettingModel → List Fact → Id → Text → Type 0
 EdgesToIn r s fs p dep = (c : Id) → IsReferent r s.all_named p dep c → (k : DepKindInfoModel) → EdgeIn r s fs (edge_between p c k) true
-
--- the edges that the reference of the crate asks for
-abbrev pub AskedByIn : Resolved → SettingModel → List Fact → Id → Text → Type 0
-AskedByIn r s fs p text = (c : Id) → AsksBy r s p text c → (k : DepKindInfoModel) → EdgeIn r s fs (edge_between p c k) true
 
 -- the feature of the other crate is toggled, where the list has an edge there
 abbrev pub MeantIn : Resolved → List Fact → Id → Id → Text → Type 0
@@ -79,20 +66,17 @@ MeantIn r fs p c g = (e : Edge) → Contains fs (Kept e) → e.parent ≡ p → 
 abbrev pub DepIn : Resolved → SettingModel → List Fact → Id → Text → Text → Type 0
 DepIn r s fs p dep g = (c : Id) → IsReferent r s.all_named p dep c → MeantIn r fs p c g
 
--- the feature of the crate that the reference names
-abbrev pub SimpleIn : Resolved → List Fact → Id → Text → Type 0
-SimpleIn r fs p text = (g : Text) → IsReference text (simple g) → NamedIn r fs p g
-
--- what the reference of a feature of the crate toggles
-abbrev pub TogglingIn : Resolved → SettingModel → List Fact → Id → Text → Type 0
-TogglingIn r s fs p text = (weakly : Bool) (dep g : Text) → IsReference text (toggling weakly dep g) → DepIn r s fs p dep g
+-- what a reference of a feature of the crate gives: the feature that it names, the edges that it asks for, and what it toggles
+abbrev pub GivesIn : Resolved → SettingModel → List Fact → Id → Reference → Type 0
+GivesIn r s fs p (simple g) = NamedIn r fs p g
+GivesIn r s fs p (krate dep) = EdgesToIn r s fs p dep
+GivesIn r s fs p (strong dep g) = EdgesToIn r s fs p dep × DepIn r s fs p dep g
+GivesIn r s fs p (weak dep g) = DepIn r s fs p dep g
 
 -- what a feature gives
 pub record FeatureIn (r : Resolved) (s : SettingModel) (fs : List Fact) (p : Id) (f : Text) : Type 0 where
   pub crate : Contains fs (Crate p)
-  pub named : (g : Text) → HasReference r p f (simple g) → NamedIn r fs p g
-  pub toggled : (weakly : Bool) (dep g : Text) → HasReference r p f (toggling weakly dep g) → DepIn r s fs p dep g
-  pub asked : AskedIn r s fs p f
+  pub given : (a : Reference) → HasReference r p f a → GivesIn r s fs p a
 
 -- what a declared dependency asks of its crate
 pub record UsedIn (r : Resolved) (fs : List Fact) (c : Id) (d : DependencyModel) : Type 0 where
@@ -130,17 +114,13 @@ DefaultIn r fs c uses = uses ≡ true → ListsFeature r c default_name → Cont
 abbrev pub NamesIn : Resolved → List Fact → Id → List Text → Type 0
 NamesIn r fs c names = (g : Text) → Contains names g → NamedIn r fs c g
 
--- the features of the crate that these references name
-abbrev pub SimpleAmongIn : Resolved → List Fact → Id → List Text → Type 0
-SimpleAmongIn r fs p texts = (text : Text) → Contains texts text → SimpleIn r fs p text
+-- what the reference that the text is gives
+abbrev pub ReferenceIn : Resolved → SettingModel → List Fact → Id → Text → Type 0
+ReferenceIn r s fs p text = (a : Reference) → IsReference text a → GivesIn r s fs p a
 
--- what these references toggle
-abbrev pub TogglingAmongIn : Resolved → SettingModel → List Fact → Id → List Text → Type 0
-TogglingAmongIn r s fs p texts = (text : Text) → Contains texts text → TogglingIn r s fs p text
-
--- the edges that these references ask for
-abbrev pub AskedAmongIn : Resolved → SettingModel → List Fact → Id → List Text → Type 0
-AskedAmongIn r s fs p texts = (text : Text) → Contains texts text → AskedByIn r s fs p text
+-- what these references give
+abbrev pub ReferencesIn : Resolved → SettingModel → List Fact → Id → List Text → Type 0
+ReferencesIn r s fs p texts = (text : Text) → Contains texts text → ReferenceIn r s fs p text
 
 -- what these facts give
 abbrev pub AllIn : Resolved → SettingModel → List Fact → List Fact → Type 0

@@ -1,11 +1,11 @@
-//! Whether what is given by one rule stands in a list: by the roots, by a crate, an edge or a reference of the list.
+//! Whether what is given by one rule stands in a list: by the roots, by a crate or an edge of the list, or by a name in a reference.
 //!
 //! What a feature gives together with an edge is asked with the feature, for the edges in the list.
 
 ghost use Rattle.std.specs.Prelude.{◌↔◌, IfOk, IsTrue, map};
 ghost use Rattle.krates_cm.specs.Document.{dependency_view, text_view};
-ghost use Rattle.krates_derive.specs.ClosureCheck.{document_in, facts_in};
-ghost use Rattle.krates_derive.specs.Giving.{AskedAmongIn, AskedByIn, ChildIn, CrateIn, DefaultIn, DepIn, EdgeIn, EdgesIn, EdgesToIn, KeptIn, MeantIn, NamedIn, NamesIn, RootIn, SimpleAmongIn, SimpleIn, StockIn, TheseRootsIn, ToggledIn, TogglingAmongIn, TogglingIn, UsedIn};
+ghost use Rattle.krates_derive.specs.ClosureCheck.{document_in, facts_in, setting_in};
+ghost use Rattle.krates_derive.specs.Giving.{ChildIn, CrateIn, DefaultIn, DepIn, EdgeIn, EdgesIn, EdgesToIn, KeptIn, MeantIn, NamedIn, NamesIn, RootIn, StockIn, TheseRootsIn, ToggledIn, UsedIn};
 ghost use Rattle.krates_derive.specs.FactRef.{edge_of_ref};
 ghost use Rattle.krates_questions.specs.DocumentAnswers.{lent_ids};
 ghost use Rattle.krates_rules.specs.Resolved.{id_of};
@@ -14,22 +14,16 @@ use crate::fact_ref::{EdgeRef, FactRef, ToggleRef};
 use crate::fact_set::FactSet;
 use crate::following::is_taken;
 use krates_cm::Dependency;
-use krates_document::Setting;
 use krates_ids::Kid;
-use krates_questions::{Availability, Document, Need};
-use krates_text::features::{Feature, ParsedFeature};
-use krates_text::laws;
-use std::alloc::{AllocError, Global};
+use krates_questions::context::Context;
+use krates_questions::{Availability, Need};
+use std::alloc::AllocError;
 
-/// What the check of a list of facts is made against: a document, a setting, and the list.
+/// What the check of a list of facts is made against: a document and a setting, and the list.
 #[derive(Clone, Copy)]
 pub struct ClosureCheck<'a, 's> {
-    /// What memory comes from.
-    pub alloc: Global,
-    /// The document.
-    pub document: &'s Document<'a>,
-    /// What the caller asks for.
-    pub setting: &'s Setting,
+    /// The document and the setting.
+    pub context: Context<'a, 's>,
     /// The list.
     pub facts: &'s FactSet<'a>,
 }
@@ -40,7 +34,7 @@ impl<'a, 's> ClosureCheck<'a, 's> {
     /// Whether all that these roots give stands in the list.
     pub fn are_roots_in(&self, roots: &[&'a Kid]) -> bool
         ensures { IsTrue result
-            ↔ TheseRootsIn (document_in self.now) self.now.setting.now (facts_in self.now)
+            ↔ TheseRootsIn (document_in self.now) (setting_in self.now) (facts_in self.now)
             (lent_ids roots.now) }
     {
         for root in roots {
@@ -54,9 +48,9 @@ impl<'a, 's> ClosureCheck<'a, 's> {
     /// Whether all that a root gives stands in the list.
     fn is_root_in(&self, krate: &'a Kid) -> bool
         ensures { IsTrue result
-            ↔ RootIn (document_in self.now) self.now.setting.now (facts_in self.now) (id_of krate.now) }
+            ↔ RootIn (document_in self.now) (setting_in self.now) (facts_in self.now) (id_of krate.now) }
     {
-        match self.document.availability(self.setting, krate) {
+        match self.context.document.availability(self.context.setting, krate) {
             Availability::Available(_) => self.is_stock_in(krate),
             Availability::NoPackage => false,
             Availability::NoNode => false,
@@ -68,7 +62,7 @@ impl<'a, 's> ClosureCheck<'a, 's> {
     fn is_stock_in(&self, krate: &'a Kid) -> bool
         ensures { IsTrue result ↔ StockIn (document_in self.now) (facts_in self.now) (id_of krate.now) }
     {
-        let names = self.document.features(krate);
+        let names = self.context.document.features(krate);
         self.facts.has_crate(krate) && self.are_names_in(krate, names)
     }
 
@@ -77,10 +71,10 @@ impl<'a, 's> ClosureCheck<'a, 's> {
     /// Whether all that a crate gives by its edges stands in the list.
     pub fn is_crate_in(&self, krate: &'a Kid) -> Result<bool, AllocError>
         ensures { IfOk result
-            (λ b. IsTrue b ↔ CrateIn (document_in self.now) self.now.setting.now (facts_in self.now)
+            (λ b. IsTrue b ↔ CrateIn (document_in self.now) (setting_in self.now) (facts_in self.now)
             (id_of krate.now)) }
     {
-        for child in self.document.children(krate) {
+        for child in self.context.document.children(krate) {
             if !self.are_edges_in(krate, child, false)? {
                 return Ok(false);
             }
@@ -96,7 +90,7 @@ impl<'a, 's> ClosureCheck<'a, 's> {
         if !self.facts.has_crate(edge.child) {
             return Ok(false);
         }
-        match edge.declaration(self.document)? {
+        match edge.declaration(self.context.document)? {
             Some(dependency) => Ok(self.is_used_in(edge.child, dependency)),
             None => Ok(true),
         }
@@ -107,10 +101,10 @@ impl<'a, 's> ClosureCheck<'a, 's> {
     /// Whether all that the edges from one crate to another give stands in the list.
     fn are_edges_in(&self, krate: &'a Kid, child: &'a Kid, asked: bool) -> Result<bool, AllocError>
         ensures { IfOk result
-            (λ b. IsTrue b ↔ EdgesIn (document_in self.now) self.now.setting.now (facts_in self.now)
+            (λ b. IsTrue b ↔ EdgesIn (document_in self.now) (setting_in self.now) (facts_in self.now)
             (id_of krate.now) (id_of child.now) asked) }
     {
-        for info in self.document.kinds(krate, child) {
+        for info in self.context.document.kinds(krate, child) {
             let edge = EdgeRef::between(krate, child, info);
             if !self.is_edge_in(&edge, asked)? {
                 return Ok(false);
@@ -122,10 +116,10 @@ impl<'a, 's> ClosureCheck<'a, 's> {
     /// Whether all that an edge gives stands in the list, if a feature asks for it or its parent needs it.
     fn is_edge_in(&self, edge: &EdgeRef<'a>, asked: bool) -> Result<bool, AllocError>
         ensures { IfOk result
-            (λ b. IsTrue b ↔ EdgeIn (document_in self.now) self.now.setting.now (facts_in self.now)
+            (λ b. IsTrue b ↔ EdgeIn (document_in self.now) (setting_in self.now) (facts_in self.now)
             (edge_of_ref edge.now) asked) }
     {
-        match edge.need(self.alloc, self.document, self.setting)? {
+        match edge.need(self.context.alloc, self.context.document, self.context.setting)? {
             Need::Nothing => Ok(true),
             Need::Undeclared => Ok(asked),
             Need::Wanted(dependency) => {
@@ -140,9 +134,9 @@ impl<'a, 's> ClosureCheck<'a, 's> {
     /// Whether a wanted edge stands in the list if its child stands, and nothing is lost.
     fn is_child_in(&self, edge: &EdgeRef<'a>) -> bool
         ensures { IsTrue result
-            ↔ ChildIn (document_in self.now) self.now.setting.now (facts_in self.now) (edge_of_ref edge.now) }
+            ↔ ChildIn (document_in self.now) (setting_in self.now) (facts_in self.now) (edge_of_ref edge.now) }
     {
-        match self.document.availability(self.setting, edge.child) {
+        match self.context.document.availability(self.context.setting, edge.child) {
             Availability::Available(_) => self.facts.has(&FactRef::Kept(*edge)),
             Availability::NoPackage => false,
             Availability::NoNode => false,
@@ -150,44 +144,16 @@ impl<'a, 's> ClosureCheck<'a, 's> {
         }
     }
 
-    /// Whether all edges that the references of a feature ask for stand in the list.
-    pub fn are_asked_in(&self, krate: &'a Kid, values: &'a [String]) -> Result<bool, AllocError>
-        ensures { let texts = map text_view values.now in
-            IfOk result (λ b. IsTrue b
-            ↔ AskedAmongIn (document_in self.now) self.now.setting.now (facts_in self.now)
-            (id_of krate.now) texts) }
-    {
-        for value in values {
-            if !self.is_asked_in(krate, value.as_str())? {
-                return Ok(false);
-            }
-        }
-        Ok(true)
-    }
-
-    /// Whether all edges that a reference of a feature asks for stand in the list.
-    fn is_asked_in(&self, krate: &'a Kid, text: &'a str) -> Result<bool, AllocError>
+    /// Whether all edges from a crate to what a name means stand in the list.
+    pub fn are_edges_to_in(&self, krate: &'a Kid, dep: &str) -> Result<bool, AllocError>
         ensures { IfOk result
-            (λ b. IsTrue b ↔ AskedByIn (document_in self.now) self.now.setting.now (facts_in self.now)
-            (id_of krate.now) text.now) }
-    {
-        laws::one_reference();
-        match ParsedFeature::from(text).feat() {
-            Feature::Krate(dep) => self.are_edges_to_in(krate, dep),
-            Feature::Strong { krate: dep, .. } => self.are_edges_to_in(krate, dep),
-            _ => Ok(true),
-        }
-    }
-
-    /// Whether all edges to what a name means stand in the list.
-    fn are_edges_to_in(&self, krate: &'a Kid, dep: &str) -> Result<bool, AllocError>
-        ensures { IfOk result
-            (λ b. IsTrue b ↔ EdgesToIn (document_in self.now) self.now.setting.now (facts_in self.now)
+            (λ b. IsTrue b ↔ EdgesToIn (document_in self.now) (setting_in self.now) (facts_in self.now)
             (id_of krate.now) dep.now) }
     {
         let referents = self
+            .context
             .document
-            .referents(self.alloc, self.setting, krate, dep)?;
+            .referents(self.context.alloc, self.context.setting, krate, dep)?;
         for referent in &referents {
             if !self.are_edges_in(krate, referent.id, true)? {
                 return Ok(false);
@@ -198,75 +164,16 @@ impl<'a, 's> ClosureCheck<'a, 's> {
 
     // ---- references
 
-    /// Whether the feature of the same crate that each reference names stands in the list.
-    pub fn are_simple_in(&self, krate: &'a Kid, values: &'a [String]) -> bool
-        ensures { let texts = map text_view values.now in
-            IsTrue result ↔ SimpleAmongIn (document_in self.now) (facts_in self.now) (id_of krate.now) texts }
-    {
-        for value in values {
-            if !self.is_simple_in(krate, value.as_str()) {
-                return false;
-            }
-        }
-        true
-    }
-
-    /// Whether the feature of the same crate that a reference names stands in the list.
-    fn is_simple_in(&self, krate: &'a Kid, text: &'a str) -> bool
-        ensures { IsTrue result
-            ↔ SimpleIn (document_in self.now) (facts_in self.now) (id_of krate.now) text.now }
-    {
-        laws::one_reference();
-        match ParsedFeature::from(text).feat() {
-            Feature::Simple(name) => self.is_named_in(krate, name),
-            _ => true,
-        }
-    }
-
-    /// Whether what each reference of a feature toggles, with an edge of the list, stands in the list.
-    pub fn are_toggling_in(&self, krate: &'a Kid, values: &'a [String]) -> Result<bool, AllocError>
-        ensures { let texts = map text_view values.now in
-            IfOk result (λ b. IsTrue b
-            ↔ TogglingAmongIn (document_in self.now) self.now.setting.now (facts_in self.now)
-            (id_of krate.now) texts) }
-    {
-        for value in values {
-            if !self.is_toggling_in(krate, value.as_str())? {
-                return Ok(false);
-            }
-        }
-        Ok(true)
-    }
-
-    /// Whether what a reference of a feature toggles, with an edge of the list, stands in the list.
-    fn is_toggling_in(&self, krate: &'a Kid, text: &'a str) -> Result<bool, AllocError>
-        ensures { IfOk result
-            (λ b. IsTrue b ↔ TogglingIn (document_in self.now) self.now.setting.now (facts_in self.now)
-            (id_of krate.now) text.now) }
-    {
-        laws::one_reference();
-        match ParsedFeature::from(text).feat() {
-            Feature::Strong {
-                krate: dep,
-                feature,
-            } => self.is_dep_in(krate, dep, feature),
-            Feature::Weak {
-                krate: dep,
-                feature,
-            } => self.is_dep_in(krate, dep, feature),
-            _ => Ok(true),
-        }
-    }
-
     /// Whether a feature of what a name means is toggled, if the list has an edge there.
-    fn is_dep_in(&self, krate: &'a Kid, dep: &str, name: &'a str) -> Result<bool, AllocError>
+    pub fn is_dep_in(&self, krate: &'a Kid, dep: &str, name: &'a str) -> Result<bool, AllocError>
         ensures { IfOk result
-            (λ b. IsTrue b ↔ DepIn (document_in self.now) self.now.setting.now (facts_in self.now)
+            (λ b. IsTrue b ↔ DepIn (document_in self.now) (setting_in self.now) (facts_in self.now)
             (id_of krate.now) dep.now name.now) }
     {
         let referents = self
+            .context
             .document
-            .referents(self.alloc, self.setting, krate, dep)?;
+            .referents(self.context.alloc, self.context.setting, krate, dep)?;
         for referent in &referents {
             if !self.is_meant_in(krate, referent.id, name) {
                 return Ok(false);
@@ -294,7 +201,7 @@ impl<'a, 's> ClosureCheck<'a, 's> {
         ensures { IsTrue result
             ↔ ToggledIn (document_in self.now) (facts_in self.now) (id_of by.now) (id_of krate.now) name.now }
     {
-        if !self.document.lists(krate, name) {
+        if !self.context.document.lists(krate, name) {
             return false;
         }
         self.facts
@@ -302,11 +209,11 @@ impl<'a, 's> ClosureCheck<'a, 's> {
     }
 
     /// Whether a feature stands in the list if its crate lists it, and isn't lost.
-    fn is_named_in(&self, krate: &'a Kid, name: &'a str) -> bool
+    pub fn is_named_in(&self, krate: &'a Kid, name: &'a str) -> bool
         ensures { IsTrue result
             ↔ NamedIn (document_in self.now) (facts_in self.now) (id_of krate.now) name.now }
     {
-        if !self.document.lists(krate, name) {
+        if !self.context.document.lists(krate, name) {
             return false;
         }
         self.facts.has_feature(krate, name)
@@ -345,7 +252,7 @@ impl<'a, 's> ClosureCheck<'a, 's> {
         if !uses {
             return true;
         }
-        if !self.document.lists(krate, "default") {
+        if !self.context.document.lists(krate, "default") {
             return true;
         }
         self.facts.has_feature(krate, "default")

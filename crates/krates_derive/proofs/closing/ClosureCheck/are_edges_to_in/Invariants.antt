@@ -1,7 +1,7 @@
 use Rattle.std.proofs.Common.{true}
 use Rattle.krates_derive.specs.Giving.{EdgesIn}
 use Rattle.krates_rules.proofs.Seen.{SeenBelow}
-use Rattle.krates_derive.specs.ClosureCheck.{document_in, facts_in}
+use Rattle.krates_derive.specs.ClosureCheck.{document_in, facts_in, setting_in}
 use Rattle.krates_questions.specs.ReferentPlace.{referent_id}
 use Rattle.krates_questions.specs.declared.referent.Referent.{Referent}
 use Rattle.krates_rules.specs.Resolved.{id_of}
@@ -9,4 +9,4 @@ use Rattle.krates_derive.proofs.closing.ClosureCheck.are_edges_to_in.Given as go
 
 -- it holds of each referent so far
 abbrev pub invariant-loop-referent : goal.invariant-loop-referent
-invariant-loop-referent l = SeenBelow (λ (x : Referent). EdgesIn (document_in l.self) l.self.setting.now (facts_in l.self) (id_of l.krate) (referent_id x) true) l.referent-items l.referent-index
+invariant-loop-referent l = SeenBelow (λ (x : Referent). EdgesIn (document_in l.self) (setting_in l.self) (facts_in l.self) (id_of l.krate) (referent_id x) true) l.referent-items l.referent-index

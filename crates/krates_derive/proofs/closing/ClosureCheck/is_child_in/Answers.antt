@@ -1,13 +1,13 @@
 use Rattle.std.proofs.Common.{refl}
 use Rattle.krates_derive.specs.FactRef.{edge_of_ref}
-use Rattle.krates_derive.specs.ClosureCheck.{document_in, facts_in}
+use Rattle.krates_derive.specs.ClosureCheck.{document_in, facts_in, setting_in}
 use Rattle.krates_derive.proofs.Givings.{child_here}
 use Rattle.krates_derive.proofs.closing.ClosureCheck.is_child_in.Goals as goal
 
 pub returns-in-Available : goal.returns-in-Available
 returns-in-Available c =
     let fs = facts_in c.args.self.now in
-    child_here (document_in c.args.self.now) c.args.self.now.setting.now fs (edge_of_ref c.args.edge.now) c.has.result c.in-Available.ensures.0 c.has.ensures
+    child_here (document_in c.args.self.now) (setting_in c.args.self.now) fs (edge_of_ref c.args.edge.now) c.has.result c.in-Available.ensures.0 c.has.ensures
 
 pub returns-in-Excluded : goal.returns-in-Excluded
 returns-in-Excluded c =

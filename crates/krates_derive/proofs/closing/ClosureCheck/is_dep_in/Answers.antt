@@ -1,5 +1,5 @@
 use Rattle.std.proofs.Common.{List, refl, sym, map, subst}
-use Rattle.krates_derive.specs.ClosureCheck.{document_in, facts_in}
+use Rattle.krates_derive.specs.ClosureCheck.{document_in, facts_in, setting_in}
 use Rattle.krates_derive.specs.Giving.{MeantIn}
 use Rattle.krates_questions.specs.ReferentPlace.{referent_id}
 use Rattle.krates_questions.specs.declared.referent.Referent.{Referent}
@@ -19,12 +19,12 @@ pub returns-then-not-is_meant_in : goal.returns-then-not-is_meant_in
 returns-then-not-is_meant_in c =
     let xs = c.deref-referent-items.result.now in
     let x = c.referent-item.result in
-    let are = subst (λ (ys : List Referent). AreReferents (document_in c.args.self.now) c.args.self.now.setting.now.all_named (id_of c.args.krate.now) c.args.dep.now (map referent_id ys)) (sym c.deref-referent-items.ensures.value) c.in_ok-referents.ensures in
+    let are = subst (λ (ys : List Referent). AreReferents (document_in c.args.self.now) (setting_in c.args.self.now).all_named (id_of c.args.krate.now) c.args.dep.now (map referent_id ys)) (sym c.deref-referent-items.ensures.value) c.in_ok-referents.ensures in
     let meant = (are.exactly (referent_id x)).0 (contains_read referent_id xs c.loop-referent.referent-index x c.loop-referent-test.true c.referent-item.is) in
     (λ t. absurd cc, λ all. absurd (cc (c.is_meant_in.ensures.1 (all (referent_id x) meant), c.if-not-is_meant_in.true)))
 
 pub returns : goal.returns
 returns c =
     let xs = c.deref-referent-items.result.now in
-    let are = subst (λ (ys : List Referent). AreReferents (document_in c.args.self.now) c.args.self.now.setting.now.all_named (id_of c.args.krate.now) c.args.dep.now (map referent_id ys)) (sym c.deref-referent-items.ensures.value) c.in_ok-referents.ensures in
+    let are = subst (λ (ys : List Referent). AreReferents (document_in c.args.self.now) (setting_in c.args.self.now).all_named (id_of c.args.krate.now) c.args.dep.now (map referent_id ys)) (sym c.deref-referent-items.ensures.value) c.in_ok-referents.ensures in
     (λ t x is. each_seen referent_id (λ (i : Id). MeantIn (document_in c.args.self.now) (facts_in c.args.self.now) (id_of c.args.krate.now) i c.args.name.now) xs xs c.loop-referent.referent-index refl c.loop-referent-test.false c.loop-referent.invariant x ((are.exactly x).1 is), λ all. refl)
