@@ -38,7 +38,12 @@ impl TargetInfo {
         let (vendor, pointer_width, endian, panic) = last_values(
             alloc,
             text,
-            ("target_vendor", "target_pointer_width", "target_endian", "panic"),
+            (
+                "target_vendor",
+                "target_pointer_width",
+                "target_endian",
+                "panic",
+            ),
         )?;
         let families = values(alloc, text, "target_family")?;
         let atomics = values(alloc, text, "target_has_atomic")?;

@@ -1,4 +1,5 @@
-use Rattle.std.proofs.Common.{map, subst}
+use Rattle.std.proofs.Common.{map, subst, arith}
+use Rattle.std.proofs.lemmas.Grind.{common_steps}
 use Rattle.std.proofs.lemmas.List.{map-append}
 use Rattle.krates_cm.specs.Document.{text_view}
 use Rattle.krates_questions.specs.Lookup.{resolved_view}
@@ -15,3 +16,6 @@ loop-text-preserved c =
     let made = meaning_view c.in_ok-meaning_of.field-0 in
     let here : means (text_view c.text-item.result) made = subst (λ t. means t made) c.as_str.ensures.value c.in_ok-meaning_of.ensures in
     rw (c.in_ok-push.ensures.items, map-append) (zip_next means text_view c.args.values.now l.text-index c.text-item.result (map meaning_view l.meanings.items) made c.loop-text-test.true c.text-item.is here l.invariant)
+
+pub returns : goal.returns
+returns c = grind (arith, common_steps)

@@ -4,3 +4,6 @@ use Rattle.krates_drawing.proofs.numbers.NumberedOutline.mappings.Goals as goal
 
 pub returns : goal.returns
 returns c = grind (arith, common_steps)
+
+pub loop-krate-preserved : goal.loop-krate-preserved
+loop-krate-preserved c = grind (arith, common_steps)
