@@ -1,9 +1,10 @@
 -- What the facts of a list give, and when the list is closed.
-use Rattle.std.proofs.Common.{◌≡◌, ◌↔◌, List, [], ◌∷◌, Bool, true, false, Contains, inl, inr, refl, sym, subst}
+use Rattle.std.proofs.Common.{◌≡◌, ◌↔◌, ◌∙◌, List, [], ◌∷◌, Bool, IsTrue, true, false, Contains, inl, inr, refl, sym, subst}
 use Rattle.krates_cm.specs.Document.{Text, DepKindInfoModel}
-use Rattle.krates_derive.specs.Giving.{AskedAmongIn, AskedIn, NamedIn, SimpleAmongIn, ToggledIn, TogglingAmongIn, RootsIn, CrateIn, FeatureIn, KeptIn, FactIn, DepIn}
-use Rattle.krates_derive.specs.Referring.{Asks, toggling}
-use Rattle.krates_text.specs.FeatureReference.{simple}
+use Rattle.krates_derive.specs.Giving.{CrateIn, DepIn, EdgesToIn, FactIn, FeatureIn, GivesIn, KeptIn, ReferenceIn, ReferencesIn, RootsIn, ToggledIn}
+use Rattle.krates_derive.specs.Referring.{toggling}
+use Rattle.krates_text.specs.FeatureReference.{HasOneReading, IsReference, Reference, krate, simple, strong, weak}
+use Rattle.krates_rules.specs.Demands.{Demands}
 use Rattle.krates_rules.specs.Facts.{Id, Edge, Fact, Cause, Crate, Feature, Kept, Toggled, Lost}
 use Rattle.krates_rules.specs.Features.{HasReference}
 use Rattle.krates_questions.specs.FeatureValues.{AreValuesOf}
