@@ -158,12 +158,12 @@ impl Asked for Edge {
 const CRATES: &[Row] = &[
     (
         "a f",
-        r#"root true, stands true, Available(0), package a, node true, lists true ["b/g", "x"] of 2: b c"#,
+        r#"root true, stands true, Available(NodePlace { index: 0 }), package a, node true, lists true ["b/g", "x"] of 2: b c"#,
     ),
     // a feature that the manifest lacks, and one that the node doesn't list
     (
         "a e",
-        "root true, stands true, Available(0), package a, node true, lists true [] of 2: b c",
+        "root true, stands true, Available(NodePlace { index: 0 }), package a, node true, lists true [] of 2: b c",
     ),
     (
         "a g / without a",
