@@ -1,6 +1,7 @@
 //! The agenda: each number is taken once, in the order in which they were put.
 
 use krates_graph::agenda::{Agenda, Taken};
+use krates_samples::table::compare;
 use std::alloc::{AllocError, Global};
 use std::test::Fail;
 
@@ -37,9 +38,9 @@ fn told(alloc: Global) -> Result<String, AllocError> {
 
 #[test]
 fn numbers_are_taken_once_in_the_order_of_their_puts(rt: HostRuntime) -> Result<(), Fail> {
-    assert_eq!(rt;
+    compare(
+        "four numbers",
         told(rt.alloc())?.as_str(),
-        "([true, true, false], 0, Some(3), [false, true], [Some(1), Some(0), None], 3, [3, 1, 0])"
-    );
-    Ok(())
+        "([true, true, false], 0, Some(3), [false, true], [Some(1), Some(0), None], 3, [3, 1, 0])",
+    )
 }

@@ -4,18 +4,12 @@
 use krates_certificate::{Certificate, CertificateError, CertificatePart};
 use krates_rules::Fact;
 use krates_samples::facts::{facts_of, steps_of};
+use krates_samples::settings::all_of;
 use krates_samples::table::{Question, Row, hold};
+use krates_samples::text::Text;
 use serde_json::{Value, json};
 use std::alloc::{AllocError, Global};
 use std::test::Fail;
-
-/// A setting of two words.
-fn setting(alloc: Global) -> Result<Vec<String>, AllocError> {
-    let mut words = Vec::new(alloc);
-    words.push(String::from_str(alloc, "--ignore")?)?;
-    words.push(String::from_str(alloc, "dev")?)?;
-    Ok(words)
-}
 
 /// What is written for a certificate.
 fn written(alloc: Global, certificate: &Certificate) -> Result<String, AllocError> {
@@ -28,7 +22,7 @@ struct OfSteps;
 impl Question for OfSteps {
     fn told(alloc: Global, line: &str) -> Result<String, Fail> {
         let derivation = steps_of(alloc, line)?;
-        let setting = setting(alloc)?;
+        let setting = all_of(alloc, "--ignore dev", ' ')?;
         let certificate = Certificate::Derivation {
             setting,
             derivation,
@@ -47,11 +41,6 @@ const STEPS: &[Row] = &[
         r#"{"kind":"derivation","setting":["--ignore","dev"],"steps":[{"fact":{"fact":"crate","krate":"path+file:///w/a#0.1.0"},"rule":1,"uses":[]},{"fact":{"cfg":null,"child":"path+file:///w/b#0.1.0","fact":"kept","kind":"build","parent":"path+file:///w/a#0.1.0"},"rule":5,"uses":[0]}]}"#,
     ),
 ];
-
-#[test]
-fn steps_are_written(rt: HostRuntime) -> Result<(), Fail> {
-    hold::<OfSteps>(rt.alloc(), STEPS)
-}
 
 /// What is written for the facts of a line.
 struct OfFacts;
@@ -77,26 +66,22 @@ const FACTS: &[Row] = &[
     ),
 ];
 
-#[test]
-fn facts_are_written(rt: HostRuntime) -> Result<(), Fail> {
-    hold::<OfFacts>(rt.alloc(), FACTS)
-}
-
 /// The words of a setting, and what is printed of each fact or step.
 fn printed(alloc: Global, certificate: &Certificate) -> Result<String, AllocError> {
+    let mut lines = Text::new(alloc);
     match certificate {
         Certificate::Derivation {
             setting,
             derivation,
-        } => format!(in alloc; "{setting:?}\n{derivation}"),
+        } => write!(lines, "{setting:?}\n{derivation}"),
         Certificate::Closed { setting, facts } => {
-            let mut lines = format!(in alloc; "{setting:?}\n")?;
+            write!(lines, "{setting:?}\n");
             for fact in facts {
-                writeln!(lines, "{fact}")?;
+                writeln!(lines, "{fact}");
             }
-            Ok(lines)
         }
     }
+    lines.whole()
 }
 
 /// Why a part is refused. Want of memory is handed on, as elsewhere.
@@ -112,10 +97,11 @@ struct Read;
 
 impl Question for Read {
     fn told(alloc: Global, text: &str) -> Result<String, Fail> {
-        match Certificate::parse(alloc, text) {
-            Ok(certificate) => Ok(printed(alloc, &certificate)?),
-            Err(error) => Ok(refusal(alloc, error)?),
-        }
+        let told = match Certificate::parse(alloc, text) {
+            Ok(certificate) => printed(alloc, &certificate),
+            Err(error) => refusal(alloc, error),
+        };
+        Ok(told?)
     }
 }
 
@@ -178,11 +164,6 @@ const TEXTS: &[Row] = &[
         "no package id at key: krate",
     ),
 ];
-
-#[test]
-fn texts_are_read_or_refused(rt: HostRuntime) -> Result<(), Fail> {
-    hold::<Read>(rt.alloc(), TEXTS)
-}
 
 /// The id that is read of a text, as it is written.
 struct Id;
@@ -253,6 +234,9 @@ const IDS: &[Row] = &[
 ];
 
 #[test]
-fn ids_are_written_to_be_read(rt: HostRuntime) -> Result<(), Fail> {
+fn certificates_are_written_and_read_or_refused(rt: HostRuntime) -> Result<(), Fail> {
+    hold::<OfSteps>(rt.alloc(), STEPS)?;
+    hold::<OfFacts>(rt.alloc(), FACTS)?;
+    hold::<Read>(rt.alloc(), TEXTS)?;
     hold::<Id>(rt.alloc(), IDS)
 }

@@ -3,17 +3,18 @@
 use krates_rules::Fact;
 use krates_samples::facts::{facts_of, steps_of};
 use krates_samples::table::{Question, Row, hold};
+use krates_samples::text::Text;
 use std::alloc::{AllocError, Global};
 use std::fmt;
 use std::test::Fail;
 
 /// What is printed of each, with a line feed behind it.
 fn lines_of<T: fmt::Display>(alloc: Global, all: &[T]) -> Result<String, AllocError> {
-    let mut lines = String::new(alloc);
+    let mut lines = Text::new(alloc);
     for it in all {
-        writeln!(lines, "{it}")?;
+        writeln!(lines, "{it}");
     }
-    Ok(lines)
+    lines.whole()
 }
 
 /// The facts of a line.
@@ -62,11 +63,6 @@ const FACTS: &[Row] = &[
     ),
 ];
 
-#[test]
-fn facts_are_printed(rt: HostRuntime) -> Result<(), Fail> {
-    hold::<Facts>(rt.alloc(), FACTS)
-}
-
 /// The steps of a line, without their numbers.
 struct Steps;
 
@@ -90,11 +86,6 @@ const STEPS: &[Row] = &[
         "rule 4: kept path+file:///w/a#0.1.0 -> path+file:///w/b#0.1.0 (build) from 9, 10, 255\n",
     ),
 ];
-
-#[test]
-fn steps_are_printed(rt: HostRuntime) -> Result<(), Fail> {
-    hold::<Steps>(rt.alloc(), STEPS)
-}
 
 /// The derivation of a line.
 struct Printed;
@@ -136,6 +127,8 @@ const PRINTED: &[Row] = &[
 ];
 
 #[test]
-fn derivations_are_printed(rt: HostRuntime) -> Result<(), Fail> {
+fn facts_steps_and_derivations_are_printed(rt: HostRuntime) -> Result<(), Fail> {
+    hold::<Facts>(rt.alloc(), FACTS)?;
+    hold::<Steps>(rt.alloc(), STEPS)?;
     hold::<Printed>(rt.alloc(), PRINTED)
 }

@@ -1,5 +1,6 @@
 //! cfg expressions: their values at targets, what they count, and which text isn't one.
 
+use krates_samples::settings::FromText;
 use krates_samples::table::{Question, Row, hold};
 use krates_text::cfg::{CfgError, Expression};
 use krates_text::target::Target;
@@ -116,8 +117,7 @@ struct Value;
 impl Question for Value {
     fn told(alloc: Global, line: &str) -> Result<String, Fail> {
         let (place, text) = line.split_once(' ').unwrap_or((line, ""));
-        let (triple, feature) = place.split_once('+').unwrap_or((place, ""));
-        let is_true = value_at(alloc, text, triple, feature)?;
+        let is_true = value_at(alloc, text, place)?;
         Ok(format!(in alloc; "{is_true}")?)
     }
 }
@@ -133,16 +133,10 @@ fn value_for(
     Ok(expression.eval(target, features))
 }
 
-/// The value of an expression at a target with one feature.
-fn value_at(alloc: Global, text: &str, triple: &str, feature: &str) -> Result<bool, Fail> {
-    let target = Target::new(alloc, triple)?;
-    let features = vec![in alloc; String::from_str(alloc, feature)?]?;
+/// The value of an expression at the target of a word, with its feature.
+fn value_at(alloc: Global, text: &str, place: &str) -> Result<bool, Fail> {
+    let (target, features): (Target, Vec<String>) = FromText::from_text(alloc, place)?;
     Ok(value_for(alloc, text, &target, features.as_slice())?)
-}
-
-#[test]
-fn is_true_or_false_at_a_target(rt: HostRuntime) -> Result<(), Fail> {
-    hold::<Value>(rt.alloc(), VALUES)
 }
 
 /// What an expression asks for, counted, or why a text isn't one.
@@ -156,16 +150,6 @@ impl Question for Counted {
         };
         Ok(told?)
     }
-}
-
-#[test]
-fn counts_words_and_pairs(rt: HostRuntime) -> Result<(), Fail> {
-    hold::<Counted>(rt.alloc(), COUNTS)
-}
-
-#[test]
-fn refuses_what_is_outside(rt: HostRuntime) -> Result<(), Fail> {
-    hold::<Counted>(rt.alloc(), OUTSIDE)
 }
 
 /// The beginning of an expression in which this many forms are opened.
@@ -192,11 +176,6 @@ impl Question for FormsInOneAnother {
     }
 }
 
-#[test]
-fn nests_at_most_127_forms(rt: HostRuntime) -> Result<(), Fail> {
-    hold::<FormsInOneAnother>(rt.alloc(), NESTED)
-}
-
 /// Why the beginning of an expression with too many forms isn't one.
 struct OpenedForms;
 
@@ -205,11 +184,6 @@ impl Question for OpenedForms {
         let text = opened(alloc, times.parse()?)?;
         Counted::told(alloc, text.as_str())
     }
-}
-
-#[test]
-fn is_too_deep_before_it_ends(rt: HostRuntime) -> Result<(), Fail> {
-    hold::<OpenedForms>(rt.alloc(), OPENED)
 }
 
 /// What an error prints.
@@ -227,6 +201,11 @@ impl Question for Printed {
 }
 
 #[test]
-fn prints_each_error(rt: HostRuntime) -> Result<(), Fail> {
+fn expressions_are_evaluated_counted_or_refused(rt: HostRuntime) -> Result<(), Fail> {
+    hold::<Value>(rt.alloc(), VALUES)?;
+    hold::<Counted>(rt.alloc(), COUNTS)?;
+    hold::<Counted>(rt.alloc(), OUTSIDE)?;
+    hold::<FormsInOneAnother>(rt.alloc(), NESTED)?;
+    hold::<OpenedForms>(rt.alloc(), OPENED)?;
     hold::<Printed>(rt.alloc(), ERRORS)
 }

@@ -1,8 +1,8 @@
 //! The graph: its limits, its edges by number, and what is read from it.
 
 use krates_graph::graph::{Direction, EdgeId, Graph, GraphError, NodeId};
-use krates_samples::table;
-use krates_samples::table::{Question, Row};
+use krates_samples::table::{Question, Row, compare, hold};
+use krates_samples::text::Text;
 use std::alloc::{AllocError, Global};
 use std::test::Fail;
 
@@ -10,35 +10,29 @@ use std::test::Fail;
 /// and the weight.
 const JOINED: &[(u32, u32, u8)] = &[(0, 1, 10), (1, 0, 11), (0, 1, 12), (1, 1, 13), (2, 1, 14)];
 
-/// A node, a direction, and what is told of its edges there: their numbers, and each edge with its ends and its weight.
-type EdgesRow = (u32, Direction, &'static str);
-
-/// What is told of the joined nodes.
-const EDGES: &[EdgesRow] = &[
+/// A node of a graph and the direction of its edges, and what is told of these: their numbers, and each edge with its ends and its
+/// weight. Here the graph is that of the joined nodes.
+const EDGES: &[Row] = &[
     (
-        0,
-        Direction::Outgoing,
+        "joined 0 out",
         "[EdgeId(0), EdgeId(2)] (0, 0, 1, 10) (2, 0, 1, 12)",
     ),
-    (0, Direction::Incoming, "[EdgeId(1)] (1, 1, 0, 11)"),
+    ("joined 0 in", "[EdgeId(1)] (1, 1, 0, 11)"),
     (
-        1,
-        Direction::Outgoing,
+        "joined 1 out",
         "[EdgeId(1), EdgeId(3)] (1, 1, 0, 11) (3, 1, 1, 13)",
     ),
-    (2, Direction::Outgoing, "[EdgeId(4)] (4, 2, 1, 14)"),
-    (2, Direction::Incoming, "[]"),
+    ("joined 2 out", "[EdgeId(4)] (4, 2, 1, 14)"),
+    ("joined 2 in", "[]"),
     // no such node
-    (3, Direction::Outgoing, "[]"),
-    (9, Direction::Incoming, "[]"),
+    ("joined 3 out", "[]"),
+    ("joined 9 in", "[]"),
+    // the node that all but one edge enter
+    (
+        "joined 1 in",
+        "[EdgeId(0), EdgeId(2), EdgeId(3), EdgeId(4)] (0, 0, 1, 10) (2, 0, 1, 12) (3, 1, 1, 13) (4, 2, 1, 14)",
+    ),
 ];
-
-/// The same of the node that all but one edge enter.
-const ENTERING: &[EdgesRow] = &[(
-    1,
-    Direction::Incoming,
-    "[EdgeId(0), EdgeId(2), EdgeId(3), EdgeId(4)] (0, 0, 1, 10) (2, 0, 1, 12) (3, 1, 1, 13) (4, 2, 1, 14)",
-)];
 
 /// Crates 0 and 1, the feature 4 of 1 that 0 turns on, and two features in between; the weight is 1 where a feature is an end.
 const BETWEEN_FEATURES: &[(u32, u32, u8)] = &[
@@ -52,15 +46,13 @@ const BETWEEN_FEATURES: &[(u32, u32, u8)] = &[
 ];
 
 /// What `EDGES` says, of the edges that leave the one crate and of those that enter the other.
-const EDGES_BETWEEN_FEATURES: &[EdgesRow] = &[
+const EDGES_BETWEEN_FEATURES: &[Row] = &[
     (
-        0,
-        Direction::Outgoing,
+        "features 0 out",
         "[EdgeId(0), EdgeId(1)] (0, 0, 1, 0) (1, 0, 4, 1)",
     ),
     (
-        1,
-        Direction::Incoming,
+        "features 1 in",
         "[EdgeId(0), EdgeId(3), EdgeId(6)] (0, 0, 1, 0) (3, 2, 1, 1) (6, 4, 1, 1)",
     ),
 ];
@@ -111,55 +103,46 @@ fn graph_of(
     Ok(graph)
 }
 
-/// Writes each edge of a node in a direction, with its ends and its weight.
-fn push_edges(
-    text: &mut String,
-    graph: &Graph<char, u8>,
-    node: NodeId,
-    direction: Direction,
-) -> Result<(), AllocError> {
-    for edge in graph.edges_directed(node, direction) {
-        let (source, target) = (edge.source.index(), edge.target.index());
-        let shown = (edge.id.index(), source, target, *edge.weight);
-        write!(text, " {shown:?}")?;
-    }
-    Ok(())
-}
-
 /// Of a node and a direction the numbers of the edges, and each edge with its ends and its weight.
-fn told(
+fn told_of_edges(
     alloc: Global,
     graph: &Graph<char, u8>,
     node: NodeId,
     direction: Direction,
 ) -> Result<String, AllocError> {
-    let mut text = format!(in alloc; "{:?}", graph.edge_numbers(node, direction))?;
-    push_edges(&mut text, graph, node, direction)?;
-    Ok(text)
-}
-
-/// Compares what is told of a node and a direction with what is expected.
-fn compare(row: EdgesRow, told: &str) -> Result<(), Fail> {
-    let (node, direction, expected) = row;
-    if told != expected {
-        return Err(Fail::new(format_args!("{node}, {direction:?}: {told} in place of {expected}")));
+    let mut text = Text::new(alloc);
+    write!(text, "{:?}", graph.edge_numbers(node, direction));
+    for edge in graph.edges_directed(node, direction) {
+        let (source, target) = (edge.source.index(), edge.target.index());
+        let shown = (edge.id.index(), source, target, *edge.weight);
+        write!(text, " {shown:?}");
     }
-    Ok(())
+    text.whole()
 }
 
-/// Compares the edges of one node and direction with what is expected.
-fn hold_row(alloc: Global, graph: &Graph<char, u8>, row: EdgesRow) -> Result<(), Fail> {
-    let (node, direction, _) = row;
-    let told = told(alloc, graph, NodeId::new(node), direction)?;
-    compare(row, told.as_str())
-}
-
-/// Compares the edges of each node and direction with what is expected.
-fn hold(alloc: Global, graph: &Graph<char, u8>, rows: &[EdgesRow]) -> Result<(), Fail> {
-    for &row in rows {
-        hold_row(alloc, graph, row)?;
+/// The graph of this name: that of the joined nodes, or the one with features between crates.
+fn graph_named(alloc: Global, name: &str) -> Result<Graph<char, u8>, Fail> {
+    match name {
+        "joined" => graph_of(alloc, &['a', 'b', 'c'], JOINED),
+        _ => graph_of(alloc, &['a', 'b', 'b', 'w', 'j'], BETWEEN_FEATURES),
     }
-    Ok(())
+}
+
+/// What is told of a node of a graph and a direction, `out` or `in`.
+struct Edges;
+
+impl Question for Edges {
+    fn told(alloc: Global, line: &str) -> Result<String, Fail> {
+        let (name, place) = line.split_once(' ').unwrap_or((line, ""));
+        let (node, direction) = place.split_once(' ').unwrap_or((place, ""));
+        let direction = match direction {
+            "out" => Direction::Outgoing,
+            _ => Direction::Incoming,
+        };
+        let node = NodeId::new(node.parse()?);
+        let graph = graph_named(alloc, name)?;
+        Ok(told_of_edges(alloc, &graph, node, direction)?)
+    }
 }
 
 /// What comes of two nodes and two edges in a graph of these limits.
@@ -182,11 +165,9 @@ fn told_of_two(alloc: Global, graph: &mut Graph<char, char>) -> Result<String, F
 #[test]
 fn limits_refuse_one_more(rt: HostRuntime) -> Result<(), Fail> {
     let mut graph = Graph::with_limits(rt.alloc(), 1, 1);
-    assert_eq!(rt;
-        told_of_two(rt.alloc(), &mut graph)?.as_str(),
-        "(0, Err(Full('y')), 0, Err(Full('f')), 1, 1)"
-    );
-    Ok(())
+    let told = told_of_two(rt.alloc(), &mut graph)?;
+    let expected = "(0, Err(Full('y')), 0, Err(Full('f')), 1, 1)";
+    compare("room for one", told.as_str(), expected)
 }
 
 /// Refusals, and their texts.
@@ -210,11 +191,6 @@ impl Question for Printed {
 }
 
 #[test]
-fn refusals_are_printed(rt: HostRuntime) -> Result<(), Fail> {
-    table::hold::<Printed>(rt.alloc(), TEXTS)
-}
-
-#[test]
 fn no_limit_takes_nothing(rt: HostRuntime) {
     let mut graph = Graph::<char, char>::with_limits(rt.alloc(), 0, 0);
     let refused = graph.add_node('x');
@@ -225,21 +201,10 @@ fn no_limit_takes_nothing(rt: HostRuntime) {
 }
 
 #[test]
-fn edges_of_a_node_come_by_number(rt: HostRuntime) -> Result<(), Fail> {
-    let graph = graph_of(rt.alloc(), &['a', 'b', 'c'], JOINED)?;
-    hold(rt.alloc(), &graph, EDGES)
-}
-
-#[test]
-fn an_edge_shows_its_ends_and_weight(rt: HostRuntime) -> Result<(), Fail> {
-    let graph = graph_of(rt.alloc(), &['a', 'b', 'c'], JOINED)?;
-    hold(rt.alloc(), &graph, ENTERING)
-}
-
-#[test]
-fn edge_numbers_of_features_between_crates(rt: HostRuntime) -> Result<(), Fail> {
-    let graph = graph_of(rt.alloc(), &['a', 'b', 'b', 'w', 'j'], BETWEEN_FEATURES)?;
-    hold(rt.alloc(), &graph, EDGES_BETWEEN_FEATURES)
+fn edges_of_a_node_come_by_number_and_refusals_are_printed(rt: HostRuntime) -> Result<(), Fail> {
+    hold::<Edges>(rt.alloc(), EDGES)?;
+    hold::<Edges>(rt.alloc(), EDGES_BETWEEN_FEATURES)?;
+    hold::<Printed>(rt.alloc(), TEXTS)
 }
 
 /// Whether a node and an edge of it are added under the next numbers, or the one that isn't is given back and changes nothing.
@@ -282,13 +247,11 @@ fn lists_and_ends(alloc: Global, graph: &Graph<char, u8>) -> Result<String, Allo
 
 #[test]
 fn lists_and_ends_are_read(rt: HostRuntime) -> Result<(), Fail> {
-    let mut graph = graph_of(rt.alloc(), &['a', 'b', 'c'], JOINED)?;
+    let mut graph = graph_named(rt.alloc(), "joined")?;
     graph.reserve(9, 9)?;
-    assert_eq!(rt;
-        lists_and_ends(rt.alloc(), &graph)?.as_str(),
-        "(['a', 'b', 'c'], 5, Some((NodeId(2), NodeId(1))), None)"
-    );
-    Ok(())
+    let told = lists_and_ends(rt.alloc(), &graph)?;
+    let expected = "(['a', 'b', 'c'], 5, Some((NodeId(2), NodeId(1))), None)";
+    compare("the joined nodes", told.as_str(), expected)
 }
 
 /// Adds two nodes, and reads the second by its number.

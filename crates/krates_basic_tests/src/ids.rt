@@ -6,7 +6,7 @@ ghost use Rattle.krates_ids.specs.Identity.{id_cmp};
 
 use krates_cm::PackageId;
 use krates_ids::{IdError, Kid};
-use krates_samples::table::{Question, Row, hold};
+use krates_samples::table::{Question, Row, compare, hold};
 use std::alloc::{AllocError, Global};
 use std::collections::BTreeMap;
 use std::hash::{DefaultHasher, Hash, Hasher};
@@ -260,11 +260,7 @@ fn reads_each_form_and_refuses_other_texts(rt: HostRuntime) -> Result<(), Fail> 
     hold::<Read>(rt.alloc(), STABLE)?;
     hold::<Read>(rt.alloc(), GIT)?;
     hold::<Read>(rt.alloc(), OPAQUE)?;
-    hold::<Read>(rt.alloc(), REFUSED)
-}
-
-#[test]
-fn reads_ids_as_cargo_wrote_them(rt: HostRuntime) -> Result<(), Fail> {
+    hold::<Read>(rt.alloc(), REFUSED)?;
     hold::<Read>(rt.alloc(), GIT_OF_A_DOCUMENT)?;
     hold::<Read>(rt.alloc(), OF_PACKAGES_THAT_EXIST)
 }
@@ -272,8 +268,7 @@ fn reads_ids_as_cargo_wrote_them(rt: HostRuntime) -> Result<(), Fail> {
 #[test]
 fn prints_that_memory_is_out(rt: HostRuntime) -> Result<(), Fail> {
     let error = IdError::Memory(package_id(rt.alloc(), "x")?);
-    assert_eq!(rt; error.to_string(rt.alloc())?.as_str(), "out of memory");
-    Ok(())
+    compare("x", error.to_string(rt.alloc())?.as_str(), "out of memory")
 }
 
 fn hash_of(kid: &Kid) -> u64 {
@@ -312,12 +307,6 @@ impl Question for Compared {
     }
 }
 
-#[test]
-fn compares_by_parts_and_orders_versions_as_text(rt: HostRuntime) -> Result<(), Fail> {
-    hold::<Compared>(rt.alloc(), OF_EQUAL_PARTS)?;
-    hold::<Compared>(rt.alloc(), ORDERED)
-}
-
 fn number_of(numbers: &BTreeMap<Kid, u32>, kid: &Kid) -> Option<u32>
     ensures { result ≡ get id_cmp numbers.now kid.now }
 {
@@ -337,29 +326,25 @@ impl Question for Key {
     }
 }
 
-#[test]
-fn is_a_key(rt: HostRuntime) -> Result<(), Fail> {
-    hold::<Key>(rt.alloc(), KEYS)
-}
-
 /// An id whose query is decoded, and what it, a copy of it and the empty id print and answer.
 const COPIED: &[Row] = &[(
     "git+https://x.org/y?branch=c%2fd#n@1.0.0",
     "git+https://x.org/y?branch=c/d#n@1.0.0 | git+https://x.org/y?branch=c/d#n@1.0.0 | git+https://x.org/y?branch=c/d#n@1.0.0 | 1.0.0 |  |  | ",
 )];
 
-/// Writes what an id prints, its text, and the text and the version of a copy of it.
-fn push_copied(text: &mut String, kid: &Kid) -> Result<(), AllocError> {
+/// What an id prints, its text, and the text and the version of a copy of it; the text, the name and the source of the empty id.
+fn with_copy(alloc: Global, kid: &Kid) -> Result<String, AllocError> {
     let copy = kid.clone()?;
-    let (copied, version) = (copy.repr(), copy.version());
-    write!(text, "{kid} | {} | {copied} | {version}", kid.repr())
-}
-
-/// Writes the text, the name and the source of the empty id.
-fn push_empty(text: &mut String, alloc: Global) -> Result<(), AllocError> {
     let empty = Kid::empty(alloc);
-    let (repr, name, source) = (empty.repr(), empty.name(), empty.source());
-    write!(text, " | {repr} | {name} | {source}")
+    format!(in alloc;
+        "{kid} | {} | {} | {} | {} | {} | {}",
+        kid.repr(),
+        copy.repr(),
+        copy.version(),
+        empty.repr(),
+        empty.name(),
+        empty.source()
+    )
 }
 
 /// What an id, a copy of it and the empty id print and answer.
@@ -367,14 +352,14 @@ struct Copied;
 
 impl Question for Copied {
     fn told(alloc: Global, text: &str) -> Result<String, Fail> {
-        let mut told = String::new(alloc);
-        push_copied(&mut told, &kid(alloc, text)?)?;
-        push_empty(&mut told, alloc)?;
-        Ok(told)
+        Ok(with_copy(alloc, &kid(alloc, text)?)?)
     }
 }
 
 #[test]
-fn prints_and_copies(rt: HostRuntime) -> Result<(), Fail> {
+fn compares_by_parts_is_a_key_prints_and_copies(rt: HostRuntime) -> Result<(), Fail> {
+    hold::<Compared>(rt.alloc(), OF_EQUAL_PARTS)?;
+    hold::<Compared>(rt.alloc(), ORDERED)?;
+    hold::<Key>(rt.alloc(), KEYS)?;
     hold::<Copied>(rt.alloc(), COPIED)
 }

@@ -142,27 +142,22 @@ impl Question for Nested {
     }
 }
 
+/// What `serde_json` reads a text as, which refuses what isn't read in place.
+struct AsValue;
+
+impl Question for AsValue {
+    fn told(alloc: Global, text: &str) -> Result<String, Fail> {
+        let told = match Value::from_str(alloc, text) {
+            Ok(value) => value.to_string(alloc),
+            Err(_) => String::from_str(alloc, "not read"),
+        };
+        Ok(told?)
+    }
+}
+
 #[test]
-fn texts_in_place(rt: HostRuntime) -> Result<(), Fail> {
+fn texts_in_place_and_as_values(rt: HostRuntime) -> Result<(), Fail> {
     hold::<InPlace>(rt.alloc(), TEXTS)?;
+    hold::<AsValue>(rt.alloc(), TEXTS)?;
     hold::<Nested>(rt.alloc(), DEPTHS)
-}
-
-/// Fails where `serde_json` reads a text that isn't read in place, or refuses one that is.
-fn refused_alike_of(alloc: Global, row: Row) -> Result<(), Fail> {
-    let (text, value) = row;
-    let is_read = Value::from_str(alloc, text).is_ok();
-    if is_read != (value != "not read") {
-        return Err(Fail::new(format_args!("{text}: read by one alone")));
-    }
-    Ok(())
-}
-
-/// `serde_json` refuses what isn't read.
-#[test]
-fn refused_alike(rt: HostRuntime) -> Result<(), Fail> {
-    for &row in TEXTS {
-        refused_alike_of(rt.alloc(), row)?;
-    }
-    Ok(())
 }

@@ -1,6 +1,7 @@
 //! Paths: their components, their parents, and how they are joined and compared.
 
 use krates_samples::table::{Question, Row, hold};
+use krates_samples::text::Text;
 use krates_text::path::{components, ends_with, join, parent, same};
 use std::alloc::Global;
 use std::test::Fail;
@@ -16,18 +17,12 @@ struct Components;
 
 impl Question for Components {
     fn told(alloc: Global, path: &str) -> Result<String, Fail> {
-        let mut told = String::new(alloc);
+        let mut told = Text::new(alloc);
         for component in components(path) {
-            told.push('|')?;
-            told.push_str(component.as_os_str())?;
+            write!(told, "|{}", component.as_os_str());
         }
-        Ok(told)
+        Ok(told.whole()?)
     }
-}
-
-#[test]
-fn gives_the_components(rt: HostRuntime) -> Result<(), Fail> {
-    hold::<Components>(rt.alloc(), COMPONENTS)
 }
 
 /// A path and its parent.
@@ -53,11 +48,6 @@ impl Question for Parent {
     }
 }
 
-#[test]
-fn gives_the_parent(rt: HostRuntime) -> Result<(), Fail> {
-    hold::<Parent>(rt.alloc(), PARENTS)
-}
-
 /// A base, a bar, a path that is meant there, and the two joined.
 const JOINED: &[Row] = &[
     ("/w/a|LICENSE", "/w/a/LICENSE"),
@@ -75,11 +65,6 @@ impl Question for Joined {
         let (base, path) = line.split_once('|').unwrap_or((line, ""));
         Ok(join(alloc, base, path)?)
     }
-}
-
-#[test]
-fn joins(rt: HostRuntime) -> Result<(), Fail> {
-    hold::<Joined>(rt.alloc(), JOINED)
 }
 
 /// Two paths with a bar between them, whether the first ends with the components of the second, and whether the two are the same.
@@ -104,6 +89,9 @@ impl Question for Compared {
 }
 
 #[test]
-fn compares_by_components(rt: HostRuntime) -> Result<(), Fail> {
+fn components_parents_joined_and_compared(rt: HostRuntime) -> Result<(), Fail> {
+    hold::<Components>(rt.alloc(), COMPONENTS)?;
+    hold::<Parent>(rt.alloc(), PARENTS)?;
+    hold::<Joined>(rt.alloc(), JOINED)?;
     hold::<Compared>(rt.alloc(), COMPARED)
 }

@@ -8,6 +8,7 @@ use krates_cm::{
 };
 use krates_cm_json::FromValue;
 use krates_samples::table::{Question, Row, compare, hold};
+use krates_samples::text::Text;
 use std::alloc::{AllocError, Global};
 use std::fmt::Debug;
 use std::marker::PhantomData;
@@ -136,59 +137,33 @@ fn names<'a>(alloc: Global, packages: &[&'a Package]) -> Result<Vec<&'a str>, Al
     Ok(names)
 }
 
-/// Writes the packages of the workspace.
-fn push_members(text: &mut String, alloc: Global, metadata: &Metadata) -> Result<(), AllocError> {
-    let members = metadata.workspace_packages(alloc)?;
-    let members = names(alloc, members.as_slice())?;
-    write!(text, ", members {members:?}")
-}
-
-/// Writes the default packages of the workspace.
-fn push_defaults(text: &mut String, alloc: Global, metadata: &Metadata) -> Result<(), AllocError> {
+/// The names of the default packages of the workspace, where it names them.
+fn default_names<'a>(
+    alloc: Global,
+    metadata: &'a Metadata,
+) -> Result<Option<Vec<&'a str>>, AllocError> {
     match metadata.workspace_default_packages(alloc)? {
-        Some(packages) => {
-            let defaults = names(alloc, packages.as_slice())?;
-            write!(text, ", default Some({defaults:?})")
-        }
-        None => text.push_str(", default None"),
+        Some(packages) => Ok(Some(names(alloc, packages.as_slice())?)),
+        None => Ok(None),
     }
-}
-
-/// Writes the package `B`.
-fn push_b(text: &mut String, alloc: Global, metadata: &Metadata) -> Result<(), AllocError> {
-    let id = package_id(alloc, "B")?;
-    let package = metadata.package(&id).map(|p| p.name.as_str());
-    write!(text, ", B is {package:?}")
 }
 
 /// What a document answers.
 fn document_answers(alloc: Global, metadata: &Metadata) -> Result<String, AllocError> {
     let root = metadata.root_package().map(|p| p.name.as_str());
-    let mut text = format!(in alloc; "root {root:?}")?;
-    push_members(&mut text, alloc, metadata)?;
-    push_defaults(&mut text, alloc, metadata)?;
-    push_b(&mut text, alloc, metadata)?;
-    Ok(text)
+    let members = metadata.workspace_packages(alloc)?;
+    let members = names(alloc, members.as_slice())?;
+    let defaults = default_names(alloc, metadata)?;
+    let id = package_id(alloc, "B")?;
+    let b = metadata.package(&id).map(|p| p.name.as_str());
+    format!(in alloc; "root {root:?}, members {members:?}, default {defaults:?}, B is {b:?}")
 }
 
-/// Writes where the licence file of a package is.
-fn push_license(text: &mut String, alloc: Global, package: &Package) -> Result<(), AllocError> {
-    let license = package.license_file(alloc)?;
-    write!(text, "{license:?}, ")
-}
-
-/// Writes where the readme of a package is.
-fn push_readme(text: &mut String, alloc: Global, package: &Package) -> Result<(), AllocError> {
-    let readme = package.readme(alloc)?;
-    write!(text, "{readme:?}")
-}
-
-/// Where the files of a package are.
+/// Where the licence file and the readme of a package are.
 fn files(alloc: Global, package: &Package) -> Result<String, AllocError> {
-    let mut text = String::new(alloc);
-    push_license(&mut text, alloc, package)?;
-    push_readme(&mut text, alloc, package)?;
-    Ok(text)
+    let license = package.license_file(alloc)?;
+    let readme = package.readme(alloc)?;
+    format!(in alloc; "{license:?}, {readme:?}")
 }
 
 /// Of what kind the source of a package is, and whether the package is local.
@@ -209,13 +184,13 @@ fn tests(alloc: Global, target: &Target) -> Result<String, AllocError> {
         (target.is_custom_build(), "custom-build "),
         (target.is_proc_macro(), "proc-macro "),
     ];
-    let mut told = String::new(alloc);
+    let mut told = Text::new(alloc);
     for &(is, name) in all.as_slice() {
         if is {
-            told.push_str(name)?;
+            told.push_str(name);
         }
     }
-    Ok(told)
+    told.whole()
 }
 
 /// A value that answers small questions.
@@ -268,12 +243,8 @@ impl Question for Origin {
 }
 
 #[test]
-fn sources_have_kinds(rt: HostRuntime) -> Result<(), Fail> {
-    hold::<Origin>(rt.alloc(), SOURCES)
-}
-
-#[test]
-fn documents_packages_and_targets_answer(rt: HostRuntime) -> Result<(), Fail> {
+fn what_documents_packages_targets_and_sources_answer(rt: HostRuntime) -> Result<(), Fail> {
+    hold::<Origin>(rt.alloc(), SOURCES)?;
     hold_within::<AnswersOf<Metadata>>(rt.alloc(), DOCUMENT, ANSWERS)?;
     hold_within::<AnswersOf<Package>>(rt.alloc(), PACKAGE, FILES)?;
     hold_within::<AnswersOf<Target>>(rt.alloc(), TARGET, KINDS)
@@ -303,30 +274,30 @@ fn same_fields<T: Debug>(alloc: Global, json: &str, copy: &T, read: &T) -> Resul
     compare(json, copy.as_str(), read.as_str())
 }
 
-/// A copy of what is read of a text. Fails where it shows other fields.
-fn copy<T: FromValue + Clone + Debug>(alloc: Global, json: &str) -> Result<T, Fail> {
+/// Fails where a copy of what is read of a text shows other fields.
+fn copied<T: FromValue + Clone + Debug>(alloc: Global, json: &str) -> Result<(), Fail> {
     let read: T = read(alloc, json)?;
     let copy = read.clone()?;
-    same_fields(alloc, json, &copy, &read)?;
-    Ok(copy)
+    same_fields(alloc, json, &copy, &read)
+}
+
+/// A copy of the default members of a document.
+fn copied_members(alloc: Global, json: &str) -> Result<WorkspaceDefaultMembers, Fail> {
+    let metadata: Metadata = read(alloc, json)?;
+    Ok(metadata.workspace_default_members.clone()?)
 }
 
 #[test]
 fn copies(rt: HostRuntime) -> Result<(), Fail> {
     let alloc = rt.alloc();
-    drop(copy::<PackageId>(alloc, COPIED_ID)?);
-    drop(copy::<Source>(alloc, COPIED_ID)?);
-    drop(copy::<DepKindInfo>(alloc, COPIED_INFO)?);
-    drop(copy::<Dependency>(alloc, COPIED_DEPENDENCY)?);
-    drop(copy::<Target>(alloc, COPIED_TARGET)?);
-    drop(copy::<Package>(alloc, COPIED_PACKAGE)?);
-    Ok(())
-}
-
-#[test]
-fn copies_of_documents(rt: HostRuntime) -> Result<(), Fail> {
-    let copied = copy::<Metadata>(rt.alloc(), COPIED_DOCUMENT)?;
-    let members: WorkspaceDefaultMembers = copied.workspace_default_members.clone()?;
+    copied::<PackageId>(alloc, COPIED_ID)?;
+    copied::<Source>(alloc, COPIED_ID)?;
+    copied::<DepKindInfo>(alloc, COPIED_INFO)?;
+    copied::<Dependency>(alloc, COPIED_DEPENDENCY)?;
+    copied::<Target>(alloc, COPIED_TARGET)?;
+    copied::<Package>(alloc, COPIED_PACKAGE)?;
+    copied::<Metadata>(alloc, COPIED_DOCUMENT)?;
+    let members = copied_members(alloc, COPIED_DOCUMENT)?;
     assert!(rt; matches!(members.as_slice(), Some([_])));
     Ok(())
 }
@@ -338,50 +309,59 @@ fn source(alloc: Global, text: &str) -> Result<Source, AllocError> {
     })
 }
 
-/// What an id, a source, the kinds of dependencies and two editions print.
-fn printed(alloc: Global, id: &PackageId, source: &Source) -> Result<String, AllocError> {
+/// What an id, a source, the kinds of dependencies and three editions print.
+fn printed(alloc: Global) -> Result<String, AllocError> {
+    let id = package_id(alloc, "i")?;
+    let source = source(alloc, "s")?;
     let [normal, dev, build] = [
         DependencyKind::default(),
         DependencyKind::Development,
         DependencyKind::Build,
     ];
     let [first, latest] = [Edition::default(), Edition::E2024];
-    format!(in alloc; "{id} {source} {normal} {dev} {build} {first} {latest}")
+    let second = Edition::E2018.as_str();
+    format!(in alloc; "{id} {source} {normal} {dev} {build} {first} {latest} {second}")
 }
 
-#[test]
-fn printed_texts(rt: HostRuntime) -> Result<(), Fail> {
-    let id = package_id(rt.alloc(), "i")?;
-    let source = source(rt.alloc(), "s")?;
-    assert_eq!(rt;
-        printed(rt.alloc(), &id, &source)?.as_str(),
-        "i s normal dev build 2015 2024"
+/// Whether two kinds of targets, two editions and two ids are ordered as they are named here.
+fn ordered(alloc: Global) -> Result<String, AllocError> {
+    let upper = package_id(alloc, "B")?;
+    let lower = package_id(alloc, "a")?;
+    let are_ordered = (
+        TargetKind::CustomBuild < TargetKind::CDyLib,
+        Edition::E2015 < Edition::E2018,
+        upper < lower,
     );
-    assert_eq!(rt; Edition::E2018.as_str(), "2018");
-    Ok(())
+    format!(in alloc; "{are_ordered:?}")
 }
 
-#[test]
-fn comparisons(rt: HostRuntime) -> Result<(), Fail> {
-    assert!(rt; TargetKind::CustomBuild < TargetKind::CDyLib);
-    assert!(rt; Edition::E2015 < Edition::E2018);
-    let upper = package_id(rt.alloc(), "B")?;
-    let lower = package_id(rt.alloc(), "a")?;
-    assert!(rt; upper < lower);
-    Ok(())
-}
-
-#[test]
-fn sources_that_are_crates_io(rt: HostRuntime) -> Result<(), Fail> {
-    let crates_io = source(
-        rt.alloc(),
+/// Sources, and whether each is crates.io.
+const CRATES_IO: &[Row] = &[
+    (
         "registry+https://github.com/rust-lang/crates.io-index",
-    )?;
-    assert!(rt; crates_io.is_crates_io());
-    let other = source(
-        rt.alloc(),
+        "true",
+    ),
+    (
         "registry+https://github.com/rust-lang/crates.io-index/",
-    )?;
-    assert!(rt; !other.is_crates_io());
-    Ok(())
+        "false",
+    ),
+];
+
+/// Whether the source of a text is crates.io.
+struct IsCratesIo;
+
+impl Question for IsCratesIo {
+    fn told(alloc: Global, text: &str) -> Result<String, Fail> {
+        let source = source(alloc, text)?;
+        Ok(format!(in alloc; "{}", source.is_crates_io())?)
+    }
+}
+
+#[test]
+fn printed_compared_and_known_sources(rt: HostRuntime) -> Result<(), Fail> {
+    let alloc = rt.alloc();
+    let expected = "i s normal dev build 2015 2024 2018";
+    compare("printed", printed(alloc)?.as_str(), expected)?;
+    compare("ordered", ordered(alloc)?.as_str(), "(true, true, true)")?;
+    hold::<IsCratesIo>(alloc, CRATES_IO)
 }

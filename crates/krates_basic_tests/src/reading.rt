@@ -290,33 +290,21 @@ impl<T: FromValue + Debug> Question for Read<T> {
 }
 
 #[test]
-fn texts(rt: HostRuntime) -> Result<(), Fail> {
+fn texts_graphs_and_dependencies(rt: HostRuntime) -> Result<(), Fail> {
     hold::<Read<PackageId>>(rt.alloc(), IDS)?;
-    hold::<Read<Source>>(rt.alloc(), SOURCES)
-}
-
-#[test]
-fn resolved_graphs(rt: HostRuntime) -> Result<(), Fail> {
+    hold::<Read<Source>>(rt.alloc(), SOURCES)?;
     hold::<Read<DepKindInfo>>(rt.alloc(), KINDS)?;
     hold::<Read<NodeDep>>(rt.alloc(), NODE_DEPENDENCIES)?;
     hold::<Read<Node>>(rt.alloc(), NODES)?;
-    hold::<Read<Resolve>>(rt.alloc(), GRAPHS)
-}
-
-#[test]
-fn dependencies_and_targets(rt: HostRuntime) -> Result<(), Fail> {
+    hold::<Read<Resolve>>(rt.alloc(), GRAPHS)?;
     hold::<Read<Dependency>>(rt.alloc(), DECLARED)?;
     hold::<Read<Target>>(rt.alloc(), TARGETS)?;
     hold::<Read<Target>>(rt.alloc(), TARGETS_REFUSED)
 }
 
 #[test]
-fn packages(rt: HostRuntime) -> Result<(), Fail> {
+fn packages_and_whole_documents(rt: HostRuntime) -> Result<(), Fail> {
     hold::<Read<Package>>(rt.alloc(), EVERY_KEY)?;
-    hold_within::<Read<Package>>(rt.alloc(), PACKAGE, PACKAGES_REFUSED)
-}
-
-#[test]
-fn whole_documents(rt: HostRuntime) -> Result<(), Fail> {
+    hold_within::<Read<Package>>(rt.alloc(), PACKAGE, PACKAGES_REFUSED)?;
     hold_within::<Read<Metadata>>(rt.alloc(), DOCUMENT, DOCUMENTS)
 }

@@ -107,13 +107,9 @@ impl Question for Described {
 }
 
 #[test]
-fn reads_what_rustc_prints(rt: HostRuntime) -> Result<(), Fail> {
+fn reads_what_rustc_prints_and_other_lines(rt: HostRuntime) -> Result<(), Fail> {
     hold::<Described>(rt.alloc(), IN_THE_TABLE)?;
-    hold::<Described>(rt.alloc(), BESIDE_THE_TABLE)
-}
-
-#[test]
-fn reads_other_lines(rt: HostRuntime) -> Result<(), Fail> {
+    hold::<Described>(rt.alloc(), BESIDE_THE_TABLE)?;
     hold::<Described>(rt.alloc(), OTHER_LINES)
 }
 

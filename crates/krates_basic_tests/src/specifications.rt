@@ -214,13 +214,6 @@ impl Question for Copied {
     }
 }
 
-#[test]
-fn texts_are_specifications_or_refused(rt: HostRuntime) -> Result<(), Fail> {
-    hold::<Read>(rt.alloc(), READ)?;
-    hold::<Copied>(rt.alloc(), READ)?;
-    hold::<Read>(rt.alloc(), REFUSED)
-}
-
 /// How the specification that a text is prints.
 struct Printed;
 
@@ -241,37 +234,31 @@ impl Question for PrintedAndRead {
     }
 }
 
-#[test]
-fn specifications_print_as_texts_that_read_alike(rt: HostRuntime) -> Result<(), Fail> {
-    hold::<Printed>(rt.alloc(), PRINTED)?;
-    hold::<PrintedAndRead>(rt.alloc(), READ)
-}
-
 /// Whether the specification that a text is matches a package.
 fn is_match(alloc: Global, spec: &str, package: &Package) -> Result<bool, Fail> {
     let spec = PkgSpec::from_str(alloc, spec)?;
     Ok(spec.matches(package))
 }
 
-/// Whether a specification matches the package `cargo` of a version, with a source as JSON.
-fn is_match_of(alloc: Global, line: &str) -> Result<bool, Fail> {
-    let (spec, line) = line.split_once(' ').unwrap_or((line, ""));
-    let (version, source) = line.split_once(' ').unwrap_or((line, ""));
-    let package = package(alloc, version, source, "{}")?;
-    is_match(alloc, spec, &package)
-}
-
-/// Whether the specification of a line matches its package.
+/// Whether the specification of a line matches the package `cargo` of its version, with its source as JSON.
 struct Matches;
 
 impl Question for Matches {
     fn told(alloc: Global, line: &str) -> Result<String, Fail> {
-        let is_match = is_match_of(alloc, line)?;
+        let (spec, line) = line.split_once(' ').unwrap_or((line, ""));
+        let (version, source) = line.split_once(' ').unwrap_or((line, ""));
+        let package = package(alloc, version, source, "{}")?;
+        let is_match = is_match(alloc, spec, &package)?;
         Ok(format!(in alloc; "{is_match}")?)
     }
 }
 
 #[test]
-fn packages_that_match(rt: HostRuntime) -> Result<(), Fail> {
+fn specifications_are_read_printed_and_matched(rt: HostRuntime) -> Result<(), Fail> {
+    hold::<Read>(rt.alloc(), READ)?;
+    hold::<Copied>(rt.alloc(), READ)?;
+    hold::<Read>(rt.alloc(), REFUSED)?;
+    hold::<Printed>(rt.alloc(), PRINTED)?;
+    hold::<PrintedAndRead>(rt.alloc(), READ)?;
     hold::<Matches>(rt.alloc(), MATCHES)
 }

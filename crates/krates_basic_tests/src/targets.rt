@@ -91,16 +91,6 @@ impl Question for Copied {
     }
 }
 
-#[test]
-fn gives_each_row(rt: HostRuntime) -> Result<(), Fail> {
-    hold::<Described>(rt.alloc(), DESCRIBED)
-}
-
-#[test]
-fn copies_each_row(rt: HostRuntime) -> Result<(), Fail> {
-    hold::<Copied>(rt.alloc(), DESCRIBED)
-}
-
 /// What a copy of a target prints.
 fn printed_copy(alloc: Global, target: &Target) -> Result<String, AllocError> {
     let copy = target.clone()?;
@@ -117,11 +107,6 @@ impl Question for Printed {
     }
 }
 
-#[test]
-fn prints_the_target(rt: HostRuntime) -> Result<(), Fail> {
-    hold::<Printed>(rt.alloc(), PRINTED)
-}
-
 /// Whether the target of a text is described.
 struct Known;
 
@@ -133,6 +118,9 @@ impl Question for Known {
 }
 
 #[test]
-fn tells_what_is_known(rt: HostRuntime) -> Result<(), Fail> {
+fn each_row_of_the_table_and_what_targets_print(rt: HostRuntime) -> Result<(), Fail> {
+    hold::<Described>(rt.alloc(), DESCRIBED)?;
+    hold::<Copied>(rt.alloc(), DESCRIBED)?;
+    hold::<Printed>(rt.alloc(), PRINTED)?;
     hold::<Known>(rt.alloc(), KNOWN)
 }

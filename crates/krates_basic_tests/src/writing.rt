@@ -3,7 +3,7 @@
 use crate::packages::{read, told_within};
 use krates_cm::{Dependency, Metadata, Node, Package, PackageId, Resolve, Source, Target};
 use krates_cm_json::{FromValue, ToValue};
-use krates_samples::table::{Question, Row, hold};
+use krates_samples::table::{Question, Row, compare, hold};
 use std::alloc::Global;
 use std::fmt::Debug;
 use std::test::Fail;
@@ -109,9 +109,8 @@ impl<T: FromValue + ToValue + Debug> Question for Written<T> {
     fn told(alloc: Global, json: &str) -> Result<String, Fail> {
         let value: T = read(alloc, json)?;
         let told = value.to_value(alloc)?.to_string(alloc)?;
-        if fields::<T>(alloc, told.as_str())? != fields::<T>(alloc, json)? {
-            return Err(Fail::new(format_args!("{json}: {told} is read as another value")));
-        }
+        let again = fields::<T>(alloc, told.as_str())?;
+        compare(json, again.as_str(), fields::<T>(alloc, json)?.as_str())?;
         Ok(told)
     }
 }
@@ -135,21 +134,13 @@ impl Question for RustVersion {
 }
 
 #[test]
-fn ids_dependencies_and_targets_are_written(rt: HostRuntime) -> Result<(), Fail> {
+fn each_type_is_written_and_read_as_it_was(rt: HostRuntime) -> Result<(), Fail> {
     hold::<Written<PackageId>>(rt.alloc(), IDS)?;
     hold::<Written<Source>>(rt.alloc(), IDS)?;
     hold::<Written<Dependency>>(rt.alloc(), DECLARED)?;
-    hold::<Written<Target>>(rt.alloc(), TARGETS)
-}
-
-#[test]
-fn packages_are_written(rt: HostRuntime) -> Result<(), Fail> {
+    hold::<Written<Target>>(rt.alloc(), TARGETS)?;
     hold::<Written<Package>>(rt.alloc(), PACKAGES)?;
-    hold::<RustVersion>(rt.alloc(), RUST_VERSIONS)
-}
-
-#[test]
-fn graphs_and_documents_are_written(rt: HostRuntime) -> Result<(), Fail> {
+    hold::<RustVersion>(rt.alloc(), RUST_VERSIONS)?;
     hold::<Written<Node>>(rt.alloc(), NODES)?;
     hold::<Written<Resolve>>(rt.alloc(), GRAPHS)?;
     hold::<Written<Metadata>>(rt.alloc(), DOCUMENTS)

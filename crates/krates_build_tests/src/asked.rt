@@ -6,6 +6,7 @@ use krates_ids::Kid;
 use krates_resolve::{Document, Setting, admit};
 use krates_samples::documents::{kid_of, kind_named, metadata};
 use krates_samples::table::{Question, Row, hold};
+use krates_samples::text::Text;
 use std::alloc::{AllocError, Global};
 use std::test::Fail;
 
@@ -65,20 +66,20 @@ fn referents(
     let (krate, name) = words.split_once(' ').unwrap_or((words, ""));
     let krate = kid_of(alloc, krate)?;
     let referents = asked.referents(alloc, setting, &krate, name)?;
-    let mut told = String::new(alloc);
+    let mut told = Text::new(alloc);
     for referent in &referents {
-        told.push_str(referent.id.name())?;
+        told.push_str(referent.id.name());
     }
-    Ok(told)
+    Ok(told.whole()?)
 }
 
 /// The names of crates.
 fn names_of(alloc: Global, krates: &[&Kid]) -> Result<String, AllocError> {
-    let mut told = String::new(alloc);
+    let mut told = Text::new(alloc);
     for krate in krates {
-        told.push_str(krate.name())?;
+        told.push_str(krate.name());
     }
-    Ok(told)
+    told.whole()
 }
 
 /// The names of the roots.
@@ -173,11 +174,6 @@ const REFERENTS: &[Row] = &[
     ("referents m z / names all", "z"),
 ];
 
-#[test]
-fn what_a_name_means(rt: HostRuntime) -> Result<(), Fail> {
-    hold::<Asked>(rt.alloc(), REFERENTS)
-}
-
 const ROOTS_OF_MEMBERS: &[Row] = &[
     // members in the order of the document
     ("roots", "nm"),
@@ -192,11 +188,6 @@ const ROOTS_OF_MEMBERS: &[Row] = &[
     ("roots / without n", "nm"),
 ];
 
-#[test]
-fn which_crates_are_roots(rt: HostRuntime) -> Result<(), Fail> {
-    hold::<Asked>(rt.alloc(), ROOTS_OF_MEMBERS)
-}
-
 const DECLARED_EDGES: &[Row] = &[
     ("declared m z dev", "Some(0)"),
     ("declared m z build", "Some(2)"),
@@ -208,11 +199,6 @@ const DECLARED_EDGES: &[Row] = &[
     ("declared z m build", "None"),
     ("declared q m build", "None"),
 ];
-
-#[test]
-fn as_what_a_dependency_is_declared(rt: HostRuntime) -> Result<(), Fail> {
-    hold::<Asked>(rt.alloc(), DECLARED_EDGES)
-}
 
 const OPEN_EDGES: &[Row] = &[
     ("open m z dev / ignore build workspace", "true"),
@@ -233,24 +219,19 @@ const OPEN_EDGES: &[Row] = &[
     ),
 ];
 
-#[test]
-fn which_edges_are_open(rt: HostRuntime) -> Result<(), Fail> {
-    hold::<Asked>(rt.alloc(), OPEN_EDGES)
-}
-
 /// Adds the name of a package, behind a minus sign where it is excluded.
-fn push_package(text: &mut String, setting: &Setting, pkg: &Package) -> Result<(), AllocError> {
-    text.push_str(if setting.excludes(pkg) { "-" } else { "+" })?;
+fn push_package(text: &mut Text, setting: &Setting, pkg: &Package) {
+    text.push_str(if setting.excludes(pkg) { "-" } else { "+" });
     text.push_str(pkg.name.as_str())
 }
 
 /// The names of packages, each behind a minus sign where it is excluded.
 fn signed(alloc: Global, setting: &Setting, packages: &[Package]) -> Result<String, AllocError> {
-    let mut told = String::new(alloc);
+    let mut told = Text::new(alloc);
     for pkg in packages {
-        push_package(&mut told, setting, pkg)?;
+        push_package(&mut told, setting, pkg);
     }
-    Ok(told)
+    told.whole()
 }
 
 /// Which packages of the two members' document are excluded.
@@ -318,11 +299,6 @@ const PASSING: &[Row] = &[
     ),
 ];
 
-#[test]
-fn which_target_texts_pass(rt: HostRuntime) -> Result<(), Fail> {
-    hold::<Set>(rt.alloc(), PASSING)
-}
-
 const LEFT_OUT: &[Row] = &[
     ("excluded / without n", "+m-n+z+b-c"),
     ("ignores dev member / ignore dev non-workspace", "false"),
@@ -333,6 +309,11 @@ const LEFT_OUT: &[Row] = &[
 ];
 
 #[test]
-fn what_a_setting_leaves_out(rt: HostRuntime) -> Result<(), Fail> {
+fn what_documents_and_settings_answer(rt: HostRuntime) -> Result<(), Fail> {
+    hold::<Asked>(rt.alloc(), REFERENTS)?;
+    hold::<Asked>(rt.alloc(), ROOTS_OF_MEMBERS)?;
+    hold::<Asked>(rt.alloc(), DECLARED_EDGES)?;
+    hold::<Asked>(rt.alloc(), OPEN_EDGES)?;
+    hold::<Set>(rt.alloc(), PASSING)?;
     hold::<Set>(rt.alloc(), LEFT_OUT)
 }

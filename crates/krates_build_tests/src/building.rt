@@ -9,32 +9,30 @@ use krates::cm::Metadata;
 use krates::{Builder, Error, Krates, OnFilter, Package};
 use krates_samples::documents::{kid_of, word_of};
 use krates_samples::table::{Question, Row, hold};
-use std::alloc::{AllocError, Global};
+use krates_samples::text::Text;
+use std::alloc::Global;
 use std::test::Fail;
 
 /// Adds a package behind a mark: its name, and its word or id where that is another.
-pub(crate) fn push_package(text: &mut String, mark: &str, pkg: &Package) -> Result<(), AllocError> {
-    push_marked(text, mark, pkg.name.as_str())?;
+pub(crate) fn push_package(text: &mut Text, mark: &str, pkg: &Package) {
+    push_marked(text, mark, pkg.name.as_str());
     let word = word_of(pkg.id.repr.as_str());
     if word != pkg.name.as_str() {
-        push_marked(text, "=", word)?;
+        push_marked(text, "=", word);
     }
-    Ok(())
 }
 
 /// The packages that aren't kept, each behind a minus sign.
 #[derive(Drop)]
 pub(crate) struct Reported {
-    text: String,
-    is_whole: bool,
+    text: Text,
 }
 
 impl Reported {
     /// None so far.
     pub(crate) fn new(alloc: Global) -> Reported {
         Reported {
-            text: String::new(alloc),
-            is_whole: true,
+            text: Text::new(alloc),
         }
     }
 }
@@ -43,45 +41,33 @@ impl OnFilter for Reported {
     ghost filters = { λ _ _ _. ⊤ };
 
     fn filtered(&mut self, pkg: Package) {
-        self.is_whole = push_package(&mut self.text, "-", &pkg).is_ok() && self.is_whole;
+        push_package(&mut self.text, "-", &pkg);
     }
 }
 
 /// Adds the kept crates in order, each behind a plus sign.
-pub(crate) fn push_krates(text: &mut String, krates: &Krates) -> Result<(), AllocError> {
+pub(crate) fn push_krates(text: &mut Text, krates: &Krates) {
     for krate in krates.krates() {
-        push_package(text, "+", krate)?;
+        push_package(text, "+", krate);
     }
-    Ok(())
 }
 
-/// Adds what a build kept and then what it reported, each in order.
-fn push_kept_and_reported(
-    text: &mut String,
-    krates: &Krates,
-    reported: &Reported,
-) -> Result<(), AllocError> {
-    push_krates(text, krates)?;
-    text.push_str(reported.text.as_str())?;
-    if !reported.is_whole {
-        text.push_str(" and more")?;
-    }
-    Ok(())
-}
-
-/// What a build kept and reported, or the text of the refusal.
+/// What a build kept and then what it reported, each in order, or the text of the refusal.
 pub(crate) fn told_of(
     alloc: Global,
     built: &Result<Krates, Error>,
-    reported: &Reported,
+    reported: Reported,
 ) -> Result<String, Fail> {
-    let mut text = String::new(alloc);
-    let pushed = match built {
-        Ok(krates) => push_kept_and_reported(&mut text, krates, reported),
+    let reported = reported.text.whole()?;
+    let mut text = Text::new(alloc);
+    match built {
+        Ok(krates) => {
+            push_krates(&mut text, krates);
+            text.push_str(reported.as_str());
+        }
         Err(error) => write!(text, "{error}"),
-    };
-    pushed?;
-    Ok(text)
+    }
+    Ok(text.whole()?)
 }
 
 /// What a builder without an index keeps and reports.
@@ -90,7 +76,7 @@ pub(crate) fn outcome(alloc: Global, builder: Builder, metadata: Metadata) -> Re
 {
     let mut reported = Reported::new(alloc);
     let built: Result<Krates, Error> = builder.build_with_metadata(metadata, &mut reported);
-    told_of(alloc, &built, &reported)
+    told_of(alloc, &built, reported)
 }
 
 /// What is kept and reported of a document under the setting of its line.
@@ -139,24 +125,21 @@ const BUILT: &[Row] = &[
 ];
 
 /// Adds the number of a crate and its enabled features, or that there is none.
-fn push_answers(text: &mut String, krates: &Krates, name: &str) -> Result<(), Fail> {
-    write!(text, ", {name} is ")?;
-    let kid = kid_of(*text.allocator(), name)?;
-    push_number(text, krates.nid_for_kid(&kid))?;
-    Ok(push_features(
-        text,
-        krates.get_enabled_features(&kid),
-        "",
-        " without features",
-    )?)
+fn push_answers(text: &mut Text, krates: &Krates, name: &str) -> Result<(), Fail> {
+    write!(text, ", {name} is ");
+    let kid = kid_of(text.allocator(), name)?;
+    push_number(text, krates.nid_for_kid(&kid));
+    let features = krates.get_enabled_features(&kid);
+    push_features(text, features, "", " without features");
+    Ok(())
 }
 
 /// How many crates are kept in which workspace, and the number and the enabled features of `a`, `b` and `c`.
 struct Queried;
 
 impl Told<Package> for Queried {
-    fn push(text: &mut String, krates: &Krates, _line: &str) -> Result<(), Fail> {
-        write!(text, "{} of {}", krates.len(), krates.workspace_root())?;
+    fn push(text: &mut Text, krates: &Krates, _line: &str) -> Result<(), Fail> {
+        write!(text, "{} of {}", krates.len(), krates.workspace_root());
         for name in ["a", "b", "c"] {
             push_answers(text, krates, name)?;
         }

@@ -3,7 +3,7 @@
 ghost use Rattle.std.specs.Prelude.{◌≡◌, ⊤};
 
 use crate::stand_in::command;
-use crate::table::{Question, Row, hold_beginnings};
+use crate::table::{Question, Row, compare_beginning, hold_beginnings};
 use krates::{Builder, DepKind, Error, Krates, OnFilter, Package, Scope};
 use krates_cargo::MetadataCommand;
 use std::alloc::{AllocError, Global};
@@ -98,9 +98,6 @@ fn no_build_without_a_program(rt: HostRuntime) -> Result<(), Fail> {
     let mut command = MetadataCommand::new(rt.alloc());
     command.cargo_path(String::from_str(rt.alloc(), "/no/such/program")?);
     let told = told(&rt, command, "ignore dev")?;
-    assert!(rt;
-        told.starts_with("0 reported, failed to start `cargo metadata`: "),
-        "{told}"
-    );
-    Ok(())
+    let begins = "0 reported, failed to start `cargo metadata`: ";
+    compare_beginning("no such program", told.as_str(), begins)
 }

@@ -6,6 +6,7 @@ use krates_document::Setting;
 use krates_rules::Derivation;
 use krates_samples::facts::steps_of;
 use krates_samples::table::{Row, hold};
+use krates_samples::text::Text;
 use std::alloc::Global;
 use std::test::Fail;
 
@@ -80,27 +81,27 @@ fn changed(step: &str, change: Change) -> Result<Words<'_>, Fail> {
 }
 
 /// Adds a step with this number after the change.
-fn push_changed(text: &mut String, step: &str, number: usize, change: Change) -> Result<(), Fail> {
+fn push_changed(text: &mut Text, step: &str, number: usize, change: Change) -> Result<(), Fail> {
     let words = changed(step, change)?;
     write!(
         text,
         "{} {}{}{} ",
         words.rule, words.sign, words.prefix, words.fact
-    )?;
+    );
     if let Change::Later = change {
-        write!(text, "{number} ")?;
+        write!(text, "{number} ");
     }
-    write!(text, "{} {};", words.uses, words.more)?;
+    write!(text, "{} {};", words.uses, words.more);
     Ok(())
 }
 
 /// Adds the steps with the one of this number changed.
-fn push_steps(text: &mut String, steps: &str, number: usize, change: Change) -> Result<(), Fail> {
+fn push_steps(text: &mut Text, steps: &str, number: usize, change: Change) -> Result<(), Fail> {
     for (place, step) in steps.split(';').enumerate() {
         if place == number {
             push_changed(text, step, number, change)?;
         } else {
-            write!(text, "{step};")?;
+            write!(text, "{step};");
         }
     }
     Ok(())
@@ -113,9 +114,9 @@ fn with_change(
     number: usize,
     change: Change,
 ) -> Result<Derivation, Fail> {
-    let mut text = String::new(alloc);
+    let mut text = Text::new(alloc);
     push_steps(&mut text, steps, number, change)?;
-    steps_of(alloc, &text)
+    steps_of(alloc, text.whole()?.as_str())
 }
 
 /// Whether this change of the step with this number is refused for that step.

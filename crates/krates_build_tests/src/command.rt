@@ -5,6 +5,7 @@ use crate::table::{Question, Row, compare, compare_beginning, hold, hold_beginni
 use krates_cargo::{Cmd, Features, LockOptions, MetadataCommand};
 use krates_cm::{Error, Metadata};
 use krates_samples::stand_in::DOCUMENT;
+use krates_samples::text::Text;
 use std::alloc::{AllocError, Global};
 use std::marker::PhantomData;
 use std::process::Command;
@@ -183,29 +184,17 @@ fn set(alloc: Global, command: &mut MetadataCommand, word: &str) -> Result<(), E
 }
 
 /// Sets what a word says, and adds why the setter refuses it.
-fn try_set(
-    told: &mut String,
-    alloc: Global,
-    command: &mut MetadataCommand,
-    word: &str,
-) -> Result<(), Fail> {
+fn try_set(told: &mut Text, alloc: Global, command: &mut MetadataCommand, word: &str) {
     if let Err(error) = set(alloc, command, word) {
-        write!(told, "{error}! ")?;
+        write!(told, "{error}! ");
     }
-    Ok(())
 }
 
 /// Sets what each word says, and adds why setters refuse some of them.
-fn try_set_all(
-    told: &mut String,
-    alloc: Global,
-    command: &mut MetadataCommand,
-    line: &str,
-) -> Result<(), Fail> {
+fn try_set_all(told: &mut Text, alloc: Global, command: &mut MetadataCommand, line: &str) {
     for word in line.split_whitespace() {
-        try_set(told, alloc, command, word)?;
+        try_set(told, alloc, command, word);
     }
-    Ok(())
 }
 
 /// The words of a copy of a command.
@@ -222,13 +211,13 @@ trait ToldOfCommand {
 
 /// Sets what each word says, and adds the refusals of setters and then what is told of the command.
 fn push_told<T: ToldOfCommand>(
-    told: &mut String,
+    told: &mut Text,
     alloc: Global,
     command: &mut MetadataCommand,
     line: &str,
 ) -> Result<(), Fail> {
-    try_set_all(told, alloc, command, line)?;
-    told.push_str(T::told_of_command(alloc, command)?.as_str())?;
+    try_set_all(told, alloc, command, line);
+    told.push_str(T::told_of_command(alloc, command)?.as_str());
     Ok(())
 }
 
@@ -239,10 +228,10 @@ struct OfCommand<T: ToldOfCommand> {
 
 impl<T: ToldOfCommand> Question for OfCommand<T> {
     fn told(rt: &HostRuntime, line: &str) -> Result<String, Fail> {
-        let mut told = String::new(rt.alloc());
+        let mut told = Text::new(rt.alloc());
         let mut command = MetadataCommand::new(rt.alloc());
         push_told::<T>(&mut told, rt.alloc(), &mut command, line)?;
-        Ok(told)
+        Ok(told.whole()?)
     }
 }
 
@@ -256,11 +245,6 @@ impl ToldOfCommand for OwnWords {
         compare("the words of the copy", copied.as_str(), words.as_str())?;
         Ok(words)
     }
-}
-
-#[test]
-fn words_of_a_command(rt: HostRuntime) -> Result<(), Fail> {
-    hold::<OfCommand<OwnWords>>(&rt, WORDS)
 }
 
 /// Sets the program, the manifest's path or the directory of a tool's options.
@@ -315,20 +299,15 @@ fn ask_all(alloc: Global, cmd: &mut Cmd, line: &str) -> Result<(), AllocError> {
 }
 
 /// Adds the variables that a process gets, each with its value and a text behind it.
-pub(crate) fn push_variables(
-    text: &mut String,
-    process: &Command,
-    behind: &str,
-) -> Result<(), AllocError> {
+pub(crate) fn push_variables(text: &mut Text, process: &Command, behind: &str) {
     for (name, value) in process.get_envs() {
-        write!(text, "{name}={}{behind}", value.unwrap_or(""))?;
+        write!(text, "{name}={}{behind}", value.unwrap_or(""));
     }
-    Ok(())
 }
 
 /// Adds the variables of a process, its program and its directory.
-fn push_process(text: &mut String, process: &Command) -> Result<(), AllocError> {
-    push_variables(text, process, " ")?;
+fn push_process(text: &mut Text, process: &Command) {
+    push_variables(text, process, " ");
     let dir = match process.get_current_dir() {
         Some(dir) => dir.as_str(),
         None => "none",
@@ -337,17 +316,18 @@ fn push_process(text: &mut String, process: &Command) -> Result<(), AllocError> 
 }
 
 /// Adds the variables, the program and the directory of the process of a command.
-fn push_process_of(text: &mut String, command: &MetadataCommand) -> Result<(), Error> {
+fn push_process_of(text: &mut Text, command: &MetadataCommand) -> Result<(), Error> {
     let process = command.cargo_command(None)?;
-    Ok(push_process(text, &process)?)
+    push_process(text, &process);
+    Ok(())
 }
 
 /// The variables, the program, the directory and the words.
 fn shown(alloc: Global, command: &MetadataCommand) -> Result<String, Error> {
-    let mut text = String::new(alloc);
+    let mut text = Text::new(alloc);
     push_process_of(&mut text, command)?;
-    text.push_str(barred(alloc, command)?.as_str())?;
-    Ok(text)
+    text.push_str(barred(alloc, command)?.as_str());
+    Ok(text.whole()?)
 }
 
 /// The process of its copy.
@@ -358,11 +338,6 @@ impl ToldOfCommand for OwnProcess {
         let copy = command.clone()?;
         Ok(shown(alloc, &copy)?)
     }
-}
-
-#[test]
-fn process_of_a_command(rt: HostRuntime) -> Result<(), Fail> {
-    hold::<OfCommand<OwnProcess>>(&rt, PROCESSES)
 }
 
 /// What the command shows that a tool's options become.
@@ -385,11 +360,6 @@ impl Question for OptionsCommand {
     }
 }
 
-#[test]
-fn options_become_a_command(rt: HostRuntime) -> Result<(), Fail> {
-    hold::<OptionsCommand>(&rt, BECOMES)
-}
-
 /// How many packages are read, or why nothing is.
 pub(crate) fn read(alloc: Global, parsed: Result<Metadata, Error>) -> Result<String, AllocError> {
     match parsed {
@@ -399,9 +369,9 @@ pub(crate) fn read(alloc: Global, parsed: Result<Metadata, Error>) -> Result<Str
 }
 
 /// Asks what is read from a text.
-struct Text;
+struct Parsed;
 
-impl Question for Text {
+impl Question for Parsed {
     fn told(rt: &HostRuntime, line: &str) -> Result<String, Fail> {
         let parsed = MetadataCommand::parse(rt.alloc(), line);
         Ok(read(rt.alloc(), parsed)?)
@@ -409,8 +379,11 @@ impl Question for Text {
 }
 
 #[test]
-fn texts_are_parsed(rt: HostRuntime) -> Result<(), Fail> {
-    hold_beginnings::<Text>(&rt, PARSED)
+fn words_processes_and_options_of_commands(rt: HostRuntime) -> Result<(), Fail> {
+    hold::<OfCommand<OwnWords>>(&rt, WORDS)?;
+    hold::<OfCommand<OwnProcess>>(&rt, PROCESSES)?;
+    hold::<OptionsCommand>(&rt, BECOMES)?;
+    hold_beginnings::<Parsed>(&rt, PARSED)
 }
 
 /// An output of cargo: whether it succeeded, and what it wrote to standard output and to standard error.
@@ -474,6 +447,5 @@ fn shown_copy_of(alloc: Global, features: &Features) -> Result<String, AllocErro
 fn a_copy_of_features_holds_the_same(rt: HostRuntime) -> Result<(), Fail> {
     let features = Features::Selected(parts(rt.alloc(), "x,y", ',')?);
     let copy = shown_copy_of(rt.alloc(), &features)?;
-    assert_eq!(rt; copy.as_str(), "Selected([\"x\", \"y\"])");
-    Ok(())
+    compare("x,y", copy.as_str(), r#"Selected(["x", "y"])"#)
 }

@@ -2,35 +2,38 @@
 
 use crate::building::Built;
 use krates_document::declared_source::is_path_of;
-use krates_samples::table::{Row, hold};
+use krates_samples::table::{Question, Row, hold};
+use std::alloc::Global;
 use std::test::Fail;
 
 /// Paths, sources, and whether the source is that of the path.
-const PATHS: &[(&str, &str, bool)] = &[
+const PATHS: &[Row] = &[
     // a path of Windows, whose source has a slash before the drive
     (
-        "D:\\a\\krates\\krates\\tests\\package-rename",
-        "path+file:///D:/a/krates/krates/tests/package-rename",
-        true,
+        "D:\\a\\krates\\krates\\tests\\package-rename path+file:///D:/a/krates/krates/tests/package-rename",
+        "true",
     ),
-    ("D:\\a", "path+file:///D:/a/./", true),
-    ("D:\\a\\", "path+file:///D:/a", false),
-    ("D:\\a", "path+file:///D:/a/b", false),
-    ("D:\\a\\b", "path+file:///D:/a", false),
+    ("D:\\a path+file:///D:/a/./", "true"),
+    ("D:\\a\\ path+file:///D:/a", "false"),
+    ("D:\\a path+file:///D:/a/b", "false"),
+    ("D:\\a\\b path+file:///D:/a", "false"),
     // a directory without a first character, and one whose first isn't ASCII
-    ("x", "path+file://", false),
-    ("x", "path+file:///x", true),
-    ("x", "path+file://éx", false),
+    ("x path+file://", "false"),
+    ("x path+file:///x", "true"),
+    ("x path+file://éx", "false"),
     // a path that begins with `/`
-    ("/w/d", "path+file:///w/./d", true),
-    ("/w/d", "path+file:///w/e", false),
-    ("/w/d", "registry+x", false),
+    ("/w/d path+file:///w/./d", "true"),
+    ("/w/d path+file:///w/e", "false"),
+    ("/w/d registry+x", "false"),
 ];
 
-#[test]
-fn paths_of_sources(rt: HostRuntime) {
-    for &(path, source, expected) in PATHS {
-        assert_eq!(rt; is_path_of(path, source), expected, "{path} in {source}");
+/// Whether the source of a line is that of its path.
+struct IsPathOf;
+
+impl Question for IsPathOf {
+    fn told(alloc: Global, line: &str) -> Result<String, Fail> {
+        let (path, source) = line.split_once(' ').unwrap_or((line, ""));
+        Ok(format!(in alloc; "{}", is_path_of(path, source))?)
     }
 }
 
@@ -61,6 +64,7 @@ const DECLARED_TWICE: &[Row] = &[
 ];
 
 #[test]
-fn declared_twice(rt: HostRuntime) -> Result<(), Fail> {
+fn paths_of_sources_and_dependencies_declared_twice(rt: HostRuntime) -> Result<(), Fail> {
+    hold::<IsPathOf>(rt.alloc(), PATHS)?;
     hold::<Built>(rt.alloc(), DECLARED_TWICE)
 }

@@ -10,33 +10,32 @@ use krates::graph::GraphEdge;
 use krates::{DepKind, Edge, Krates, Node, NodeId, Package};
 use krates_samples::documents::word_of;
 use krates_samples::table::{Row, hold};
-use std::alloc::AllocError;
+use krates_samples::text::Text;
 use std::test::Fail;
 
 /// Adds what the declared dependencies of a crate mean.
-fn push_mapping(text: &mut String, mapping: &[Option<NodeId>]) -> Result<(), AllocError> {
+fn push_mapping(text: &mut Text, mapping: &[Option<NodeId>]) {
     for number in mapping {
         match number {
-            Some(number) => write!(text, "[{}]", number.index())?,
-            None => text.push_str("[-]")?,
+            Some(number) => write!(text, "[{}]", number.index()),
+            None => text.push_str("[-]"),
         }
     }
-    Ok(())
 }
 
 /// Adds a node.
-fn push_node(text: &mut String, node: &Node<Package>) -> Result<(), AllocError> {
+fn push_node(text: &mut Text, node: &Node<Package>) {
     match node {
         Node::Krate {
             id,
             dep_mapping,
             ..
         } => {
-            text.push_str(word_of(id.repr()))?;
-            push_mapping(text, dep_mapping)?;
+            text.push_str(word_of(id.repr()));
+            push_mapping(text, dep_mapping);
         }
         Node::Feature { krate_index, name } => {
-            write!(text, "{}/{name}", krate_index.index())?;
+            write!(text, "{}/{name}", krate_index.index());
         }
     }
     text.push_str(" ")
@@ -52,38 +51,37 @@ fn mark_of(edge: &Edge) -> (&'static str, DepKind) {
 }
 
 /// Adds an edge.
-fn push_edge(text: &mut String, edge: &GraphEdge<Edge>) -> Result<(), AllocError> {
+fn push_edge(text: &mut Text, edge: &GraphEdge<Edge>) {
     let (mark, kind) = mark_of(&edge.weight);
     write!(
         text,
         " {}{mark}{}",
         edge.source.index(),
         edge.target.index()
-    )?;
+    );
     if kind != DepKind::Normal {
-        return write!(text, "({kind})");
+        write!(text, "({kind})");
     }
-    Ok(())
 }
 
 /// Adds the edges in order.
-fn push_edges(text: &mut String, edges: &[GraphEdge<Edge>]) -> Result<(), AllocError> {
+fn push_edges(text: &mut Text, edges: &[GraphEdge<Edge>]) {
     for edge in edges {
-        push_edge(text, edge)?;
+        push_edge(text, edge);
     }
-    Ok(())
 }
 
 /// The whole graph of a document under the setting of its line.
 pub(crate) struct Graphed;
 
 impl Told<Package> for Graphed {
-    fn push(text: &mut String, krates: &Krates, _line: &str) -> Result<(), Fail> {
+    fn push(text: &mut Text, krates: &Krates, _line: &str) -> Result<(), Fail> {
         for node in krates.graph().raw_nodes() {
-            push_node(text, node)?;
+            push_node(text, node);
         }
-        text.push_str("|")?;
-        Ok(push_edges(text, krates.graph().raw_edges())?)
+        text.push_str("|");
+        push_edges(text, krates.graph().raw_edges());
+        Ok(())
     }
 }
 

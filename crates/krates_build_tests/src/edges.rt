@@ -6,17 +6,12 @@ use krates::graph::Direction;
 use krates::{DepKind, EdgeId, Kid, Krates, Node, NodeId, Package};
 use krates_samples::documents::word_of;
 use krates_samples::table::{Row, hold};
+use krates_samples::text::Text;
 use std::alloc::AllocError;
 use std::test::Fail;
 
 /// Adds a node, a mark, and what was found of it: the other node and the edge.
-fn push_found(
-    text: &mut String,
-    node: NodeId,
-    mark: &str,
-    other: NodeId,
-    edge: EdgeId,
-) -> Result<(), AllocError> {
+fn push_found(text: &mut Text, node: NodeId, mark: &str, other: NodeId, edge: EdgeId) {
     write!(
         text,
         " {}{mark}{} by {}",
@@ -27,20 +22,20 @@ fn push_found(
 }
 
 /// Adds the direct dependents of a number, each behind `<` with its edge.
-fn push_dependents(text: &mut String, krates: &Krates, node: NodeId) -> Result<(), AllocError> {
+fn push_dependents(text: &mut Text, krates: &Krates, node: NodeId) -> Result<(), AllocError> {
     for found in &krates.direct_dependents(node)? {
-        push_found(text, node, "<", found.node_id, found.edge_id)?;
+        push_found(text, node, "<", found.node_id, found.edge_id);
     }
     Ok(())
 }
 
 /// Adds the direct dependencies of a number, where it is that of a node, each behind `>` with its edge.
-fn push_dependencies(text: &mut String, krates: &Krates, node: NodeId) -> Result<(), AllocError> {
+fn push_dependencies(text: &mut Text, krates: &Krates, node: NodeId) -> Result<(), AllocError> {
     if node.index() >= krates.graph().node_count() {
         return Ok(());
     }
     for found in &krates.direct_dependencies(node)? {
-        push_found(text, node, ">", found.node_id, found.edge_id)?;
+        push_found(text, node, ">", found.node_id, found.edge_id);
     }
     Ok(())
 }
@@ -49,7 +44,7 @@ fn push_dependencies(text: &mut String, krates: &Krates, node: NodeId) -> Result
 struct Direct;
 
 impl Told<Package> for Direct {
-    fn push(text: &mut String, krates: &Krates, _line: &str) -> Result<(), Fail> {
+    fn push(text: &mut Text, krates: &Krates, _line: &str) -> Result<(), Fail> {
         for number in 0..10u32 {
             push_dependents(text, krates, NodeId::new(number))?;
             push_dependencies(text, krates, NodeId::new(number))?;
@@ -86,16 +81,16 @@ const DIRECT: &[Row] = &[
 struct Own;
 
 impl Told<Package> for Own {
-    fn push(text: &mut String, krates: &Krates, _line: &str) -> Result<(), Fail> {
+    fn push(text: &mut Text, krates: &Krates, _line: &str) -> Result<(), Fail> {
         for (number, node) in krates.graph().raw_nodes().iter().enumerate() {
             if node.is_feature_of(NodeId::new(1)) {
-                write!(text, "{number} ")?;
+                write!(text, "{number} ");
             }
         }
-        text.push_str("|")?;
+        text.push_str("|");
         for (number, edge) in krates.graph().raw_edges().iter().enumerate() {
             if edge.weight.is_without(DepKind::Dev) {
-                write!(text, " {number}")?;
+                write!(text, " {number}");
             }
         }
         Ok(())
@@ -123,29 +118,25 @@ const OWN: &[Row] = &[
 ];
 
 /// Adds a mark and the word of an id.
-fn push_kid(text: &mut String, mark: &str, kid: &Kid) -> Result<(), AllocError> {
+fn push_kid(text: &mut Text, mark: &str, kid: &Kid) {
     push_marked(text, mark, word_of(kid.repr()))
 }
 
 /// Adds the ids of the direct dependents of a number, each behind `<`.
-fn push_dependent_kids(text: &mut String, krates: &Krates, node: NodeId) -> Result<(), AllocError> {
+fn push_dependent_kids(text: &mut Text, krates: &Krates, node: NodeId) -> Result<(), AllocError> {
     for found in &krates.direct_dependents(node)? {
-        push_kid(text, "<", found.kid)?;
+        push_kid(text, "<", found.kid);
     }
     Ok(())
 }
 
 /// Adds the ids of the direct dependencies of a number, where it is that of a node, each behind `>`.
-fn push_dependency_kids(
-    text: &mut String,
-    krates: &Krates,
-    node: NodeId,
-) -> Result<(), AllocError> {
+fn push_dependency_kids(text: &mut Text, krates: &Krates, node: NodeId) -> Result<(), AllocError> {
     if node.index() >= krates.graph().node_count() {
         return Ok(());
     }
     for found in &krates.direct_dependencies(node)? {
-        push_kid(text, ">", found.kid)?;
+        push_kid(text, ">", found.kid);
     }
     Ok(())
 }
@@ -154,9 +145,9 @@ fn push_dependency_kids(
 struct Kids;
 
 impl Told<Package> for Kids {
-    fn push(text: &mut String, krates: &Krates, _line: &str) -> Result<(), Fail> {
+    fn push(text: &mut Text, krates: &Krates, _line: &str) -> Result<(), Fail> {
         for found in krates.krate_nodes() {
-            push_kid(text, " ", found.kid)?;
+            push_kid(text, " ", found.kid);
             push_dependent_kids(text, krates, found.node_id)?;
             push_dependency_kids(text, krates, found.node_id)?;
         }
@@ -184,7 +175,7 @@ const KIDS: &[Row] = &[
 ];
 
 /// Adds what stands at the end of an edge: the name of a crate, or a plus sign and the name of a feature.
-fn push_end(text: &mut String, end: &Node<Package>) -> Result<(), AllocError> {
+fn push_end(text: &mut Text, end: &Node<Package>) {
     match end {
         Node::Krate { krate, .. } => push_marked(text, " ", krate.name.as_str()),
         Node::Feature { name, .. } => push_marked(text, " +", name.as_str()),
@@ -192,12 +183,7 @@ fn push_end(text: &mut String, end: &Node<Package>) -> Result<(), AllocError> {
 }
 
 /// Adds what the declared dependency at a place of a node means.
-fn push_resolved(
-    text: &mut String,
-    krates: &Krates,
-    node: NodeId,
-    place: usize,
-) -> Result<(), AllocError> {
+fn push_resolved(text: &mut Text, krates: &Krates, node: NodeId, place: usize) {
     match krates.resolved_dependency(node, place) {
         Some(krate) => push_marked(text, " =", krate.name.as_str()),
         None => text.push_str(" -"),
@@ -205,41 +191,41 @@ fn push_resolved(
 }
 
 /// Adds behind a bar what stands at the ends of a node's edges, and what its first two declared dependencies mean.
-fn push_ends(text: &mut String, krates: &Krates, node: NodeId) -> Result<(), AllocError> {
-    text.push_str("|")?;
+fn push_ends(text: &mut Text, krates: &Krates, node: NodeId) {
+    text.push_str("|");
     for (end, _) in krates.get_deps(node) {
-        push_end(text, end)?;
+        push_end(text, end);
     }
-    push_resolved(text, krates, node, 0)?;
+    push_resolved(text, krates, node, 0);
     push_resolved(text, krates, node, 1)
 }
 
 /// Adds the numbers of edges.
-fn push_numbers(text: &mut String, edges: &[EdgeId]) -> Result<(), AllocError> {
+fn push_numbers(text: &mut Text, edges: &[EdgeId]) {
     for edge in edges {
-        write!(text, " {}", edge.index())?;
+        write!(text, " {}", edge.index());
     }
-    Ok(())
 }
 
 /// The ends of the edges of the nodes 0, 2, 3 and 9, and the numbers of the edges of 0 and into 1.
 struct Ends;
 
 impl Told<Package> for Ends {
-    fn push(text: &mut String, krates: &Krates, _line: &str) -> Result<(), Fail> {
+    fn push(text: &mut Text, krates: &Krates, _line: &str) -> Result<(), Fail> {
         for number in [0u32, 2, 3, 9] {
-            push_ends(text, krates, NodeId::new(number))?;
+            push_ends(text, krates, NodeId::new(number));
         }
         let graph = krates.graph();
         push_numbers(
             text,
             graph.edge_numbers(NodeId::new(0), Direction::Outgoing),
-        )?;
-        text.push_str(" into")?;
-        Ok(push_numbers(
+        );
+        text.push_str(" into");
+        push_numbers(
             text,
             graph.edge_numbers(NodeId::new(1), Direction::Incoming),
-        )?)
+        );
+        Ok(())
     }
 }
 
@@ -252,9 +238,9 @@ const ENDS: &[Row] = &[(
 struct Filtered;
 
 impl Told<Package> for Filtered {
-    fn push(text: &mut String, krates: &Krates, _line: &str) -> Result<(), Fail> {
+    fn push(text: &mut Text, krates: &Krates, _line: &str) -> Result<(), Fail> {
         for krate in &krates.krates_filtered(DepKind::Dev)? {
-            write!(text, "{} ", krate.name)?;
+            write!(text, "{} ", krate.name);
         }
         Ok(())
     }

@@ -39,11 +39,6 @@ const ENABLED: &[Row] = &[
     ("a;f=g g=f", "+a, a/f, a/g"),
 ];
 
-#[test]
-fn enabled_by_references(rt: HostRuntime) -> Result<(), Fail> {
-    hold::<Selected>(rt.alloc(), ENABLED)
-}
-
 const LOST: &[Row] = &[
     (
         "a b;x=b/nope|b",
@@ -66,17 +61,7 @@ const LOST: &[Row] = &[
     ("a b;w=b?/j|b", "lost feature: j of path+file:///w/b#0.1.0"),
 ];
 
-#[test]
-fn lost_features(rt: HostRuntime) -> Result<(), Fail> {
-    hold::<Selected>(rt.alloc(), LOST)
-}
-
 const OF_AN_EXCLUDED_CRATE: &[Row] = &[("a b;x=b/nope|b / without b", "+a, a/x")];
-
-#[test]
-fn lost_features_of_an_excluded_crate(rt: HostRuntime) -> Result<(), Fail> {
-    hold::<Selected>(rt.alloc(), OF_AN_EXCLUDED_CRATE)
-}
 
 // Where each name has one meaning, it is the same whether a name means the least or all.
 const WITH_ALL_NAMED: &[Row] = &[
@@ -110,6 +95,9 @@ const WITH_ALL_NAMED: &[Row] = &[
 ];
 
 #[test]
-fn names_of_one_meaning(rt: HostRuntime) -> Result<(), Fail> {
+fn enabled_and_lost_features(rt: HostRuntime) -> Result<(), Fail> {
+    hold::<Selected>(rt.alloc(), ENABLED)?;
+    hold::<Selected>(rt.alloc(), LOST)?;
+    hold::<Selected>(rt.alloc(), OF_AN_EXCLUDED_CRATE)?;
     hold::<Selected>(rt.alloc(), WITH_ALL_NAMED)
 }

@@ -7,6 +7,7 @@ use krates::derive::{CheckError, check, check_closed};
 use krates::{Builder, Krates, NodeId};
 use krates_samples::documents::section;
 use krates_samples::table::{Row, hold};
+use krates_samples::text::Text;
 use std::alloc::{AllocError, Global};
 use std::test::Fail;
 
@@ -131,10 +132,10 @@ fn reason(given: &Given<'_, Builder>, krates: &Krates, node: NodeId) -> Result<S
         given.alloc,
         check(given.metadata, given.set, None, &derivation),
     )?;
-    let mut text = String::new(given.alloc);
-    push_steps(&mut text, &derivation.steps)?;
-    text.push_str(answer.as_str())?;
-    Ok(text)
+    let mut text = Text::new(given.alloc);
+    push_steps(&mut text, &derivation.steps);
+    text.push_str(answer.as_str());
+    Ok(text.whole()?)
 }
 
 /// What a build explains, checked by what the line sets, which may be something else than what the build has set: the derivation of the

@@ -10,23 +10,22 @@ use krates_ids::Kid;
 use krates_rules::{DepKind, Fact, Scope, Step};
 use krates_samples::documents::{kind_named, word_of};
 use krates_samples::settings::package_specs;
-use std::alloc::{AllocError, Global};
+use krates_samples::text::Text;
+use std::alloc::Global;
 use std::test::Fail;
 
 /// Adds what stands behind the child of a kept edge: its kind, where it isn't normal, and its target.
-fn push_purpose(text: &mut String, kind: DepKind, cfg: Option<&str>) -> Result<(), AllocError> {
+fn push_purpose(text: &mut Text, kind: DepKind, cfg: Option<&str>) {
     let word = match kind {
         DepKind::Normal => "",
         DepKind::Build => "build",
         DepKind::Dev => "dev",
     };
     if let Some(cfg) = cfg {
-        return write!(text, ":{word}:{cfg}");
+        write!(text, ":{word}:{cfg}");
+    } else if !word.is_empty() {
+        write!(text, ":{word}");
     }
-    if !word.is_empty() {
-        write!(text, ":{word}")?;
-    }
-    Ok(())
 }
 
 /// The word for a crate.
@@ -35,7 +34,7 @@ fn word(krate: &Kid) -> &str {
 }
 
 /// Adds the word of a fact.
-fn push_word(text: &mut String, fact: &Fact) -> Result<(), AllocError> {
+fn push_word(text: &mut Text, fact: &Fact) {
     match fact {
         Fact::Crate(krate) => write!(text, "+{}", word(krate)),
         Fact::Feature { krate, name } => write!(text, "{}/{name}", word(krate)),
@@ -45,7 +44,7 @@ fn push_word(text: &mut String, fact: &Fact) -> Result<(), AllocError> {
             kind,
             cfg,
         } => {
-            write!(text, "{}>{}", word(parent), word(child))?;
+            write!(text, "{}>{}", word(parent), word(child));
             push_purpose(text, *kind, cfg.as_deref())
         }
         Fact::Toggled {
@@ -57,21 +56,20 @@ fn push_word(text: &mut String, fact: &Fact) -> Result<(), AllocError> {
 }
 
 /// Adds a step, with a semicolon behind it.
-fn push_step(text: &mut String, step: &Step) -> Result<(), AllocError> {
-    write!(text, "{} ", step.rule)?;
-    push_word(text, &step.fact)?;
+fn push_step(text: &mut Text, step: &Step) {
+    write!(text, "{} ", step.rule);
+    push_word(text, &step.fact);
     for used in &step.uses {
-        write!(text, " {used}")?;
+        write!(text, " {used}");
     }
     text.push_str("; ")
 }
 
 /// Adds steps in the words in which they are read.
-pub(crate) fn push_steps(text: &mut String, steps: &[Step]) -> Result<(), AllocError> {
+pub(crate) fn push_steps(text: &mut Text, steps: &[Step]) {
     for step in steps {
-        push_step(text, step)?;
+        push_step(text, step);
     }
-    Ok(())
 }
 
 /// Sets what a section of a line asks.

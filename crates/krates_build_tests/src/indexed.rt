@@ -9,6 +9,7 @@ use krates::index::{
 use krates::{Builder, Error, Krates, OnFilter, Package};
 use krates_samples::documents::{metadata, section};
 use krates_samples::table::{Question, Row, hold};
+use krates_samples::text::Text;
 use semver::Version;
 use std::alloc::Global;
 use std::cell::Cell;
@@ -39,7 +40,7 @@ fn told_counting(alloc: Global, line: &str, calls: Rc<Cell<u8>>) -> Result<Strin
     builder.with_crates_io_index(build);
     let mut reported = Reported::new(alloc);
     let built: Result<Krates, Error> = builder.build_with_metadata(metadata, &mut reported);
-    told_of(alloc, &built, &reported)
+    told_of(alloc, &built, reported)
 }
 
 /// What a build tells, and how often the index was asked.
@@ -140,14 +141,13 @@ fn told_counts(
     built: &Result<Krates, Error>,
     features: usize,
 ) -> Result<String, Fail> {
-    let mut text = String::new(alloc);
-    let pushed = match built {
+    let mut text = Text::new(alloc);
+    match built {
         Ok(krates) => write!(text, "{} kept", krates.len()),
         Err(error) => write!(text, "{error}"),
-    };
-    pushed?;
-    write!(text, ", {features} reported")?;
-    Ok(text)
+    }
+    write!(text, ", {features} reported");
+    Ok(text.whole()?)
 }
 
 /// How many crates are kept, or the refusal, and how many features the reported packages have, with the index of the line.

@@ -9,6 +9,7 @@ use krates::derive::{Derivation, Fact, check, check_closed};
 use krates::{Builder, DepKind, Krates, Metadata, NodeId, OnFilter, Package};
 use krates_samples::documents::kid_of;
 use krates_samples::large::{FEATURES, PACKAGES, large_document, long_name};
+use krates_samples::table::compare;
 use std::alloc::Global;
 use std::test::Fail;
 
@@ -63,13 +64,13 @@ fn a_large_build(rt: HostRuntime) -> Result<(), Fail> {
     let mut count = Count { packages: 0 };
     let krates = built(alloc, Builder::new(alloc), json.as_str(), &mut count)?;
     let told = sizes(alloc, &krates)?;
-    assert_eq!(rt;
+    compare(
+        "sizes",
         told.as_str(),
-        "2002 crates, 7003 nodes, 12002 edges, 2001 needed, 1 needing, 2002 reached, 70000 bytes"
-    );
+        "2002 crates, 7003 nodes, 12002 edges, 2001 needed, 1 needing, 2002 reached, 70000 bytes",
+    )?;
     let told = paths(alloc, &krates)?;
-    assert_eq!(rt; told.as_str(), "2 needing, true, false");
-    Ok(())
+    compare("paths", told.as_str(), "2 needing, true, false")
 }
 
 /// A feature of the member is enabled.

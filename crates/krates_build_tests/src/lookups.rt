@@ -9,11 +9,11 @@ use krates::semver::VersionReq;
 use krates::{KrateDetails, KrateMatch, Krates, Matches, Node, NodeId, Package};
 use krates_samples::documents::{kid_of, section, word_of};
 use krates_samples::table::{Row, hold};
-use std::alloc::AllocError;
+use krates_samples::text::Text;
 use std::test::Fail;
 
 /// Adds a node, or that there is none.
-fn push_node(text: &mut String, node: Option<&Node<Package>>) -> Result<(), AllocError> {
+fn push_node(text: &mut Text, node: Option<&Node<Package>>) {
     match node {
         Some(Node::Krate { id, .. }) => text.push_str(word_of(id.repr())),
         Some(Node::Feature { krate_index, name }) => write!(text, "{}/{name}", krate_index.index()),
@@ -22,21 +22,17 @@ fn push_node(text: &mut String, node: Option<&Node<Package>>) -> Result<(), Allo
 }
 
 /// Adds a node behind its number.
-fn push_numbered(
-    text: &mut String,
-    number: NodeId,
-    node: &Node<Package>,
-) -> Result<(), AllocError> {
-    write!(text, "{}=", number.index())?;
+fn push_numbered(text: &mut Text, number: NodeId, node: &Node<Package>) {
+    write!(text, "{}=", number.index());
     push_node(text, Some(node))
 }
 
 /// Adds the answer to a question about the crate of a word, or about its feature of the name behind the word.
-fn push_by_id(text: &mut String, krates: &Krates, question: &str, words: &str) -> Result<(), Fail> {
+fn push_by_id(text: &mut Text, krates: &Krates, question: &str, words: &str) -> Result<(), Fail> {
     let (word, name) = words.split_once(' ').unwrap_or((words, ""));
     let feature = if name.is_empty() { None } else { Some(name) };
-    let kid = kid_of(*text.allocator(), word)?;
-    let pushed = match question {
+    let kid = kid_of(text.allocator(), word)?;
+    match question {
         "number" => push_number(text, krates.nid_for_kid(&kid)),
         "node" => push_node(text, krates.node_for_kid(&kid)),
         "found" => match krates.get_node(&kid, feature) {
@@ -44,21 +40,20 @@ fn push_by_id(text: &mut String, krates: &Krates, question: &str, words: &str) -
             None => push_node(text, None),
         },
         _ => push_features(text, krates.get_enabled_features(&kid), "set", "none"),
-    };
-    Ok(pushed?)
-}
-
-/// Adds the members.
-fn push_members(text: &mut String, krates: &Krates) -> Result<(), AllocError> {
-    for node in krates.workspace_members() {
-        text.push_str(" ")?;
-        push_node(text, Some(node))?;
     }
     Ok(())
 }
 
+/// Adds the members.
+fn push_members(text: &mut Text, krates: &Krates) {
+    for node in krates.workspace_members() {
+        text.push_str(" ");
+        push_node(text, Some(node));
+    }
+}
+
 /// Adds a crate that was found, with its number and version.
-fn push_match(text: &mut String, found: &KrateMatch<'_, Package>) -> Result<(), AllocError> {
+fn push_match(text: &mut Text, found: &KrateMatch<'_, Package>) {
     let word = word_of(found.kid.repr());
     write!(
         text,
@@ -69,53 +64,64 @@ fn push_match(text: &mut String, found: &KrateMatch<'_, Package>) -> Result<(), 
 }
 
 /// Adds crates that were found.
-fn push_matches(text: &mut String, found: Matches<'_, Package>) -> Result<(), AllocError> {
+fn push_matches(text: &mut Text, found: Matches<'_, Package>) {
     for one in found {
-        push_match(text, &one)?;
+        push_match(text, &one);
     }
-    Ok(())
 }
 
 /// Adds all kept crates.
-fn push_krate_nodes(text: &mut String, krates: &Krates) -> Result<(), AllocError> {
+fn push_krate_nodes(text: &mut Text, krates: &Krates) {
     for one in krates.krate_nodes() {
-        push_match(text, &one)?;
+        push_match(text, &one);
     }
-    Ok(())
 }
 
 /// Adds the crates of a name whose version fits.
-fn push_search(text: &mut String, krates: &Krates, words: &str) -> Result<(), Fail> {
+fn push_search(text: &mut Text, krates: &Krates, words: &str) -> Result<(), Fail> {
     let (name, req) = words.split_once(' ').unwrap_or((words, "*"));
-    let req = VersionReq::parse(*text.allocator(), req)?;
-    Ok(push_matches(text, krates.search_matches(name, &req))?)
+    let req = VersionReq::parse(text.allocator(), req)?;
+    push_matches(text, krates.search_matches(name, &req));
+    Ok(())
 }
 
 /// Adds the name of the crate of a number, asked for in both ways.
-fn push_krate(text: &mut String, krates: &Krates, number: &str) -> Result<(), Fail> {
+fn push_krate(text: &mut Text, krates: &Krates, number: &str) -> Result<(), Fail> {
     let number: usize = number.parse()?;
     if number >= krates.len() {
-        return Ok(push_node(text, None)?);
+        push_node(text, None);
+        return Ok(());
     }
     let one = &krates[number];
     let same = &krates[NodeId::new(number as u32)];
-    Ok(write!(text, "{} {}", one.name(), same.name())?)
+    write!(text, "{} {}", one.name(), same.name());
+    Ok(())
+}
+
+/// Adds the crates of a name, all crates, or the members.
+fn push_found(text: &mut Text, krates: &Krates, question: &str, name: &str) {
+    match question {
+        "name" => push_matches(text, krates.krates_by_name(name)),
+        "nodes" => push_krate_nodes(text, krates),
+        _ => push_members(text, krates),
+    }
 }
 
 /// What a build of the line's document answers to the question of the line.
 struct LookedUp;
 
 impl Told<Package> for LookedUp {
-    fn push(text: &mut String, krates: &Krates, line: &str) -> Result<(), Fail> {
+    fn push(text: &mut Text, krates: &Krates, line: &str) -> Result<(), Fail> {
         let asked = section(line, "ask ").unwrap_or("");
         let (question, words) = asked.split_once(' ').unwrap_or((asked, ""));
         match question {
             "number" | "node" | "features" | "found" => push_by_id(text, krates, question, words),
-            "name" => Ok(push_matches(text, krates.krates_by_name(words))?),
             "search" => push_search(text, krates, words),
-            "nodes" => Ok(push_krate_nodes(text, krates)?),
             "krate" => push_krate(text, krates, words),
-            _ => Ok(push_members(text, krates)?),
+            _ => {
+                push_found(text, krates, question, words);
+                Ok(())
+            }
         }
     }
 }

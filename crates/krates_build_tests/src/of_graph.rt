@@ -3,14 +3,15 @@
 use crate::builders::krates_of;
 use krates::{EnabledFeatures, FromPackage, Krates, NodeId, Package};
 use krates_samples::table::Question;
-use std::alloc::{AllocError, Global};
+use krates_samples::text::Text;
+use std::alloc::Global;
 use std::marker::PhantomData;
 use std::test::Fail;
 
 /// What is told of a graph, whose crates are held as these values.
 pub(crate) trait Told<N> {
     /// Adds what is told of the graph that is built of a line.
-    fn push(text: &mut String, krates: &Krates<N>, line: &str) -> Result<(), Fail>;
+    fn push(text: &mut Text, krates: &Krates<N>, line: &str) -> Result<(), Fail>;
 }
 
 /// What is told of the graph that is built of each line of a table.
@@ -21,20 +22,20 @@ pub(crate) struct OfGraph<T: Told<N>, N = Package> {
 impl<T: Told<N>, N: FromPackage + Drop> Question for OfGraph<T, N> {
     fn told(alloc: Global, line: &str) -> Result<String, Fail> {
         let krates = krates_of::<N>(alloc, line)?;
-        let mut text = String::new(alloc);
+        let mut text = Text::new(alloc);
         T::push(&mut text, &krates, line)?;
-        Ok(text)
+        Ok(text.whole()?)
     }
 }
 
 /// Adds a word behind a mark.
-pub(crate) fn push_marked(text: &mut String, mark: &str, word: &str) -> Result<(), AllocError> {
-    text.push_str(mark)?;
+pub(crate) fn push_marked(text: &mut Text, mark: &str, word: &str) {
+    text.push_str(mark);
     text.push_str(word)
 }
 
 /// Adds the number of a crate, or that there is none.
-pub(crate) fn push_number(text: &mut String, number: Option<NodeId>) -> Result<(), AllocError> {
+pub(crate) fn push_number(text: &mut Text, number: Option<NodeId>) {
     match number {
         Some(number) => write!(text, "{}", number.index()),
         None => text.push_str("none"),
@@ -43,17 +44,16 @@ pub(crate) fn push_number(text: &mut String, number: Option<NodeId>) -> Result<(
 
 /// Adds the names of enabled features, each behind a plus sign, and all behind `set`; or what says that there is no set.
 pub(crate) fn push_features(
-    text: &mut String,
+    text: &mut Text,
     features: Option<&EnabledFeatures>,
     set: &str,
     none: &str,
-) -> Result<(), AllocError> {
+) {
     let Some(features) = features else {
         return text.push_str(none);
     };
-    text.push_str(set)?;
+    text.push_str(set);
     for name in features {
-        push_marked(text, "+", name.as_str())?;
+        push_marked(text, "+", name.as_str());
     }
-    Ok(())
 }

@@ -11,6 +11,7 @@ use krates::{
 };
 use krates_samples::documents::{metadata, section, word_of};
 use krates_samples::table::{Question, Row, hold};
+use krates_samples::text::Text;
 use std::alloc::{AllocError, Global};
 use std::mem;
 use std::test::Fail;
@@ -88,20 +89,18 @@ fn built(
 }
 
 /// Adds the names of the kept crates.
-fn push_names(text: &mut String, krates: &Krates<Named, IsDependency>) -> Result<(), AllocError> {
+fn push_names(text: &mut Text, krates: &Krates<Named, IsDependency>) {
     for krate in krates.krates() {
-        text.push_str(krate.name.as_str())?;
+        text.push_str(krate.name.as_str());
     }
-    Ok(())
 }
 
 /// Adds the names of the kept crates, and then whether each edge is a dependency.
-fn push_krates(text: &mut String, krates: &Krates<Named, IsDependency>) -> Result<(), AllocError> {
-    push_names(text, krates)?;
+fn push_krates(text: &mut Text, krates: &Krates<Named, IsDependency>) {
+    push_names(text, krates);
     for edge in krates.graph().raw_edges() {
-        text.push_str(if edge.weight.is { ">" } else { ":" })?;
+        text.push_str(if edge.weight.is { ">" } else { ":" });
     }
-    Ok(())
 }
 
 /// The kept crates and the edges, or the refusal; and then the names that the closure was handed.
@@ -110,14 +109,13 @@ fn told_of(
     built: &Result<Krates<Named, IsDependency>, Error>,
     names: &str,
 ) -> Result<String, Fail> {
-    let mut text = String::new(alloc);
-    let pushed = match built {
+    let mut text = Text::new(alloc);
+    match built {
         Ok(krates) => push_krates(&mut text, krates),
         Err(error) => write!(text, "{error}"),
-    };
-    pushed?;
-    write!(text, ", closure {names}")?;
-    Ok(text)
+    }
+    write!(text, ", closure {names}");
+    Ok(text.whole()?)
 }
 
 /// The names of the kept crates, whether each edge is a dependency, or the refusal; and then the names that a closure was handed.
@@ -195,10 +193,10 @@ const OWN: &[Row] = &[
 struct Called;
 
 impl Told<Named> for Called {
-    fn push(text: &mut String, krates: &Krates<Named>, line: &str) -> Result<(), Fail> {
+    fn push(text: &mut Text, krates: &Krates<Named>, line: &str) -> Result<(), Fail> {
         for found in krates.krates_by_name(section(line, "ask ").unwrap_or("")) {
             let word = word_of(found.kid.repr());
-            write!(text, " {}={word}", found.node_id.index())?;
+            write!(text, " {}={word}", found.node_id.index());
         }
         Ok(())
     }

@@ -7,6 +7,7 @@ use crate::own_types::Named;
 use krates::graph::GraphEdge;
 use krates::{Edge, Krates, Node};
 use krates_samples::table::{Row, hold};
+use krates_samples::text::Text;
 use std::alloc::AllocError;
 use std::fmt;
 use std::test::Fail;
@@ -21,22 +22,22 @@ impl fmt::Display for Named {
 }
 
 /// Adds the nodes as they are printed.
-fn push_nodes(text: &mut String, nodes: &[Node<Named>]) -> Result<(), AllocError> {
+fn push_nodes(text: &mut Text, nodes: &[Node<Named>]) {
     for node in nodes {
-        write!(text, "{node},")?;
+        write!(text, "{node},");
     }
-    Ok(())
 }
 
 /// Adds what is printed of a copy of an edge.
-fn push_copy(text: &mut String, edge: &Edge) -> Result<(), AllocError> {
+fn push_copy(text: &mut Text, edge: &Edge) -> Result<(), AllocError> {
     let copy = edge.clone()?;
-    write!(text, "{copy};")
+    write!(text, "{copy};");
+    Ok(())
 }
 
 /// Adds behind a bar the edges as their copies are printed.
-fn push_edges(text: &mut String, edges: &[GraphEdge<Edge>]) -> Result<(), AllocError> {
-    text.push_str("|")?;
+fn push_edges(text: &mut Text, edges: &[GraphEdge<Edge>]) -> Result<(), AllocError> {
+    text.push_str("|");
     for edge in edges {
         push_copy(text, &edge.weight)?;
     }
@@ -47,8 +48,8 @@ fn push_edges(text: &mut String, edges: &[GraphEdge<Edge>]) -> Result<(), AllocE
 struct Printed;
 
 impl Told<Named> for Printed {
-    fn push(text: &mut String, krates: &Krates<Named>, _line: &str) -> Result<(), Fail> {
-        push_nodes(text, krates.graph().raw_nodes())?;
+    fn push(text: &mut Text, krates: &Krates<Named>, _line: &str) -> Result<(), Fail> {
+        push_nodes(text, krates.graph().raw_nodes());
         Ok(push_edges(text, krates.graph().raw_edges())?)
     }
 }

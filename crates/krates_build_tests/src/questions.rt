@@ -11,6 +11,7 @@ use krates_questions::Need;
 use krates_resolve::{Document, Setting, admit};
 use krates_samples::documents::{kid_of, metadata};
 use krates_samples::table::{Question, Row, compare, hold};
+use krates_samples::text::Text;
 use std::alloc::{AllocError, Global};
 use std::test::Fail;
 
@@ -68,12 +69,7 @@ struct Feature {
 }
 
 /// Adds whether a crate is a root and stands, what there is for it, its package and whether it has a node.
-fn push_availability<'a>(
-    told: &mut String,
-    asked: &Document<'a>,
-    setting: &Setting,
-    krate: &'a Kid,
-) -> Result<(), AllocError> {
+fn push_availability<'a>(told: &mut Text, asked: &Document<'a>, setting: &Setting, krate: &'a Kid) {
     let (is_root, stands) = (asked.is_root(setting, krate), asked.stands(setting, krate));
     let availability = asked.availability(setting, krate);
     let package = match asked.package_of(krate) {
@@ -88,19 +84,13 @@ fn push_availability<'a>(
 }
 
 /// Adds whether the feature is listed, with its references, how many features are listed, and the crates on which the node depends.
-fn push_listed<'a>(
-    told: &mut String,
-    asked: &Document<'a>,
-    krate: &Kid,
-    name: &'a str,
-) -> Result<(), AllocError> {
+fn push_listed<'a>(told: &mut Text, asked: &Document<'a>, krate: &Kid, name: &'a str) {
     let (is_listed, values) = (asked.lists(krate, name), asked.values(krate, name));
     let count = asked.features(krate).len();
-    write!(told, ", lists {is_listed} {values:?} of {count}:")?;
+    write!(told, ", lists {is_listed} {values:?} of {count}:");
     for child in asked.children(krate) {
-        write!(told, " {}", child.name())?;
+        write!(told, " {}", child.name());
     }
-    Ok(())
 }
 
 impl Asked for Feature {
@@ -119,10 +109,10 @@ impl Asked for Feature {
         asked: &Document<'a>,
         setting: &Setting,
     ) -> Result<String, AllocError> {
-        let mut told = String::new(alloc);
-        push_availability(&mut told, asked, setting, &self.krate)?;
-        push_listed(&mut told, asked, &self.krate, self.name.as_str())?;
-        Ok(told)
+        let mut told = Text::new(alloc);
+        push_availability(&mut told, asked, setting, &self.krate);
+        push_listed(&mut told, asked, &self.krate, self.name.as_str());
+        told.whole()
     }
 }
 

@@ -3,15 +3,12 @@
 use crate::of_graph::{OfGraph, Told};
 use krates::{KrateMatch, Krates, NodeId, Package};
 use krates_samples::table::{Row, hold};
+use krates_samples::text::Text;
 use std::alloc::AllocError;
 use std::test::Fail;
 
 /// Adds a node and a crate that depends on it: its number, its name, and the name in its id.
-fn push_dependent(
-    text: &mut String,
-    node: NodeId,
-    found: &KrateMatch<'_, Package>,
-) -> Result<(), AllocError> {
+fn push_dependent(text: &mut Text, node: NodeId, found: &KrateMatch<'_, Package>) {
     write!(
         text,
         " {}<{}{}={}",
@@ -23,9 +20,9 @@ fn push_dependent(
 }
 
 /// Adds all dependents of a number, each behind `<`.
-fn push_dependents(text: &mut String, krates: &Krates, node: NodeId) -> Result<(), AllocError> {
+fn push_dependents(text: &mut Text, krates: &Krates, node: NodeId) -> Result<(), AllocError> {
     for found in &krates.all_dependents(node)? {
-        push_dependent(text, node, found)?;
+        push_dependent(text, node, found);
     }
     Ok(())
 }
@@ -34,7 +31,7 @@ fn push_dependents(text: &mut String, krates: &Krates, node: NodeId) -> Result<(
 struct AllDependents;
 
 impl Told<Package> for AllDependents {
-    fn push(text: &mut String, krates: &Krates, _line: &str) -> Result<(), Fail> {
+    fn push(text: &mut Text, krates: &Krates, _line: &str) -> Result<(), Fail> {
         for number in 0..10u32 {
             push_dependents(text, krates, NodeId::new(number))?;
         }
@@ -67,10 +64,10 @@ const ALL_DEPENDENTS: &[Row] = &[
 ];
 
 /// Adds which of the first six numbers one reaches, each behind `>`.
-fn push_reached(text: &mut String, krates: &Krates, from: NodeId) -> Result<(), AllocError> {
+fn push_reached(text: &mut Text, krates: &Krates, from: NodeId) -> Result<(), AllocError> {
     for number in 0..6u32 {
         if krates.reaches(from, NodeId::new(number))? {
-            write!(text, " {}>{number}", from.index())?;
+            write!(text, " {}>{number}", from.index());
         }
     }
     Ok(())
@@ -80,7 +77,7 @@ fn push_reached(text: &mut String, krates: &Krates, from: NodeId) -> Result<(), 
 struct Reaching;
 
 impl Told<Package> for Reaching {
-    fn push(text: &mut String, krates: &Krates, _line: &str) -> Result<(), Fail> {
+    fn push(text: &mut Text, krates: &Krates, _line: &str) -> Result<(), Fail> {
         for number in 0..6u32 {
             push_reached(text, krates, NodeId::new(number))?;
         }

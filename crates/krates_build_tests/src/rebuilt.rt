@@ -13,6 +13,7 @@ use krates::{DepKind, Krates, Package, laws};
 use krates_drawing::laws as drawing;
 use krates_samples::documents::{kind_named, section};
 use krates_samples::table::{Row, hold};
+use krates_samples::text::Text;
 use std::alloc::{AllocError, Global};
 use std::test::Fail;
 
@@ -45,25 +46,26 @@ fn rebuilt(alloc: Global, line: &str, name: &str) -> Result<Box<Krates>, Fail> {
 
 /// Adds the crates that members reach without a kind, and those that are kept without it beside them.
 fn push_both(
-    text: &mut String,
+    text: &mut Text,
     kind: DepKind,
     krates: &Krates,
     rebuilt: &Krates,
 ) -> Result<(), AllocError> {
     for pkg in &filtered_beside(kind, krates, rebuilt)? {
-        push_package(text, "+", pkg)?;
+        push_package(text, "+", pkg);
     }
-    text.push_str(" beside ")?;
-    push_krates(text, rebuilt)
+    text.push_str(" beside ");
+    push_krates(text, rebuilt);
+    Ok(())
 }
 
 /// The crates that are reached without a kind, and those that are kept without it.
 struct Beside;
 
 impl Told<Package> for Beside {
-    fn push(text: &mut String, krates: &Krates, line: &str) -> Result<(), Fail> {
+    fn push(text: &mut Text, krates: &Krates, line: &str) -> Result<(), Fail> {
         let name = section(line, "ask ").unwrap_or("");
-        let rebuilt = rebuilt(*text.allocator(), line, name)?;
+        let rebuilt = rebuilt(text.allocator(), line, name)?;
         let kind = DepKind::from(kind_named(name));
         Ok(push_both(text, kind, krates, &rebuilt)?)
     }

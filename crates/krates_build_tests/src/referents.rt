@@ -29,14 +29,10 @@ const MEANT: &[Row] = &[
     ("a b&dev;x=b/y|b;y=", "+a+b, a>b dev 0 as 0, a/x, b/y"),
 ];
 
-#[test]
-fn meant_dependencies(rt: HostRuntime) -> Result<(), Fail> {
-    hold::<Selected>(rt.alloc(), MEANT)
-}
-
 const IGNORED: &[Row] = &[("a b&dev;x=b/y|b;y= / ignore dev all", "+a, a/x")];
 
 #[test]
-fn an_ignored_kind_is_not_asked_for(rt: HostRuntime) -> Result<(), Fail> {
+fn meant_dependencies_and_ignored_kinds(rt: HostRuntime) -> Result<(), Fail> {
+    hold::<Selected>(rt.alloc(), MEANT)?;
     hold::<Selected>(rt.alloc(), IGNORED)
 }

@@ -5,25 +5,21 @@ use krates::cm::SourceKind;
 use krates::{DepKind, DirectDependent, KrateDetails, Krates, NodeId, Package};
 use krates_samples::documents::section;
 use krates_samples::table::{Row, hold};
+use krates_samples::text::Text;
 use std::alloc::{AllocError, Global};
 use std::test::Fail;
 
 /// Adds a crate that depends on another, with the edge by which it does.
-fn push_dependent(
-    text: &mut String,
-    krates: &Krates,
-    found: &DirectDependent<'_, Package>,
-) -> Result<(), AllocError> {
+fn push_dependent(text: &mut Text, krates: &Krates, found: &DirectDependent<'_, Package>) {
     if let Some(edge) = krates.graph().raw_edges().get(found.edge_id.index()) {
-        write!(text, "{}{}, ", found.krate.name(), edge.weight)?;
+        write!(text, "{}{}, ", found.krate.name(), edge.weight);
     }
-    Ok(())
 }
 
 /// Adds the crates that depend on a crate.
-fn push_dependents(text: &mut String, krates: &Krates, node: NodeId) -> Result<(), AllocError> {
+fn push_dependents(text: &mut Text, krates: &Krates, node: NodeId) -> Result<(), AllocError> {
     for found in &krates.direct_dependents(node)? {
-        push_dependent(text, krates, found)?;
+        push_dependent(text, krates, found);
     }
     Ok(())
 }
@@ -32,7 +28,7 @@ fn push_dependents(text: &mut String, krates: &Krates, node: NodeId) -> Result<(
 struct Dependents;
 
 impl Told<Package> for Dependents {
-    fn push(text: &mut String, krates: &Krates, line: &str) -> Result<(), Fail> {
+    fn push(text: &mut Text, krates: &Krates, line: &str) -> Result<(), Fail> {
         for asked in krates.krates_by_name(section(line, "of ").unwrap_or("")) {
             push_dependents(text, krates, asked.node_id)?;
         }
@@ -61,16 +57,12 @@ const DEPENDENTS: &[Row] = &[
 ];
 
 /// Adds a crate that isn't the next one that is needed; answers whether it is.
-fn push_other(
-    text: &mut String,
-    krate: &Package,
-    next: Option<&&Package>,
-) -> Result<bool, AllocError> {
+fn push_other(text: &mut Text, krate: &Package, next: Option<&&Package>) -> bool {
     match next {
-        Some(next) if next.id == krate.id => Ok(true),
+        Some(next) if next.id == krate.id => true,
         _ => {
-            write!(text, "{}, ", krate.name())?;
-            Ok(false)
+            write!(text, "{}, ", krate.name());
+            false
         }
     }
 }
@@ -79,11 +71,11 @@ fn push_other(
 struct ForTests;
 
 impl Told<Package> for ForTests {
-    fn push(text: &mut String, krates: &Krates, _line: &str) -> Result<(), Fail> {
+    fn push(text: &mut Text, krates: &Krates, _line: &str) -> Result<(), Fail> {
         let needed = krates.krates_filtered(DepKind::Dev)?;
         let mut place = 0usize;
         for krate in krates.krates() {
-            if push_other(text, krate, needed.get(place))? {
+            if push_other(text, krate, needed.get(place)) {
                 place = place.saturating_add(1);
             }
         }
@@ -122,12 +114,12 @@ fn origin_of(krate: &Package) -> &'static str {
 struct Shipped;
 
 impl Told<Package> for Shipped {
-    fn push(text: &mut String, krates: &Krates, _line: &str) -> Result<(), Fail> {
+    fn push(text: &mut Text, krates: &Krates, _line: &str) -> Result<(), Fail> {
         for found in krates.krate_nodes() {
             let number = found.node_id.index();
             let above = krates.all_dependents(found.node_id)?.len();
             let origin = origin_of(found.krate);
-            write!(text, "{number} {} {origin} {above}, ", found.kid.name())?;
+            write!(text, "{number} {} {origin} {above}, ", found.kid.name());
         }
         Ok(())
     }

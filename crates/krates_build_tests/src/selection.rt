@@ -6,6 +6,7 @@ use krates_ids::Error;
 use krates_resolve::{KeptEdge, Selection};
 use krates_samples::documents::word_of;
 use krates_samples::table::{Row, hold};
+use krates_samples::text::Text;
 use std::alloc::{AllocError, Global};
 use std::test::Fail;
 
@@ -19,11 +20,10 @@ fn name_of(kind: DependencyKind) -> &'static str {
 }
 
 /// Adds the kept crates, each behind a plus sign.
-fn push_krates(text: &mut String, selection: &Selection) -> Result<(), AllocError> {
+fn push_krates(text: &mut Text, selection: &Selection) {
     for krate in selection.krates.as_slice() {
-        write!(text, "+{}", word_of(krate.repr()))?;
+        write!(text, "+{}", word_of(krate.repr()));
     }
-    Ok(())
 }
 
 /// The word of the kept crate of a number.
@@ -35,7 +35,7 @@ fn word_at(selection: &Selection, number: usize) -> &str {
 }
 
 /// Adds a kept edge, with its first place and that of its declared dependency.
-fn push_edge(text: &mut String, selection: &Selection, edge: &KeptEdge) -> Result<(), AllocError> {
+fn push_edge(text: &mut Text, selection: &Selection, edge: &KeptEdge) {
     let parent = word_at(selection, edge.parent);
     let child = word_at(selection, edge.child);
     let kind = name_of(edge.kind);
@@ -44,29 +44,27 @@ fn push_edge(text: &mut String, selection: &Selection, edge: &KeptEdge) -> Resul
 }
 
 /// Adds the kept edges.
-fn push_edges(text: &mut String, selection: &Selection) -> Result<(), AllocError> {
+fn push_edges(text: &mut Text, selection: &Selection) {
     for edge in selection.edges.as_slice() {
-        push_edge(text, selection, edge)?;
+        push_edge(text, selection, edge);
     }
-    Ok(())
 }
 
 /// Adds the enabled features, each behind its crate.
-fn push_features(text: &mut String, selection: &Selection) -> Result<(), AllocError> {
+fn push_features(text: &mut Text, selection: &Selection) {
     for feature in selection.features.as_slice() {
         let krate = word_at(selection, feature.krate);
-        write!(text, ", {krate}/{}", feature.name)?;
+        write!(text, ", {krate}/{}", feature.name);
     }
-    Ok(())
 }
 
 /// The kept crates, the kept edges and the enabled features.
 fn text_of(alloc: Global, selection: &Selection) -> Result<String, AllocError> {
-    let mut text = String::new(alloc);
-    push_krates(&mut text, selection)?;
-    push_edges(&mut text, selection)?;
-    push_features(&mut text, selection)?;
-    Ok(text)
+    let mut text = Text::new(alloc);
+    push_krates(&mut text, selection);
+    push_edges(&mut text, selection);
+    push_features(&mut text, selection);
+    text.whole()
 }
 
 /// What is selected, or the text of the refusal.

@@ -1,7 +1,7 @@
 //! The runs, and what stands in for cargo in them.
 
 use crate::command::read;
-use crate::table::{Question, Row, hold_beginnings};
+use crate::table::{Question, Row, compare, hold_beginnings};
 use krates_cargo::MetadataCommand;
 use krates_cm::Error;
 use krates_samples::stand_in::answer;
@@ -107,8 +107,8 @@ fn verbose_runs(rt: HostRuntime) -> Result<(), Fail> {
     let mut command = command(&rt, "--fake=fail")?;
     command.verbose(true);
     let told = told(&rt, &command)?;
-    assert_eq!(rt; told.as_str(), "`cargo metadata` exited with an error: ");
-    Ok(())
+    let expected = "`cargo metadata` exited with an error: ";
+    compare("a verbose run", told.as_str(), expected)
 }
 
 #[test]

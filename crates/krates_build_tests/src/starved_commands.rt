@@ -4,6 +4,7 @@ use crate::command::push_variables;
 use krates_cargo::{Cmd, Features, MetadataCommand};
 use krates_cm::Error;
 use krates_samples::starving::{Call, granted, other_refusal, refused, starved};
+use krates_samples::text::Text;
 use std::alloc::{AllocError, Global};
 use std::mem::replace;
 use std::test::Fail;
@@ -21,32 +22,32 @@ pub(crate) fn parts(alloc: Global, text: &str, between: char) -> Result<Vec<Stri
 }
 
 /// Adds the words behind `metadata --format-version 1`, each with a bar behind it.
-fn push_words(text: &mut String, words: &[String]) -> Result<(), AllocError> {
+fn push_words(text: &mut Text, words: &[String]) {
     for word in words.iter().skip(3) {
-        write!(text, "{word}|")?;
+        write!(text, "{word}|");
     }
-    Ok(())
 }
 
 /// Compares the words with what is known.
 fn are_told(alloc: Global, words: &[String], expected: &str) -> Result<bool, AllocError> {
-    let mut text = String::new(alloc);
-    push_words(&mut text, words)?;
-    Ok(text.as_str() == expected)
+    let mut text = Text::new(alloc);
+    push_words(&mut text, words);
+    Ok(text.whole()?.as_str() == expected)
 }
 
 /// Adds the variables that cargo is started with.
-fn push_environment(text: &mut String, command: &MetadataCommand) -> Result<(), Fail> {
+fn push_environment(text: &mut Text, command: &MetadataCommand) -> Result<(), Fail> {
     let cargo = command.cargo_command(None)?;
-    Ok(push_variables(text, &cargo, "|")?)
+    push_variables(text, &cargo, "|");
+    Ok(())
 }
 
 /// Compares the variables that a command sets, and its words, with what is known.
 fn is_told(alloc: Global, command: &MetadataCommand, expected: &str) -> Result<bool, Fail> {
-    let mut text = String::new(alloc);
+    let mut text = Text::new(alloc);
     push_environment(&mut text, command)?;
-    push_words(&mut text, &command.args()?)?;
-    Ok(text.as_str() == expected)
+    push_words(&mut text, &command.args()?);
+    Ok(text.whole()?.as_str() == expected)
 }
 
 /// A call on a command that has a feature, a variable and other settings.

@@ -4,49 +4,47 @@ use crate::of_document::{OfDocument, OfSelection, ToldOfSelection};
 use krates_ids::Error;
 use krates_resolve::{NumberedFact, NumberedStep, Selection};
 use krates_samples::table::{Row, hold};
+use krates_samples::text::Text;
 use std::alloc::{AllocError, Global};
 use std::test::Fail;
 
 /// Adds a fact by its numbers.
-fn push_fact(text: &mut String, fact: NumberedFact) -> Result<(), AllocError> {
+fn push_fact(text: &mut Text, fact: NumberedFact) {
     match fact {
-        NumberedFact::Crate { place } => write!(text, "crate {}", place.index)?,
-        NumberedFact::Feature { number } => write!(text, "feature {number}")?,
+        NumberedFact::Crate { place } => write!(text, "crate {}", place.index),
+        NumberedFact::Feature { number } => write!(text, "feature {number}"),
         NumberedFact::Kept { place, index, kind } => {
-            write!(text, "edge {}.{index}.{kind}", place.index)?
+            write!(text, "edge {}.{index}.{kind}", place.index)
         }
         NumberedFact::Toggled { place, number } => {
-            write!(text, "toggled {number} by {}", place.index)?
+            write!(text, "toggled {number} by {}", place.index)
         }
     }
-    Ok(())
 }
 
 /// Adds a step that is used, where there is one.
-fn push_use(text: &mut String, used: Option<usize>) -> Result<(), AllocError> {
+fn push_use(text: &mut Text, used: Option<usize>) {
     if let Some(step) = used {
-        write!(text, " <{step}")?;
+        write!(text, " <{step}");
     }
-    Ok(())
 }
 
 /// Adds a step: the number of its rule, its fact and what it uses.
-fn push_step(text: &mut String, step: &NumberedStep) -> Result<(), AllocError> {
-    write!(text, "{} ", step.reason.rule)?;
-    push_fact(text, step.fact)?;
-    push_use(text, step.reason.uses.first)?;
-    push_use(text, step.reason.uses.second)?;
-    text.push_str("; ")?;
-    Ok(())
+fn push_step(text: &mut Text, step: &NumberedStep) {
+    write!(text, "{} ", step.reason.rule);
+    push_fact(text, step.fact);
+    push_use(text, step.reason.uses.first);
+    push_use(text, step.reason.uses.second);
+    text.push_str("; ");
 }
 
 /// Each step of a selection, in order.
 fn steps_of(alloc: Global, selection: &Selection) -> Result<String, AllocError> {
-    let mut text = String::new(alloc);
+    let mut text = Text::new(alloc);
     for step in selection.steps.as_slice() {
-        push_step(&mut text, step)?;
+        push_step(&mut text, step);
     }
-    Ok(text)
+    text.whole()
 }
 
 /// The steps of a selection, or the text of the refusal.

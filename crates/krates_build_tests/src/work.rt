@@ -3,19 +3,21 @@
 use crate::of_graph::{OfGraph, Told};
 use krates::{Krates, Package};
 use krates_samples::table::{Row, hold};
+use krates_samples::text::Text;
 use std::test::Fail;
 
 /// How many crates, features and references a build of the document counted.
 struct Worked;
 
 impl Told<Package> for Worked {
-    fn push(text: &mut String, krates: &Krates, _line: &str) -> Result<(), Fail> {
+    fn push(text: &mut Text, krates: &Krates, _line: &str) -> Result<(), Fail> {
         let work = krates.work();
-        Ok(write!(
+        write!(
             text,
             "{}, {}, {}",
             work.krates, work.features, work.references
-        )?)
+        );
+        Ok(())
     }
 }
 

@@ -142,11 +142,8 @@ fn written(rt: &HostRuntime, cargo: &str) -> Result<String, Fail> {
 fn lines_by_cargo(rt: HostRuntime) -> Result<(), Fail> {
     let this = env::current_exe(&rt)?;
     let told = written(&rt, this.as_str())?;
-    assert_eq!(rt;
-        told.as_str(),
-        "+ path+file:///w/a#0.1.0\n+ path+file:///w/b#0.1.0\n"
-    );
-    Ok(())
+    let expected = "+ path+file:///w/a#0.1.0\n+ path+file:///w/b#0.1.0\n";
+    compare("lines by cargo", told.as_str(), expected)
 }
 
 #[test]

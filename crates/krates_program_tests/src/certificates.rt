@@ -8,6 +8,7 @@ use krates_words::{CheckWords, check_words_of};
 use std::alloc::Global;
 use std::test::Fail;
 
+/// Certificates, as they are written.
 const CERTIFICATES: &[Row] = &[
     (
         "certify b < a b&dev|b",
@@ -24,12 +25,6 @@ const CERTIFICATES: &[Row] = &[
     ),
     ("certify z < a", "refused: no package fits `z`"),
 ];
-
-/// Certificates, as they are written.
-#[test]
-fn certificates(rt: HostRuntime) -> Result<(), Fail> {
-    hold::<Answered>(rt.alloc(), CERTIFICATES)
-}
 
 /// What is written where a certificate holds of what is asked and a document, or why it doesn't.
 fn written(
@@ -85,6 +80,7 @@ impl Question for Certified {
     }
 }
 
+/// Certificates that are written, as the program that checks them judges them.
 const CERTIFIED: &[Row] = &[
     (
         "certify b < a b|b => --metadata m < a b|b",
@@ -148,12 +144,6 @@ const CERTIFIED: &[Row] = &[
     ),
 ];
 
-/// Certificates that are written, as the program that checks them judges them.
-#[test]
-fn certificates_checked(rt: HostRuntime) -> Result<(), Fail> {
-    hold::<Certified>(rt.alloc(), CERTIFIED)
-}
-
 /// A certificate, without a name behind its document: what the checker says of it about the document `a b|b`.
 struct ByHand;
 
@@ -163,6 +153,7 @@ impl Question for ByHand {
     }
 }
 
+/// Certificates that are written by hand, as they are judged.
 const BY_HAND: &[Row] = &[
     // what the last step says, whatever the others say
     (
@@ -197,8 +188,9 @@ const BY_HAND: &[Row] = &[
     ),
 ];
 
-/// Certificates that are written by hand, as they are judged.
 #[test]
-fn certificates_by_hand(rt: HostRuntime) -> Result<(), Fail> {
+fn certificates_written_checked_and_by_hand(rt: HostRuntime) -> Result<(), Fail> {
+    hold::<Answered>(rt.alloc(), CERTIFICATES)?;
+    hold::<Certified>(rt.alloc(), CERTIFIED)?;
     hold::<ByHand>(rt.alloc(), BY_HAND)
 }

@@ -110,8 +110,7 @@ fn refuses_what_is_no_document(rt: HostRuntime) -> Result<(), Fail> {
 #[test]
 fn refuses_what_is_not_utf_8(rt: HostRuntime) -> Result<(), Fail> {
     let told = outcome(rt.alloc(), &[], [0xffu8].as_slice())?;
-    assert_eq!(rt; told.as_str(), "1 refused: input is not UTF-8\n|");
-    Ok(())
+    compare("\\xff", told.as_str(), "1 refused: input is not UTF-8\n|")
 }
 
 /// A reader whose first read gives one byte, and whose every further read fails.
@@ -155,7 +154,7 @@ fn refuses_where_the_second_read_fails(rt: HostRuntime) -> Result<(), Fail> {
     let mut input = Counted::new(FailsSecond { has_read: false });
     let mut output = Counted::new(Vec::new(rt.alloc()));
     let told = told(rt.alloc(), &[], &mut input, &mut output)?;
-    assert_eq!(rt; told.as_str(), "1 refused: read failed\n");
+    compare("a read", told.as_str(), "1 refused: read failed\n")?;
     assert!(rt; input.failures() == 1 && output.get_ref().is_empty());
     Ok(())
 }
@@ -197,8 +196,7 @@ fn answers_the_usage_line_to_an_unknown_word(rt: HostRuntime) -> Result<(), Fail
         FailsSecond { has_read: false },
     )?;
     let expected = format!(in rt.alloc(); "2 {USAGE}|")?;
-    assert_eq!(rt; told.as_str(), expected.as_str());
-    Ok(())
+    compare("--nope", told.as_str(), expected.as_str())
 }
 
 /// Compares the status, and what goes to standard error, with those that are known, where words couldn't be read for this reason.
@@ -233,9 +231,9 @@ fn refusals_of_a_run_are_printed(rt: HostRuntime) -> Result<(), Fail> {
         RunError::Memory,
         RunError::NotKept(kid_of(rt.alloc(), "b")?)
     )?;
-    assert_eq!(rt;
+    compare(
+        "refusals",
         told.as_str(),
-        "read failed, input is not UTF-8, write failed, out of memory, not kept: path+file:///w/b#0.1.0"
-    );
-    Ok(())
+        "read failed, input is not UTF-8, write failed, out of memory, not kept: path+file:///w/b#0.1.0",
+    )
 }

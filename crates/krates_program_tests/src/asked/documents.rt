@@ -4,6 +4,7 @@ use crate::asked::Answered;
 use krates_samples::table::{Row, hold};
 use std::test::Fail;
 
+/// What one document has and another lacks.
 const DIFFERENCES: &[Row] = &[
     ("diff OTHER < a b|b // a b|b", ""),
     (
@@ -26,12 +27,7 @@ const DIFFERENCES: &[Row] = &[
     ("diff OTHER < a", "refused: there is no second document"),
 ];
 
-/// What one document has and another lacks.
-#[test]
-fn differences(rt: HostRuntime) -> Result<(), Fail> {
-    hold::<Answered>(rt.alloc(), DIFFERENCES)
-}
-
+/// The bill of materials.
 const BILLS: &[Row] = &[
     (
         "sbom < a b&dev&crates.io|b&crates.io",
@@ -43,12 +39,7 @@ const BILLS: &[Row] = &[
     ),
 ];
 
-/// The bill of materials.
-#[test]
-fn bills(rt: HostRuntime) -> Result<(), Fail> {
-    hold::<Answered>(rt.alloc(), BILLS)
-}
-
+/// The drawn graph, and what its queries answer.
 const SCRIPTS: &[Row] = &[
     (
         "graph < a b;f=b/y|b;y=",
@@ -60,8 +51,9 @@ const SCRIPTS: &[Row] = &[
     ),
 ];
 
-/// The drawn graph, and what its queries answer.
 #[test]
-fn lines_for_scripts(rt: HostRuntime) -> Result<(), Fail> {
+fn differences_bills_and_lines_for_scripts(rt: HostRuntime) -> Result<(), Fail> {
+    hold::<Answered>(rt.alloc(), DIFFERENCES)?;
+    hold::<Answered>(rt.alloc(), BILLS)?;
     hold::<Answered>(rt.alloc(), SCRIPTS)
 }

@@ -4,6 +4,7 @@ use crate::asked::Answered;
 use krates_samples::table::{Row, hold};
 use std::test::Fail;
 
+/// The kept crates, and which part of a document counts.
 const LISTS: &[Row] = &[
     ("list < a b|b", "a v0.1.0 (/w/a)\nb v0.1.0 (/w/b)\n"),
     (
@@ -71,12 +72,7 @@ const LISTS: &[Row] = &[
     ),
 ];
 
-/// The kept crates, and which part of a document counts.
-#[test]
-fn lists(rt: HostRuntime) -> Result<(), Fail> {
-    hold::<Answered>(rt.alloc(), LISTS)
-}
-
+/// The names of several kept crates.
 const DUPLICATES: &[Row] = &[
     ("duplicates < a b|b", ""),
     (
@@ -101,12 +97,7 @@ const DUPLICATES: &[Row] = &[
     ),
 ];
 
-/// The names of several kept crates.
-#[test]
-fn duplicate_names(rt: HostRuntime) -> Result<(), Fail> {
-    hold::<Answered>(rt.alloc(), DUPLICATES)
-}
-
+/// The licences of the kept crates.
 const LICENCES: &[Row] = &[
     (
         "licences < a b|b",
@@ -122,12 +113,7 @@ const LICENCES: &[Row] = &[
     ),
 ];
 
-/// The licences of the kept crates.
-#[test]
-fn licences(rt: HostRuntime) -> Result<(), Fail> {
-    hold::<Answered>(rt.alloc(), LICENCES)
-}
-
+/// What the kept crates are used for.
 const USES: &[Row] = &[
     (
         "uses < a b c&build d&dev|b|c b|d c",
@@ -155,8 +141,10 @@ const USES: &[Row] = &[
     ),
 ];
 
-/// What the kept crates are used for.
 #[test]
-fn uses(rt: HostRuntime) -> Result<(), Fail> {
+fn lists_duplicate_names_licences_and_uses(rt: HostRuntime) -> Result<(), Fail> {
+    hold::<Answered>(rt.alloc(), LISTS)?;
+    hold::<Answered>(rt.alloc(), DUPLICATES)?;
+    hold::<Answered>(rt.alloc(), LICENCES)?;
     hold::<Answered>(rt.alloc(), USES)
 }

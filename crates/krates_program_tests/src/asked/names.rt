@@ -4,6 +4,7 @@ use crate::asked::{Answered, CargoTold};
 use krates_samples::table::{Row, hold};
 use std::test::Fail;
 
+/// Which crate a word means.
 const NAMES: &[Row] = &[
     (
         "why b@0.1.0 < a b|b",
@@ -109,12 +110,7 @@ const NAMES: &[Row] = &[
     ),
 ];
 
-/// Which crate a word means.
-#[test]
-fn names(rt: HostRuntime) -> Result<(), Fail> {
-    hold::<Answered>(rt.alloc(), NAMES)
-}
-
+/// Words that ask for nothing.
 const WORDS: &[Row] = &[
     (
         "",
@@ -175,12 +171,7 @@ const WORDS: &[Row] = &[
     ),
 ];
 
-/// Words that ask for nothing.
-#[test]
-fn words(rt: HostRuntime) -> Result<(), Fail> {
-    hold::<Answered>(rt.alloc(), WORDS)
-}
-
+/// The words with which cargo is run.
 const CARGO: &[Row] = &[
     ("list", "metadata --format-version 1"),
     (
@@ -201,8 +192,9 @@ const CARGO: &[Row] = &[
     ),
 ];
 
-/// The words with which cargo is run.
 #[test]
-fn words_for_cargo(rt: HostRuntime) -> Result<(), Fail> {
+fn names_words_and_words_for_cargo(rt: HostRuntime) -> Result<(), Fail> {
+    hold::<Answered>(rt.alloc(), NAMES)?;
+    hold::<Answered>(rt.alloc(), WORDS)?;
     hold::<CargoTold>(rt.alloc(), CARGO)
 }

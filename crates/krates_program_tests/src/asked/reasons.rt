@@ -4,6 +4,7 @@ use crate::asked::Answered;
 use krates_samples::table::{Row, hold};
 use std::test::Fail;
 
+/// Why a crate is kept.
 const WHYS: &[Row] = &[
     (
         "why a < a",
@@ -47,12 +48,7 @@ const WHYS: &[Row] = &[
     ),
 ];
 
-/// Why a crate is kept.
-#[test]
-fn whys(rt: HostRuntime) -> Result<(), Fail> {
-    hold::<Answered>(rt.alloc(), WHYS)
-}
-
+/// Which features of a crate are enabled.
 const FEATURES: &[Row] = &[
     (
         "features a < a;f=g g=",
@@ -85,12 +81,7 @@ const FEATURES: &[Row] = &[
     ),
 ];
 
-/// Which features of a crate are enabled.
-#[test]
-fn features(rt: HostRuntime) -> Result<(), Fail> {
-    hold::<Answered>(rt.alloc(), FEATURES)
-}
-
+/// Whether it is certain that nothing leads to a package.
 const UNREACHABLE: &[Row] = &[
     (
         "unreachable c < a b|b|c",
@@ -123,8 +114,9 @@ const UNREACHABLE: &[Row] = &[
     ),
 ];
 
-/// Whether it is certain that nothing leads to a package.
 #[test]
-fn unreachable_packages(rt: HostRuntime) -> Result<(), Fail> {
+fn whys_features_and_unreachable_packages(rt: HostRuntime) -> Result<(), Fail> {
+    hold::<Answered>(rt.alloc(), WHYS)?;
+    hold::<Answered>(rt.alloc(), FEATURES)?;
     hold::<Answered>(rt.alloc(), UNREACHABLE)
 }

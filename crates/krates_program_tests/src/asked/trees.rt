@@ -4,6 +4,7 @@ use crate::asked::Answered;
 use krates_samples::table::{Row, hold};
 use std::test::Fail;
 
+/// What a crate or the members need.
 const TREES: &[Row] = &[
     ("tree < a", "a v0.1.0 (/w/a)\n"),
     (
@@ -50,12 +51,7 @@ const TREES: &[Row] = &[
     ),
 ];
 
-/// What a crate or the members need.
-#[test]
-fn trees(rt: HostRuntime) -> Result<(), Fail> {
-    hold::<Answered>(rt.alloc(), TREES)
-}
-
+/// Who needs a crate.
 const DEPENDENTS: &[Row] = &[
     (
         "dependents c < a b c|b c|c",
@@ -80,8 +76,8 @@ const DEPENDENTS: &[Row] = &[
     ),
 ];
 
-/// Who needs a crate.
 #[test]
-fn dependents(rt: HostRuntime) -> Result<(), Fail> {
+fn trees_and_dependents(rt: HostRuntime) -> Result<(), Fail> {
+    hold::<Answered>(rt.alloc(), TREES)?;
     hold::<Answered>(rt.alloc(), DEPENDENTS)
 }
