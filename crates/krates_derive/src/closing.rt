@@ -50,7 +50,8 @@ impl<'a, 's> ClosureCheck<'a, 's> {
         ensures { IsTrue result
             ↔ RootIn (document_in self.now) (setting_in self.now) (facts_in self.now) (id_of krate.now) }
     {
-        match self.context.document.availability(self.context.setting, krate) {
+        let context = &self.context;
+        match context.document.availability(context.setting, krate) {
             Availability::Available(_) => self.is_stock_in(krate),
             Availability::NoPackage => false,
             Availability::NoNode => false,
@@ -119,7 +120,7 @@ impl<'a, 's> ClosureCheck<'a, 's> {
             (λ b. IsTrue b ↔ EdgeIn (document_in self.now) (setting_in self.now) (facts_in self.now)
             (edge_of_ref edge.now) asked) }
     {
-        match edge.need(self.context.alloc, self.context.document, self.context.setting)? {
+        match edge.need(&self.context)? {
             Need::Nothing => Ok(true),
             Need::Undeclared => Ok(asked),
             Need::Wanted(dependency) => {
@@ -136,7 +137,8 @@ impl<'a, 's> ClosureCheck<'a, 's> {
         ensures { IsTrue result
             ↔ ChildIn (document_in self.now) (setting_in self.now) (facts_in self.now) (edge_of_ref edge.now) }
     {
-        match self.context.document.availability(self.context.setting, edge.child) {
+        let context = &self.context;
+        match context.document.availability(context.setting, edge.child) {
             Availability::Available(_) => self.facts.has(&FactRef::Kept(*edge)),
             Availability::NoPackage => false,
             Availability::NoNode => false,
@@ -150,10 +152,10 @@ impl<'a, 's> ClosureCheck<'a, 's> {
             (λ b. IsTrue b ↔ EdgesToIn (document_in self.now) (setting_in self.now) (facts_in self.now)
             (id_of krate.now) dep.now) }
     {
-        let referents = self
-            .context
+        let context = &self.context;
+        let referents = context
             .document
-            .referents(self.context.alloc, self.context.setting, krate, dep)?;
+            .referents(context.alloc, context.setting, krate, dep)?;
         for referent in &referents {
             if !self.are_edges_in(krate, referent.id, true)? {
                 return Ok(false);
@@ -170,10 +172,10 @@ impl<'a, 's> ClosureCheck<'a, 's> {
             (λ b. IsTrue b ↔ DepIn (document_in self.now) (setting_in self.now) (facts_in self.now)
             (id_of krate.now) dep.now name.now) }
     {
-        let referents = self
-            .context
+        let context = &self.context;
+        let referents = context
             .document
-            .referents(self.context.alloc, self.context.setting, krate, dep)?;
+            .referents(context.alloc, context.setting, krate, dep)?;
         for referent in &referents {
             if !self.is_meant_in(krate, referent.id, name) {
                 return Ok(false);

@@ -16,29 +16,30 @@ ghost use Rattle.krates_rules.specs.StepViews.{fact_view};
 use crate::fact_ref::FactRef::{Crate, Feature, Kept, Toggled};
 use crate::fact_ref::{EdgeRef, FactRef, FeatureRef, ToggleRef};
 use krates_cm::Dependency;
-use krates_document::Setting;
 use krates_ids::Kid;
 use krates_questions::context::Context;
 use krates_questions::questions::is_same;
 use krates_questions::{Document, Need};
 use krates_rules::Fact;
 use krates_text::texts::has_text;
-use std::alloc::{AllocError, Global};
+use std::alloc::AllocError;
 
 // ---- edges
 
 impl<'a> EdgeRef<'a> {
     /// What is needed for the edge.
-    pub(crate) fn need(
-        &self,
-        alloc: Global,
-        document: &Document<'a>,
-        setting: &Setting,
-    ) -> Result<Need<'a>, AllocError>
-        ensures { IfOk result (TellsNeed (resolved_view document.now) setting.now (edge_of_ref self.now)) }
+    pub(crate) fn need(&self, context: &Context<'a, '_>) -> Result<Need<'a>, AllocError>
+        ensures { IfOk result (TellsNeed (document_of context.now) context.now.setting.now
+            (edge_of_ref self.now)) }
     {
         let info = self.info()?;
-        document.need(alloc, setting, self.parent, self.child, &info)
+        context.document.need(
+            context.alloc,
+            context.setting,
+            self.parent,
+            self.child,
+            &info,
+        )
     }
 
     /// The dependency that the edge is declared as.
@@ -58,7 +59,7 @@ impl<'a> EdgeRef<'a> {
             let s = context.now.setting.now in
             IfOk result (λ b. IsTrue b ↔ MayKeep r s (edge_of_ref self.now) asked) }
     {
-        match self.need(context.alloc, context.document, context.setting)? {
+        match self.need(context)? {
             Need::Wanted(dependency) => {
                 if !is_taken(asked, dependency) {
                     return Ok(false);

@@ -49,7 +49,8 @@ impl<'a, 's> KeptTables<'a, 's> {
         numbers: &'s [Option<usize>],
     ) -> KeptTables<'a, 's>
         requires ascending { IsStrictlySortedBy id_cmp krates.now }
-        requires numbered { AreNumbersOf (map id_of krates.now) context.document.now.ids.now.table.ids.items numbers.now }
+        requires numbered { AreNumbersOf (map id_of krates.now)
+            context.document.now.ids.now.table.ids.items numbers.now }
         ensures context { result.context ≡ context.entry }
         ensures krates { result.krates.now ≡ krates.now }
         ensures numbers { result.numbers.now ≡ numbers.now }

@@ -29,11 +29,11 @@ returns-in_ok-is_dep_in-in-Strong c =
     let a = strong c.in-Strong.dep.now c.in-Strong.feature.now in
     let here = subst (λ t. IsReference t a) c.from.ensures c.in-Strong.ensures in
     reference_told (c.one_reference.ensures c.args.text.now) (document_in c.args.check.now) (setting_in c.args.check.now) (facts_in c.args.check.now) (id_of c.args.krate.now) a _ here
-      (λ t. (c.in_ok-are_edges_to_in-in-Strong.ensures.0 c.if-branch.true, c.in_ok-is_dep_in-in-Strong.ensures.0 t), λ h. c.in_ok-is_dep_in-in-Strong.ensures.1 h.1)
+    (λ t. (c.in_ok-are_edges_to_in-in-Strong.ensures.0 c.if-branch.true, c.in_ok-is_dep_in-in-Strong.ensures.0 t), λ h. c.in_ok-is_dep_in-in-Strong.ensures.1 h.1)
 
 pub returns-else-branch : goal.returns-else-branch
 returns-else-branch c =
     let a = strong c.in-Strong.dep.now c.in-Strong.feature.now in
     let here = subst (λ t. IsReference t a) c.from.ensures c.in-Strong.ensures in
     reference_told (c.one_reference.ensures c.args.text.now) (document_in c.args.check.now) (setting_in c.args.check.now) (facts_in c.args.check.now) (id_of c.args.krate.now) a _ here
-      (λ t. absurd cc, λ h. absurd (cc (c.in_ok-are_edges_to_in-in-Strong.ensures.1 h.0, c.if-branch.false)))
+    (λ t. absurd cc, λ h. absurd (cc (c.in_ok-are_edges_to_in-in-Strong.ensures.1 h.0, c.if-branch.false)))
