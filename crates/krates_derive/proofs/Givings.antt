@@ -1,5 +1,5 @@
 -- What a document gives from single edges, and when all of that stands in a list.
-use Rattle.std.proofs.Common.{◌≡◌, ◌↔◌, List, Bool, true, false, IsTrue, Contains, refl, subst}
+use Rattle.std.proofs.Common.{◌↔◌, List, Bool, true, false, IsTrue, Contains, refl, subst}
 use Rattle.krates_cm.specs.Document.{DependencyModel, DepKindInfoModel}
 use Rattle.krates_derive.specs.Giving.{IsTaken, ChildIn, EdgeIn}
 use Rattle.krates_rules.specs.Facts.{Id, Edge, Fact, Kept}
