@@ -1,5 +1,5 @@
 -- The nodes of enabled features: how they are ordered, and what a search for one finds.
-use Rattle.std.proofs.Common.{◌≡◌, ◌↔◌, ℕ, zero, suc, ◌<◌, ◌≤◌, List, [], ◌∷◌, length, get_or, Option, Some, None, option_map, slice_get, Contains, true, Ordering, Less, Equal, Greater, HoldsAt, rules, refl, sym, ap, ◌∙◌, subst, inl, inr, arith}
+use Rattle.std.proofs.Common.{◌≡◌, ◌↔◌, ℕ, zero, suc, ◌<◌, ◌≤◌, List, [], ◌∷◌, length, get_or, Option, Some, None, option_map, true, Ordering, Less, Equal, Greater, HoldsAt, rules, refl, sym, ap, ◌∙◌, subst, inl, inr, arith}
 use Rattle.std.proofs.lemmas.Map.Text.{is_eq-slice_cmp}
 use Rattle.std.proofs.lemmas.Option.{slice_get-get_or, get_or_from_slice_get, slice_get_within, slice_get_cases}
 use Rattle.std.specs.BTreeSet.{BTreeSet}
@@ -16,7 +16,6 @@ use Rattle.krates_cm.specs.Document.{Text, text_view}
 use Rattle.krates_drawing.proofs.EqualRanges.{weakly}
 use Rattle.krates_ids.specs.Identity.{Identity}
 use Rattle.krates_rules.specs.Facts.{Id}
-use Rattle.krates_rules.specs.Resolved.{StandsAt}
 use Rattle.krates_queries.specs.GetNode.{IsNumberFor}
 use Rattle.krates_queries.specs.Kept.{AreNodes, IsEnabledIn, feature_order}
 use Rattle.krates_drawing.specs.Node.{CratesFirst, IsFeature, IsFeatureAt, crate_features, crate_ids, feature_names}

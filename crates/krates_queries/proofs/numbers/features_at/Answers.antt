@@ -1,4 +1,4 @@
-use Rattle.std.proofs.Common.{◌≡◌, Some, None, slice_get, sym}
+use Rattle.std.proofs.Common.{◌≡◌, Some, slice_get, sym}
 use Rattle.krates_drawing.specs.declared.node.Node.TheVariants.{Krate, Feature}
 use Rattle.krates_queries.proofs.NodeLemmas.{place_at, no_place, none_past}
 use Rattle.krates_queries.proofs.numbers.features_at.Goals as goal

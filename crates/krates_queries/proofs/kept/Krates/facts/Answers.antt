@@ -1,9 +1,8 @@
-use Rattle.std.proofs.Common.{◌≡◌, ◌∙◌, All, Bor, List, map, sym, subst, ap}
+use Rattle.std.proofs.Common.{◌≡◌, ◌∙◌, All, Bor, List, map, subst, ap}
 use Rattle.std.proofs.lemmas.Result.{IfOk-weaker}
 use Rattle.std.specs.Global.{Vec}
 use Rattle.krates_drawing.specs.Node.{crate_ids}
 use Rattle.krates_ids.specs.Identity.{Identity}
-use Rattle.krates_rules.specs.StepParts.{HaveOwnFacts}
 use Rattle.krates_rules.specs.StepViews.{facts_view}
 use Rattle.krates_rules.specs.declared.derivation.Fact.{Fact}
 use Rattle.krates_selection.specs.Explanation.{HasTheseIds, explained_steps, kids_of}

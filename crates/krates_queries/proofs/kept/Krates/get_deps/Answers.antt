@@ -1,4 +1,3 @@
-use Rattle.std.proofs.Common.{◌≡◌, ◌<◌, length, All, sym, subst}
 use Rattle.krates_graph.proofs.GraphLemmas.{numbers_at-below}
 use Rattle.krates_graph.specs.declared.graph.edge.Direction.TheVariants.{Outgoing}
 use Rattle.krates_graph.specs.Graph.{numbers_at}

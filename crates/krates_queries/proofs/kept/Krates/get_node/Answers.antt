@@ -1,7 +1,5 @@
-use Rattle.std.proofs.Common.{◌≡◌, ◌<◌, ℕ, Some, None, Option, length, option_map, arith, refl, sym, ap, subst}
+use Rattle.std.proofs.Common.{◌≡◌, ℕ, Some, None, option_map, arith, refl, ap}
 use Rattle.krates_rules.specs.Resolved.{id_of}
-use Rattle.krates_drawing.specs.declared.node.Node.{Node}
-use Rattle.krates_queries.specs.GetNode.{IsNumberFor}
 use Rattle.krates_queries.proofs.FeatureNodes.{enabled_told, number_among}
 use Rattle.krates_queries.proofs.kept.Krates.get_node.Goals as goal
 

@@ -1,5 +1,3 @@
-use Rattle.std.proofs.Common.{◌≡◌, length, ap}
-use Rattle.krates_queries.specs.Kept.{KeptCrates, values_of, ids_of}
 use Rattle.krates_queries.proofs.NodeLemmas.{as_many_values}
 use Rattle.krates_queries.proofs.kept.Krates.krates.Goals as goal
 

@@ -1,5 +1,5 @@
-use Rattle.std.proofs.Common.{◌≡◌, ◌<◌, ◌^◌, ◌∙◌, ℕ, Some, length, arith, refl, sym, ap}
-use Rattle.krates_rules.specs.Resolved.{id_of, StandsAt}
+use Rattle.std.proofs.Common.{◌≡◌, ◌<◌, ℕ, Some, length, arith, refl, ap}
+use Rattle.krates_rules.specs.Resolved.{id_of}
 use Rattle.krates_drawing.specs.Node.{crate_ids}
 use Rattle.krates_rules.proofs.OrderedIds.{stands_within}
 use Rattle.krates_queries.proofs.kept.Krates.nid_for_kid.Goals as goal

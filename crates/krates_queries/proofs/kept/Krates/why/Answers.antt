@@ -1,4 +1,4 @@
-use Rattle.std.proofs.Common.{◌≡◌, ◌∙◌, ◌<◌, Bor, List, Some, length, map, option_map, rules, sym, subst, ap}
+use Rattle.std.proofs.Common.{◌≡◌, ◌∙◌, Bor, List, Some, map, option_map, rules, sym, subst, ap}
 use Rattle.std.proofs.lemmas.Option.{slice_get_within}
 use Rattle.std.specs.List.{slice_get}
 use Rattle.krates_drawing.specs.Node.{crate_ids}

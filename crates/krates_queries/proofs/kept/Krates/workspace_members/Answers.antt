@@ -1,4 +1,4 @@
-use Rattle.std.proofs.Common.{◌≡◌, ◌<◌, length, get_or, arith, sym, subst}
+use Rattle.std.proofs.Common.{◌<◌, length, get_or, arith, sym, subst}
 use Rattle.krates_drawing.specs.Node.{crate_ids}
 use Rattle.krates_queries.proofs.NodeLemmas.{crates_within}
 use Rattle.krates_queries.proofs.kept.Krates.workspace_members.Goals as goal

@@ -1,4 +1,4 @@
-use Rattle.std.proofs.Common.{◌≡◌, ℕ, length}
+use Rattle.std.proofs.Common.{◌≡◌, length}
 use Rattle.krates_drawing.specs.Node.{crate_values}
 use Rattle.krates_queries.proofs.kept.KratesIterIterator.next.Given as goal
 

@@ -1,6 +1,6 @@
-use Rattle.std.proofs.Common.{◌≡◌, ◌∙◌, Some, None, List, slice_get, length, arith, refl, sym, ap}
+use Rattle.std.proofs.Common.{◌≡◌, Some, slice_get, arith}
 use Rattle.std.proofs.lemmas.Option.{slice_get-get_or}
-use Rattle.krates_ids.specs.Identity.{Identity, empty_identity}
+use Rattle.krates_ids.specs.Identity.{empty_identity}
 use Rattle.krates_drawing.specs.Node.{crate_ids}
 use Rattle.krates_drawing.specs.declared.node.Node.TheVariants.{Krate, Feature}
 use Rattle.krates_queries.proofs.NodeLemmas.{crates_within, no_place, value_at}

@@ -1,4 +1,4 @@
-use Rattle.std.proofs.Common.{◌≡◌, ◌∙◌, ℕ, ◌+◌, Contains, take, refl, sym, inl, inr}
+use Rattle.std.proofs.Common.{◌≡◌, ◌∙◌, ◌+◌, Contains, take, sym, inl, inr}
 use Rattle.krates_queries.proofs.ReachedLemmas.{grows_both, in_front, put_grows}
 use Rattle.krates_queries.proofs.queries.krates_filtered.put_all.Goals as goal
 

@@ -1,5 +1,5 @@
-use Rattle.std.proofs.Common.{◌<◌, length, All}
-use Rattle.std.proofs.lemmas.List.Elements.{All-head, All-rest, All-same}
+use Rattle.std.proofs.Common.{◌<◌, length}
+use Rattle.std.proofs.lemmas.List.Elements.{All-rest}
 use Rattle.krates_queries.proofs.queries.get_deps.DepsIterator.next.Goals as goal
 
 pub invariant_of-self : goal.invariant_of-self
