@@ -88,9 +88,14 @@ def functions(text):
     return {it[1]: text[it.start() : closed(text, text.index("{", it.end()))] for it in FUNCTION.finditer(text)}
 
 
+def walks(body, table):
+    """Whether the function walks the table, or has it walked: one that hands it on otherwise makes what is asked of it."""
+    return re.search(rf"\bhold\w*(::<.*?>)?\([^;]*\b{table}\b|\bin {table}\b", body)
+
+
 def way(bodies, tests, table):
-    """Returns the functions from one that names the table to a test, or nothing."""
-    ways = [[name] for name, body in bodies.items() if re.search(rf"\b{table}\b", body)]
+    """Returns the functions from one that walks the table to a test, or nothing."""
+    ways = [[name] for name, body in bodies.items() if (re.search(rf"\b{table}\b", body) if name in tests else walks(body, table))]
     for found in ways:
         if found[-1] in tests:
             return found
