@@ -19,7 +19,7 @@ import pathlib
 import sys
 
 from check import over_gate, sources
-from krates_sources import crates, wrong_words
+from krates_sources import crates, do_word, wrong_words
 
 
 def check_sources(given):
@@ -53,13 +53,5 @@ def check_over_gate(given):
 WORDS = {"sources": check_sources, "over-gate": check_over_gate}
 
 
-def main(given):
-    """Does what the words ask; the status."""
-    word = (given or [""])[0]
-    if word not in WORDS:
-        return wrong_words(__doc__, f"no such word: {word}" if word else "a word is missing")
-    return WORDS[word](given[1:])
-
-
 if __name__ == "__main__":
-    sys.exit(main(sys.argv[1:]))
+    sys.exit(do_word(__doc__, WORDS, sys.argv[1:]))

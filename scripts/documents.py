@@ -18,7 +18,7 @@ import pathlib
 import sys
 
 from documents import damage, make
-from krates_sources import wrong_words
+from krates_sources import do_word, wrong_words
 
 
 def make_one(given):
@@ -48,13 +48,5 @@ def damage_some(given):
 WORDS = {"make": make_one, "damage": damage_some}
 
 
-def main(given):
-    """Does what the words ask; the status."""
-    word = (given or [""])[0]
-    if word not in WORDS:
-        return wrong_words(__doc__, f"no such word: {word}" if word else "a word is missing")
-    return WORDS[word](given[1:])
-
-
 if __name__ == "__main__":
-    sys.exit(main(sys.argv[1:]))
+    sys.exit(do_word(__doc__, WORDS, sys.argv[1:]))

@@ -25,6 +25,14 @@ def wrong_words(usage, cause):
     return 2
 
 
+def do_word(usage, words, given):
+    """Does what the first word of a command asks, with those behind it; the status."""
+    word = (given or [""])[0]
+    if word not in words:
+        return wrong_words(usage, f"no such word: {word}" if word else "a word is missing")
+    return words[word](given[1:])
+
+
 def crates(root=ROOT):
     """The crates of a repository in the order of its crates.txt, each with the libraries that its line names."""
     lines = [line.split("#")[0] for line in (root / "crates.txt").read_text(encoding="utf-8").splitlines()]
