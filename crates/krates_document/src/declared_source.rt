@@ -4,7 +4,9 @@ ghost use Rattle.std.specs.Prelude.{◌≡◌, ◌≢◌, ◌∷◌, ◌↔◌, 
 ghost use Rattle.std.specs.Path.{components_remaining};
 ghost use Rattle.krates_cm.specs.Document.{dependency_view};
 ghost use Rattle.krates_text.specs.Path.{components};
-ghost use Rattle.krates_rules.specs.DeclaredSource.{between_backslashes, HasNamesOf, LeadsTo, IsPathOf, IsCompared, IsWithoutCommit, IsSameSource, HasSource};
+ghost use Rattle.krates_text.specs.Text.{BeginsWith};
+ghost use Rattle.krates_ids.specs.Identity.{git};
+ghost use Rattle.krates_rules.specs.DeclaredSource.{between_backslashes, HasNamesOf, LeadsTo, IsPathOf, IsWithoutCommit, IsSameSource, HasSource};
 
 use krates_cm::Dependency;
 use krates_text::path::{components, same};
@@ -87,21 +89,28 @@ pub(crate) fn has_source(declared: &Dependency, id: &str, source: &str) -> bool
     }
 }
 
-/// Whether a declared source is the source of an id with this text: two of git are compared without their `git+`, and any
-/// others as texts.
+/// Whether a declared source is the source of an id with this text: what is compared of it is that source, as a text.
 fn is_same_source(declared: &str, id: &str, source: &str) -> bool
     ensures { IsTrue result ↔ IsSameSource id.now declared.now source.now }
 {
-    match (declared.strip_prefix("git+"), source.strip_prefix("git+")) {
-        (Some(given), Some(url)) => compared(id, given) == url,
-        _ => declared == source,
+    compared(id, declared) == source
+}
+
+/// What is compared of a declared source: all of it, but for git what `compared_of_git` answers.
+fn compared<'a>(id: &str, declared: &'a str) -> &'a str
+    ensures { IsSameSource id.now declared.now result.now }
+{
+    match declared.strip_prefix("git+") {
+        Some(_) => compared_of_git(id, declared),
+        None => declared,
     }
 }
 
 /// What is compared of a declared git source: all of it, but not its commit where the id is opaque, and so has none in
 /// its source.
-fn compared<'a>(id: &str, declared: &'a str) -> &'a str
-    ensures { IsCompared id.now declared.now result.now }
+fn compared_of_git<'a>(id: &str, declared: &'a str) -> &'a str
+    requires { BeginsWith git declared.now }
+    ensures { IsSameSource id.now declared.now result.now }
 {
     if id.contains(' ') {
         without_commit(declared)

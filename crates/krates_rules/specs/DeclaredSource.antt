@@ -5,6 +5,7 @@ use Rattle.std.specs.List.{slice_split}
 use Rattle.std.specs.Path.{IsAbsolute, IsRelative}
 use Rattle.krates_cm.specs.Document.{Text, DependencyModel}
 use Rattle.krates_text.specs.Cuts.{Lacks, Has, LastCut}
+use Rattle.krates_ids.specs.Identity.{git}
 use Rattle.krates_ids.specs.Separators.{blank, hash_sign}
 use Rattle.krates_text.specs.Path.{components}
 use Rattle.krates_text.specs.Text.{BeginsWith}
@@ -44,33 +45,17 @@ pub record IsPathOf (path source : Text) : Type 0 where
 
 -- ---- a declared source
 
--- how a git source begins
-abbrev pub git_start : Text
-git_start = codes "git+"
-
--- the text of an id is opaque
-abbrev pub IsOpaque : Text → Type 0
-IsOpaque text = Has blank text
-
 -- what stands before the last '#', or the whole text where it has none
 abbrev pub IsWithoutCommit : Text → Text → Type 0
 IsWithoutCommit text front = ((commit : Text) × LastCut hash_sign text front commit) ⊎ (Lacks hash_sign text × (front ≡ text))
 
--- what is compared of a declared git source: an opaque id has no commit in its source
-abbrev pub IsCompared : Text → Text → Text → Type 0
-IsCompared id declared compared = (IsOpaque id × IsWithoutCommit declared compared) ⊎ (Lacks blank id × (compared ≡ declared))
+-- the declared source is git's, and the id is opaque, as a text with a blank is: then the id's source has no commit
+abbrev pub LosesCommit : Text → Text → Type 0
+LosesCommit id declared = BeginsWith git declared × Has blank id
 
--- both sources are git's, and the id's is what is compared of the declared one
-pub record IsSameGit (id declared source : Text) : Type 0 where
-  pub given : Text
-  pub declared_is : declared ≡ git_start ++ given
-  pub url : Text
-  pub source_is : source ≡ git_start ++ url
-  pub compared : IsCompared id given url
-
--- the declared source is the source of this id: without the commit where both are git's, and else as a text
+-- the source of this id is the declared one: without its commit where that is lost, and else as a text; so both are git's, or neither is
 abbrev pub IsSameSource : Text → Text → Text → Type 0
-IsSameSource id declared source = IsSameGit id declared source ⊎ (¬ (BeginsWith git_start declared × BeginsWith git_start source) × (declared ≡ source))
+IsSameSource id declared source = (LosesCommit id declared × IsWithoutCommit declared source) ⊎ (¬ LosesCommit id declared × (source ≡ declared))
 
 -- the declared dependency has the source of the id with this text: by its source where one is declared, and else by its path
 abbrev pub HasSource : Text → Text → DependencyModel → Type 0
