@@ -18,7 +18,8 @@ use Rattle.krates_document.specs.declared.declared_dependency.Candidates.{Candid
 use Rattle.krates_document.specs.declared.declared_dependency.Sought.{Sought}
 use Rattle.krates_document.specs.declared.declared_dependency.Wanted.{Wanted}
 use Rattle.krates_document.specs.declared.named_places.NamedPlace.{NamedPlace}
-use Rattle.krates_rules.specs.DeclaredDependency.{DependencyEntry, FirstAt, Fits, IsDeclared, IsFirstPlace, SeveralFit, declared_name}
+use Rattle.krates_rules.specs.Admission.{HoldsTwice}
+use Rattle.krates_rules.specs.DeclaredDependency.{DependencyEntry, FirstAt, Fits, IsDeclared, IsFirstPlace, declared_name}
 use Rattle.krates_rules.specs.DependencyName.{IsByteOf, IsNameOf}
 use Rattle.krates_document.proofs.DeclaredOnce.{one_fits, several_fit}
 
@@ -202,7 +203,7 @@ one_found x places all p d None h c from plain first none is =
 
 -- another fits
 pub several_found : (x : Wanted) (all : List ℕ) (p : ℕ) (d : DependencyModel) (r : Option ℕ) → x.from ≡ p + 1 → FirstAt (Fits (entry_in x.sought.now) (kind_in x.sought.now)) (map dependency_view x.declared.now) p d
-    → IsLeast (IsWantedAmong x all) r → is_some r ≡ true → SeveralFit (map dependency_view x.declared.now) (entry_in x.sought.now) (kind_in x.sought.now)
+    → IsLeast (IsWantedAmong x all) r → is_some r ≡ true → HoldsTwice (Fits (entry_in x.sought.now) (kind_in x.sought.now)) (map dependency_view x.declared.now)
 several_found x all p d None from first none is = absurd cc
 several_found x all p d (Some j) from first found is =
     let w = found.0 in

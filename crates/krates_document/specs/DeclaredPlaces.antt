@@ -3,7 +3,8 @@ use Rattle.std.specs.Prelude.{◌≡◌, ◌≤◌, ◌++◌, ℕ, Bool, false, 
 use Rattle.semver.specs.Identifiers.{parts_of}
 use Rattle.krates_cm.specs.Document.{Text, DependencyModel, DepKindInfoModel, dep_kind_info_view, dependency_view, node_dep_view}
 use Rattle.krates_cm.specs.Names.{version_named}
-use Rattle.krates_rules.specs.DeclaredDependency.{DependencyEntry, Fits, FitsBySource, declared_name, dependency_entry}
+use Rattle.krates_rules.specs.DeclaredDependency.{DependencyEntry, Fits, declared_name, dependency_entry}
+use Rattle.krates_rules.specs.DeclaredSource.{HasSource}
 use Rattle.krates_rules.specs.Resolved.{id_of}
 use Rattle.krates_document.specs.NamedPlaces.{AreNamed, StandsUnder, no_target, places_in}
 use Rattle.krates_document.specs.declared.declared_dependency.Candidates.{Candidates}
@@ -53,6 +54,11 @@ IsLeast P least = MatchOption least ((k : ℕ) → P k → ⊥) (λ n. P n × ((
 -- less than the other number, or there is no other
 abbrev pub IsBelow : ℕ → Option ℕ → Type 0
 IsBelow n other = MatchOption other ⊤ (λ m. n < m)
+
+-- the declared dependency fits, and its source is that of the dependency's id
+pub record FitsBySource (n : DependencyEntry) (k : DepKindInfoModel) (d : DependencyModel) : Type 0 where
+  pub fits : Fits n k d
+  pub source : HasSource n.dep.pkg n.id.source d
 
 -- the declared dependency fits; if the source counts, it has that too
 abbrev pub FitsWhere : Bool → DependencyEntry → DepKindInfoModel → DependencyModel → Type 0

@@ -4,9 +4,9 @@ ghost use Rattle.std.specs.Prelude.{◌≡◌, ◌<◌, ◌≤◌, ◌↔◌, []
 ghost use Rattle.semver.specs.Identifiers.{parts_of};
 ghost use Rattle.krates_cm.specs.Document.{VersionModel, DependencyModel, node_dep_view, dependency_view, requirement_view, text_view};
 ghost use Rattle.krates_cm.specs.Names.{version_named};
-ghost use Rattle.krates_document.specs.DeclaredPlaces.{AreCandidates, AreDeclaredPlaces, FitsAs, FitsAt, HasItsVersion, IsBelow, IsLeast, IsWantedAmong, among, entry_in, kind_in, lesser, target_key};
+ghost use Rattle.krates_document.specs.DeclaredPlaces.{AreCandidates, AreDeclaredPlaces, FitsAs, FitsAt, FitsBySource, HasItsVersion, IsBelow, IsLeast, IsWantedAmong, among, entry_in, kind_in, lesser, target_key};
 ghost use Rattle.krates_document.specs.NamedPlaces.{AreInOrder, places_in};
-ghost use Rattle.krates_rules.specs.DeclaredDependency.{declared_name, dependency_entry, NameFits, VersionMatches, Fits, FitsBySource, IsDeclared, IsUndeclared};
+ghost use Rattle.krates_rules.specs.DeclaredDependency.{declared_name, dependency_entry, NameFits, VersionMatches, Fits, IsDeclared, IsUndeclared};
 ghost use Rattle.krates_rules.specs.Resolved.{id_of};
 
 use crate::declared_source::has_source;

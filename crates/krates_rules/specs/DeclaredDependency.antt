@@ -4,6 +4,7 @@ use Rattle.std.specs.Prelude.{◌≡◌, ◌≢◌, ◌⊎◌, ℕ, ◌<◌, Lis
 use Rattle.semver.specs.EvalViews.{matches_views}
 use Rattle.krates_cm.specs.Document.{Text, VersionModel, RequirementModel, DependencyModel, DepKindInfoModel, NodeDepModel}
 use Rattle.krates_cm.specs.Names.{version_named}
+use Rattle.krates_rules.specs.Admission.{HoldsTwice}
 use Rattle.krates_rules.specs.DeclaredSource.{HasSource}
 use Rattle.krates_rules.specs.DependencyName.{IsNameOf}
 use Rattle.krates_rules.specs.Facts.{Id}
@@ -52,28 +53,15 @@ pub record FirstAt {A : Type 0} (P : A → Type 0) (xs : List A) (place : ℕ) (
 abbrev pub IsFirstPlace : {A : Type 0} → (A → Type 0) → List A → Option ℕ → Type 0
 IsFirstPlace {A} P xs r = MatchOption r ((place : ℕ) (x : A) → slice_get xs place ≡ Some x → P x → ⊥) (λ place. (x : A) × FirstAt P xs place x)
 
--- two places of the list fit
-pub record SeveralFit (declared : List DependencyModel) (n : DependencyEntry) (k : DepKindInfoModel) : Type 0 where
-  pub first : ℕ
-  pub second : ℕ
-  pub apart : first < second
-  pub one : DependencyModel
-  pub other : DependencyModel
-  pub at_first : slice_get declared first ≡ Some one
-  pub at_second : slice_get declared second ≡ Some other
-  pub one_fits : Fits n k one
-  pub other_fits : Fits n k other
-
--- the declared dependency fits, and its source is that of the dependency's id
-pub record FitsBySource (n : DependencyEntry) (k : DepKindInfoModel) (d : DependencyModel) : Type 0 where
+-- the declared dependency fits, and where several of these do, its source is that of the dependency's id
+pub record IsMeant (declared : List DependencyModel) (n : DependencyEntry) (k : DepKindInfoModel) (d : DependencyModel) : Type 0 where
   pub fits : Fits n k d
-  pub source : HasSource n.dep.pkg n.id.source d
+  pub source : HoldsTwice (Fits n k) declared → HasSource n.dep.pkg n.id.source d
 
--- The declared dependency, among those of the parent's package: the one that fits; where several fit, the first of
--- them that has the source of the dependency's id.
+-- The declared dependency, among those of the parent's package: the first that is meant. So it is the one that fits, where one
+-- does, and the first of the source, where several do.
 abbrev pub IsDeclared : List DependencyModel → DependencyEntry → DepKindInfoModel → ℕ → DependencyModel → Type 0
-IsDeclared declared n k place d = (¬ (SeveralFit declared n k) × FirstAt (Fits n k) declared place d)
-    ⊎ (SeveralFit declared n k × FirstAt (FitsBySource n k) declared place d)
+IsDeclared declared n k place d = FirstAt (IsMeant declared n k) declared place d
 
 -- none fits, or several do and none of them has the source
 abbrev pub IsUndeclared : List DependencyModel → DependencyEntry → DepKindInfoModel → Type 0
