@@ -1,15 +1,16 @@
 -- Documents that differ only in order still do after they are corrected by the same answer of an index.
 use Rattle.std.proofs.Common.{◌≡◌, List, Option, Some, None, refl, sym, ap, ◌∙◌, subst}
+use Rattle.std.specs.Option.{option_or}
 use Rattle.std.proofs.lemmas.List.Sorted.{IsPermutation-sym}
 use Rattle.std.specs.List.{AllZip}
 use Rattle.krates_cm.specs.Document.{Text, FeaturesModel, PackageModel, MetadataModel, metadata_view}
 use Rattle.krates_cm.specs.declared.metadata.Metadata.{Metadata}
-use Rattle.krates_ids.specs.Correction.{named, joined, or_else, Refers, IndexModel, IsIndexed, IsCorrection, IsCorrected, known, unknown, index_view, with_features}
+use Rattle.krates_ids.specs.Correction.{named, joined, Refers, IndexModel, IsIndexed, IsCorrection, IsCorrected, known, unknown, index_view, with_features}
 use Rattle.krates_ids.specs.declared.index.IndexAnswer.{IndexAnswer}
 use Rattle.krates_rules.specs.Reordering.{ReordersPackage, ReordersPackages, Reorders}
-use Rattle.krates.specs.BuildLaws.{IsSeenBy}
 use Rattle.krates_document.specs.CorrectedDocument.{IsCorrectedDocument}
 use Rattle.krates_document.proofs.CorrectedDocument.{views_corrected, rest_kept}
+use Rattle.krates.specs.BuildLaws.{IsSeenBy}
 use Rattle.krates.proofs.MovedLists.{moved_zip, zipped_through}
 
 -- a package has only one correction, up to the order of its features
@@ -20,13 +21,13 @@ OneCorrection = (index : IndexModel) (before a b : PackageModel) → IsCorrected
 -- ---- a package
 
 indexed_same : (index : IndexModel) (a : PackageModel) (others features : FeaturesModel) → IsIndexed index (with_features a others) features → IsIndexed index a features
-indexed_same index a others features h = record { source = h.source; version = h.version }
+indexed_same index a others features h = record { source = h.source; versions = h.versions; has_crate = h.has_crate; version = h.version }
 
 indexed_moved : (index : IndexModel) (a : PackageModel) (others features : FeaturesModel) → IsIndexed index a features → IsIndexed index (with_features a others) features
-indexed_moved index a others features h = record { source = h.source; version = h.version }
+indexed_moved index a others features h = record { source = h.source; versions = h.versions; has_crate = h.has_crate; version = h.version }
 
 joined_same : (a b index : FeaturesModel) → ((name : Text) → named a name ≡ named b name) → (name : Text) → joined a index name ≡ joined b index name
-joined_same a b index same name = ap (λ x. or_else x (named index name)) (same name)
+joined_same a b index same name = ap (λ x. option_or x (named index name)) (same name)
 
 refers_same : (a b index : FeaturesModel) → ((name : Text) → named a name ≡ named b name) → (name : Text) → Refers (joined a index) name → Refers (joined b index) name
 refers_same a b index same name h = record {
@@ -40,8 +41,7 @@ refers_same a b index same name h = record {
 -- features with the same values have the same corrections
 correction_same : (a b index corrected : FeaturesModel) → ((name : Text) → named a name ≡ named b name) → IsCorrection b index corrected → IsCorrection a index corrected
 correction_same a b index corrected same h = record {
-  kept = λ name values e. h.kept name values (sym (same name) ∙ e);
-  added = λ name values none e. h.added name values (sym (same name) ∙ none) e;
+  has_joined = λ name values e. h.has_joined name values (sym (joined_same a b index same name) ∙ e);
   referred = λ name none r. h.referred name (sym (joined_same a b index same name) ∙ none) (refers_same a b index same name r);
   no_other = λ name none r. h.no_other name (sym (joined_same a b index same name) ∙ none) (λ x. r (refers_same b a index (λ n. sym (same n)) name x));
 }

@@ -1,7 +1,7 @@
 -- The steps of a correction give the corrected features, and correcting twice is correcting once.
-use Rattle.std.proofs.Common.{◌≡◌, ◌↔◌, List, [], ◌∷◌, Option, Some, None, sym, ap, ◌∙◌, Contains}
+use Rattle.std.proofs.Common.{◌≡◌, ◌↔◌, List, [], ◌∷◌, Option, Some, None, sym, ◌∙◌, Contains}
 use Rattle.krates_cm.specs.Document.{Text, FeaturesModel}
-use Rattle.krates_ids.specs.Correction.{named, or_else, joined, Features, Refers, dependency_reference, IsCorrection}
+use Rattle.krates_ids.specs.Correction.{named, joined, Features, Refers, dependency_reference, IsCorrection}
 
 -- the same features have the same references
 refers_along : (f g : Features) → ((name : Text) → f name ≡ g name) → (name : Text) → Refers f name → Refers g name
@@ -17,11 +17,8 @@ pub corrected_by_steps : (manifest index whole corrected : FeaturesModel) (names
     → ((name : Text) → (Contains names name → ⊥) → named corrected name ≡ named whole name)
     → IsCorrection manifest index corrected
 corrected_by_steps manifest index whole corrected names is referred put left =
-    let stays : (name : Text) (values : List Text) → joined manifest index name ≡ Some values → named corrected name ≡ Some values =
-    λ name values e. left name (λ c. some_is_not_none (named whole name) values (is name ∙ e) ((referred name).0 c).0) ∙ is name ∙ e in
     record {
-      kept = λ name values e. stays name values (ap (λ x. or_else x (named index name)) e);
-      added = λ name values none e. stays name values (ap (λ x. or_else x (named index name)) none ∙ e);
+      has_joined = λ name values e. left name (λ c. some_is_not_none (named whole name) values (is name ∙ e) ((referred name).0 c).0) ∙ is name ∙ e;
       referred = λ name none r. put name ((referred name).1 (is name ∙ none, refers_along (joined manifest index) (named whole) (λ n. sym (is n)) name r));
       no_other = λ name none r. left name (λ c. r (refers_along (named whole) (joined manifest index) is name ((referred name).0 c).1)) ∙ is name ∙ none;
     }

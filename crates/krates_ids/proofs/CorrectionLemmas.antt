@@ -1,5 +1,6 @@
 -- Features by name: in a map with text keys, and in the list of its entries.
 use Rattle.std.proofs.Common.{◌≡◌, ◌↔◌, ℕ, ◌+◌, ◌<◌, List, length, take, get_or, [], ◌∷◌, ◌++◌, Option, Some, None, Bool, true, false, IsTrue, not, cond, map, option_map, is_some, String, Global, string_cmp, nat_cmp, refl, sym, ap, ◌∙◌}
+use Rattle.std.specs.Option.{option_or}
 use Rattle.std.proofs.lemmas.List.{take_more, map-append}
 use Rattle.std.specs.BTreeMap as tree
 use Rattle.std.specs.BTreeMap.{BTreeMap, is_at, get_by_text}
@@ -9,7 +10,7 @@ use Rattle.std.specs.Map.{lookup}
 use Rattle.std.specs.Str.{bytes_eq}
 use Rattle.std.proofs.lemmas.Map.Text.{is_eq-slice_cmp, btree_map_updates_text}
 use Rattle.krates_cm.specs.Document.{Text, text_view, texts_view, FeaturesModel, features_view}
-use Rattle.krates_ids.specs.Correction.{named, or_else}
+use Rattle.krates_ids.specs.Correction.{named}
 
 -- a test that holds only of equal texts
 pub eq_from_true : (s t : Text) → bytes_eq s t ≡ true → s ≡ t
@@ -57,14 +58,14 @@ named-put m n key values updates name =
 
 -- an entry whose name is there already changes nothing
 pub present_passed : {A : Type 0} (there : Option A) (b : Bool) (x : A) (left : Option A) → (b ≡ true → there ≡ None → ⊥)
-    → or_else there left ≡ or_else there (cond b (Some x) left)
+    → option_or there left ≡ option_or there (cond b (Some x) left)
 present_passed (Some y) b x left h = refl
 present_passed None true x left h = absurd (h refl refl)
 present_passed None false x left h = refl
 
 -- an entry whose name is missing is inserted
 pub absent_put : {A : Type 0} (there : Option A) (b : Bool) (x : A) (left : Option A) → (b ≡ true → there ≡ None)
-    → or_else (cond b (Some x) there) left ≡ or_else there (cond b (Some x) left)
+    → option_or (cond b (Some x) there) left ≡ option_or there (cond b (Some x) left)
 absent_put None true x left h = refl
 absent_put (Some y) true x left h = absurd (let e = h refl in cc)
 absent_put there false x left h = refl
@@ -105,5 +106,5 @@ named-put-as m n key values k vs same seen updates name =
     ∙ ap (λ v. cond (bytes_eq name k) (Some v) (named (features_view m) name)) seen
 
 -- nothing stands in an empty map
-pub empty_first : (m : BTreeMap (String Global) Values) (name : Text) (found : Option (List Text)) → m.entries ≡ [] → or_else (named (features_view m) name) found ≡ found
-empty_first m name found e = ap (λ es. or_else (named (entries_view es) name) found) e
+pub empty_first : (m : BTreeMap (String Global) Values) (name : Text) (found : Option (List Text)) → m.entries ≡ [] → option_or (named (features_view m) name) found ≡ found
+empty_first m name found e = ap (λ es. option_or (named (entries_view es) name) found) e

@@ -1,5 +1,5 @@
 -- What an answer of an index has of a package: the first version that equals the package's.
-use Rattle.std.proofs.Common.{◌≡◌, ◌≢◌, inl, inr, ℕ, ◌<◌, List, length, get_or, map, refl, sym, ap, ◌∙◌, subst, arith, Option, Some, None, slice_get, option_map, MatchOption, String, Global}
+use Rattle.std.proofs.Common.{◌≡◌, ◌≢◌, inl, inr, ℕ, ◌<◌, List, length, get_or, map, sym, ap, ◌∙◌, subst, arith, Option, Some, None, slice_get, option_map, MatchOption, String, Global}
 use Rattle.std.proofs.lemmas.Option.{none-some, same_Some, slice_get-map, slice_get-get_or, slice_get_cases}
 use Rattle.std.specs.BTreeMap.{BTreeMap, get_by_text}
 use Rattle.std.specs.Borrow.{Bor}
@@ -26,10 +26,8 @@ seen_at f xs k y here =
 pub first_equal : (versions : List IndexKrateVersion) (version : VersionModel) (i : ℕ) (x : IndexKrateVersion) → i < length versions → x ≡ get_or versions i x → parts_of x.version ≡ version
     → AllWithin (λ v. parts_of v.version ≢ version) versions 0 i → IsFirstEqual (map index_version_view versions) version i (features_view x.features)
 first_equal versions version i x lt is same none = record {
-  found = index_version_view x;
-  here = slice_get-map index_version_view versions i ∙ ap (option_map index_version_view) (slice_get-get_or versions i x lt) ∙ ap (λ y. Some (index_version_view y)) (sym is);
-  is_version = same;
-  has_features = refl;
+  here = slice_get-map index_version_view versions i ∙ ap (option_map index_version_view) (slice_get-get_or versions i x lt)
+      ∙ ap (λ y. Some (index_version_view y)) (sym is) ∙ ap (λ v. Some (record { version = v; features = features_view x.features })) same;
   first = λ k v low here e.
       let s = seen_at index_version_view versions k v here in
       none k s.0 (omega arith) low (ap (λ w. w.version) s.2 ∙ e);
@@ -39,8 +37,8 @@ first_equal versions version i x lt is same none = record {
 pub none_equal : (versions : List IndexKrateVersion) (version : VersionModel) → AllWithin (λ v. parts_of v.version ≢ version) versions 0 (length versions)
     → (place : ℕ) (features : FeaturesModel) → IsFirstEqual (map index_version_view versions) version place features → ⊥
 none_equal versions version none place features first =
-    let s = seen_at index_version_view versions place first.found first.here in
-    none place s.0 (omega arith) s.1 (ap (λ w. w.version) s.2 ∙ first.is_version)
+    let s = seen_at index_version_view versions place (record { version = version; features = features }) first.here in
+    none place s.0 (omega arith) s.1 (ap (λ w. w.version) s.2)
 
 -- what an answer has under a name
 pub answer_at : (answer : IndexAnswer) (name : Text) (found : Option (Option IndexKrate)) → get_by_text answer.krates name ≡ found → named (index_view answer) name ≡ option_map (option_map index_krate_view) found
@@ -52,11 +50,11 @@ pub indexed_as : (index : IndexModel) (pkg : PackageModel) (versions : List Inde
     → MatchOption r ((features : FeaturesModel) → IsIndexed index pkg features → ⊥) (λ features. IsIndexed index pkg (features_view features.now))
 indexed_as index pkg versions None source is none =
     λ features i.
-    let same : i.version.0 ≡ versions = same_Some _ _ (same_Some _ _ (sym i.version.2 ∙ is)) in
-    none i.version.1 features (subst (λ vs. IsFirstEqual vs pkg.version i.version.1 features) same i.version.3)
-indexed_as index pkg versions (Some features) source is found = record { source = source; version = (versions, found.0, is, found.1) }
+    let same : i.versions ≡ versions = same_Some _ _ (same_Some _ _ (sym i.has_crate ∙ is)) in
+    none i.version.0 features (subst (λ vs. IsFirstEqual vs pkg.version i.version.0 features) same i.version.1)
+indexed_as index pkg versions (Some features) source is found = record { source = source; versions = versions; has_crate = is; version = found }
 
 -- a package is not indexed where the answer lacks its crate
 pub not_indexed : (index : IndexModel) (pkg : PackageModel) (features : FeaturesModel) (found : Option (Option (List IndexVersionModel))) → named index pkg.name ≡ found
     → ((versions : List IndexVersionModel) → found ≡ Some (Some versions) → ⊥) → IsIndexed index pkg features → ⊥
-not_indexed index pkg features found is lacks i = lacks i.version.0 (sym is ∙ i.version.2)
+not_indexed index pkg features found is lacks i = lacks i.versions (sym is ∙ i.has_crate)

@@ -1,12 +1,13 @@
 -- Correcting twice is correcting once.
 use Rattle.std.proofs.Common.{◌≡◌, ◌⊎◌, inl, inr, ℕ, List, [], ◌∷◌, Option, Some, None, refl, sym, ap, ◌∙◌, subst, arith, Contains, slice_get}
+use Rattle.std.specs.Option.{option_or}
 use Rattle.std.proofs.lemmas.Bool.{cases_order, true_from_ne_false, false≢true}
 use Rattle.std.specs.Str.{bytes_eq}
 use Rattle.std.proofs.lemmas.List.Elements.{Contains-push_cases}
 use Rattle.std.proofs.lemmas.Option.{same_Some}
 use Rattle.krates_cm.specs.Document.{Text, VersionModel, FeaturesModel, PackageModel}
 use Rattle.krates_text.specs.FeatureReference.{IsReference, simple}
-use Rattle.krates_ids.specs.Correction.{named, or_else, joined, Refers, dependency_reference, IsCorrection, IndexModel, IndexVersionModel, IsFirstEqual, IsIndexed, IsCorrected, unknown, known, with_features}
+use Rattle.krates_ids.specs.Correction.{named, joined, Refers, dependency_reference, IsCorrection, IndexModel, IndexVersionModel, IsFirstEqual, IsIndexed, IsCorrected, unknown, known, with_features}
 use Rattle.krates_ids.proofs.CorrectedLemmas.{some_is_not_none}
 use Rattle.krates_ids.proofs.CorrectionLemmas.{eq_from_true, true_from_eq}
 
@@ -15,23 +16,15 @@ seen : {A : Type 0} (found : Option A) → ((x : A) × (found ≡ Some x)) ⊎ (
 seen None = inr refl
 seen (Some x) = inl (x, refl)
 
--- what was joined is there
-joined_stays : (manifest index corrected : FeaturesModel) → IsCorrection manifest index corrected → (name : Text) (values : List Text) → joined manifest index name ≡ Some values → named corrected name ≡ Some values
-joined_stays manifest index corrected is name values e =
-    elim (seen (named manifest name)) [
-      | inl there ↦ is.kept name values (there.1 ∙ sym (ap (λ x. or_else x (named index name)) there.1) ∙ e)
-      | inr none ↦ is.added name values none (sym (ap (λ x. or_else x (named index name)) none) ∙ e)
-    ]
-
 -- what is missing was in neither
 joined_absent : (manifest index corrected : FeaturesModel) → IsCorrection manifest index corrected → (name : Text) → named corrected name ≡ None → joined manifest index name ≡ None
 joined_absent manifest index corrected is name e =
     elim (seen (joined manifest index name)) [
-      | inl there ↦ absurd (some_is_not_none (named corrected name) there.0 (joined_stays manifest index corrected is name there.0 there.1) e)
+      | inl there ↦ absurd (some_is_not_none (named corrected name) there.0 (is.has_joined name there.0 there.1) e)
       | inr none ↦ none
     ]
 
-second_absent : {A : Type 0} (first other : Option A) → or_else first other ≡ None → other ≡ None
+second_absent : {A : Type 0} (first other : Option A) → option_or first other ≡ None → other ≡ None
 second_absent None other e = e
 second_absent (Some x) other e = absurd cc
 
@@ -47,13 +40,13 @@ not_plain feature name among plain =
 no_more : (manifest index once : FeaturesModel) → IsCorrection manifest index once → (name : Text) → named once name ≡ None → Refers (joined once index) name → ⊥
 no_more manifest index once is name absent r =
     elim (seen (named once r.feature)) [
-      | inr none ↦ some_is_not_none (named index r.feature) r.values (sym (ap (λ x. or_else x (named index r.feature)) none) ∙ r.is)
+      | inr none ↦ some_is_not_none (named index r.feature) r.values (sym (ap (λ x. option_or x (named index r.feature)) none) ∙ r.is)
           (second_absent (named manifest r.feature) (named index r.feature) (joined_absent manifest index once is r.feature none))
       | inl there ↦
-          let here : named once r.feature ≡ Some r.values = there.1 ∙ sym (ap (λ x. or_else x (named index r.feature)) there.1) ∙ r.is in
+          let here : named once r.feature ≡ Some r.values = there.1 ∙ sym (ap (λ x. option_or x (named index r.feature)) there.1) ∙ r.is in
           elim (seen (joined manifest index r.feature)) [
             | inl before ↦
-                let same : joined manifest index r.feature ≡ Some r.values = before.1 ∙ sym (joined_stays manifest index once is r.feature before.0 before.1) ∙ here in
+                let same : joined manifest index r.feature ≡ Some r.values = before.1 ∙ sym (is.has_joined r.feature before.0 before.1) ∙ here in
                 some_is_not_none (named once name) (dependency_reference name ∷ [])
                 (is.referred name (joined_absent manifest index once is name absent) (record { feature = r.feature; values = r.values; is = same; among = r.among; plain = r.plain })) absent
             | inr new ↦
@@ -66,30 +59,28 @@ no_more manifest index once is name absent r =
 pub twice : (manifest index once again : FeaturesModel) → IsCorrection manifest index once → IsCorrection once index again → (name : Text) → named again name ≡ named once name
 twice manifest index once again first second name =
     elim (seen (named once name)) [
-      | inl there ↦ second.kept name there.0 there.1 ∙ sym there.1
+      | inl there ↦ second.has_joined name there.0 (ap (λ x. option_or x (named index name)) there.1) ∙ sym there.1
       | inr none ↦
-          second.no_other name (ap (λ x. or_else x (named index name)) none ∙ second_absent (named manifest name) (named index name) (joined_absent manifest index once first name none)) (no_more manifest index once first name none)
+          second.no_other name (ap (λ x. option_or x (named index name)) none ∙ second_absent (named manifest name) (named index name) (joined_absent manifest index once first name none)) (no_more manifest index once first name none)
           ∙ sym none
     ]
 
 -- there is only one first version
 one_first : (versions : List IndexVersionModel) (version : VersionModel) (j k : ℕ) (a b : FeaturesModel) → IsFirstEqual versions version j a → IsFirstEqual versions version k b → a ≡ b
 one_first versions version j k a b p q = elim (cases_order j k) [
-  | inl e ↦
-      let same : p.found ≡ q.found = same_Some p.found q.found (sym p.here ∙ ap (λ n. slice_get versions n) e ∙ q.here) in
-      sym p.has_features ∙ ap (λ v. v.features) same ∙ q.has_features
-  | inr r ↦ elim r [ inl lt ↦ absurd (q.first j p.found lt p.here p.is_version) | inr lt ↦ absurd (p.first k q.found lt q.here q.is_version) ]
+  | inl e ↦ ap (λ (v : IndexVersionModel). v.features) (same_Some _ _ (sym p.here ∙ ap (λ n. slice_get versions n) e ∙ q.here))
+  | inr r ↦ elim r [ inl lt ↦ absurd (q.first j _ lt p.here refl) | inr lt ↦ absurd (p.first k _ lt q.here refl) ]
 ]
 
 -- the index has only one list of features for a package
 one_indexed : (index : IndexModel) (pkg : PackageModel) (a b : FeaturesModel) → IsIndexed index pkg a → IsIndexed index pkg b → a ≡ b
 one_indexed index pkg a b p q =
-    let same : p.version.0 ≡ q.version.0 = same_Some _ _ (same_Some _ _ (sym p.version.2 ∙ q.version.2)) in
-    one_first q.version.0 pkg.version p.version.1 q.version.1 a b (subst (λ vs. IsFirstEqual vs pkg.version p.version.1 a) same p.version.3) q.version.3
+    let same : p.versions ≡ q.versions = same_Some _ _ (same_Some _ _ (sym p.has_crate ∙ q.has_crate)) in
+    one_first q.versions pkg.version p.version.0 q.version.0 a b (subst (λ vs. IsFirstEqual vs pkg.version p.version.0 a) same p.version.1) q.version.1
 
 -- the index has the same for a package with other features
 indexed_before : (index : IndexModel) (before : PackageModel) (features found : FeaturesModel) → IsIndexed index (with_features before features) found → IsIndexed index before found
-indexed_before index before features found i = record { source = i.source; version = i.version }
+indexed_before index before features found i = record { source = i.source; versions = i.versions; has_crate = i.has_crate; version = i.version }
 
 pub corrected_twice : (index : IndexModel) (before once again : PackageModel) → IsCorrected index before once → IsCorrected index once again → (name : Text) → named again.features name ≡ named once.features name
 corrected_twice index before once again first (unknown not same) name = ap (λ p. named p.features name) same
@@ -123,7 +114,7 @@ absent_alike manifest index a b p q name none absent = q.no_other name none (λ 
 one_correction : (manifest index a b : FeaturesModel) → IsCorrection manifest index a → IsCorrection manifest index b → (name : Text) → named a name ≡ named b name
 one_correction manifest index a b p q name =
     elim (seen (joined manifest index name)) [
-      | inl there ↦ joined_stays manifest index a p name there.0 there.1 ∙ sym (joined_stays manifest index b q name there.0 there.1)
+      | inl there ↦ p.has_joined name there.0 there.1 ∙ sym (q.has_joined name there.0 there.1)
       | inr none ↦
           elim (seen (named a name)) [
             | inr absent ↦ absent ∙ sym (absent_alike manifest index a b p q name none absent)

@@ -1,6 +1,7 @@
 -- The features of a package, corrected by what the index of crates.io knows of it: an index may have features that the
 -- manifest lacks, and an optional dependency is a feature of its name.
 use Rattle.std.specs.Prelude.{◌≡◌, ◌≢◌, ℕ, ◌<◌, List, [], ◌∷◌, ◌++◌, Option, Some, None, codes, slice_get, map, option_map}
+use Rattle.std.specs.Option.{option_or}
 use Rattle.std.specs.List.{Contains}
 use Rattle.std.specs.Map.{lookup}
 use Rattle.std.specs.Str.{bytes_eq}
@@ -43,21 +44,15 @@ named entries name = lookup (bytes_eq name) entries
 
 -- at this place stands the first of the versions that equals this one in all five parts, with these features
 pub record IsFirstEqual (versions : List IndexVersionModel) (version : VersionModel) (place : ℕ) (features : FeaturesModel) : Type 0 where
-  pub found : IndexVersionModel
-  pub here : slice_get versions place ≡ Some found
-  pub is_version : found.version ≡ version
-  pub has_features : found.features ≡ features
+  pub here : slice_get versions place ≡ Some (record { version = version; features = features })
   pub first : (k : ℕ) (v : IndexVersionModel) → k < place → slice_get versions k ≡ Some v → v.version ≢ version
 
--- the index has the version of the package, with these features
-abbrev pub HasVersion : IndexModel → PackageModel → FeaturesModel → Type 0
-HasVersion index pkg features = (versions : List IndexVersionModel) × (place : ℕ)
-    × (named index pkg.name ≡ Some (Some versions)) × IsFirstEqual versions pkg.version place features
-
--- the package is of crates.io, and the index has its version, with these features
+-- the package is of crates.io, and the index has its crate, with these features at its version
 pub record IsIndexed (index : IndexModel) (pkg : PackageModel) (features : FeaturesModel) : Type 0 where
   pub source : pkg.source ≡ Some crates_io
-  pub version : HasVersion index pkg features
+  pub versions : List IndexVersionModel
+  pub has_crate : named index pkg.name ≡ Some (Some versions)
+  pub version : (place : ℕ) × IsFirstEqual versions pkg.version place features
 
 -- ---- the corrected features
 
@@ -65,14 +60,9 @@ pub record IsIndexed (index : IndexModel) (pkg : PackageModel) (features : Featu
 abbrev pub Features : Type 0
 Features = Text → Option (List Text)
 
--- the value of the first if there is one, otherwise that of the second
-abbrev pub or_else : {A : Type 0} → Option A → Option A → Option A
-or_else None other = other
-or_else (Some x) other = Some x
-
 -- the features of the manifest, and those that only the index has
 abbrev pub joined : FeaturesModel → FeaturesModel → Features
-joined manifest index name = or_else (named manifest name) (named index name)
+joined manifest index name = option_or (named manifest name) (named index name)
 
 -- among the values of some feature is a simple reference to this name
 pub record Refers (features : Features) (name : Text) : Type 0 where
@@ -86,11 +76,10 @@ pub record Refers (features : Features) (name : Text) : Type 0 where
 abbrev pub dependency_reference : Text → Text
 dependency_reference name = codes "dep:" ++ name
 
--- The corrected features: those of the manifest keep their values; those that only the index has are added; then a simple
+-- The corrected features: those of the manifest keep their values, and those that only the index has are added; then a simple
 -- reference to a name that is no feature so far makes it one, which enables the dependency of that name; there are no others.
 pub record IsCorrection (manifest index corrected : FeaturesModel) : Type 0 where
-  pub kept : (name : Text) (values : List Text) → named manifest name ≡ Some values → named corrected name ≡ Some values
-  pub added : (name : Text) (values : List Text) → named manifest name ≡ None → named index name ≡ Some values → named corrected name ≡ Some values
+  pub has_joined : (name : Text) (values : List Text) → joined manifest index name ≡ Some values → named corrected name ≡ Some values
   pub referred : (name : Text) → joined manifest index name ≡ None → Refers (joined manifest index) name
       → named corrected name ≡ Some (dependency_reference name ∷ [])
   pub no_other : (name : Text) → joined manifest index name ≡ None → (Refers (joined manifest index) name → ⊥)

@@ -1,10 +1,11 @@
 //! The corrected features of a package, made apart from it.
 
 ghost use Rattle.std.specs.Prelude.{◌≡◌, ◌↔◌, ◌⊎◌, [], ◌∷◌, IsTrue, IfOk, OnOk, Some, None, map};
+ghost use Rattle.std.specs.Option.{option_or};
 ghost use Rattle.std.specs.List.{Contains};
 ghost use Rattle.krates_cm.specs.Document.{Text, text_view, texts_view, features_view};
 ghost use Rattle.krates_text.specs.FeatureReference.{IsReference, simple};
-ghost use Rattle.krates_ids.specs.Correction.{named, or_else, Refers, dependency_reference, IsCorrection};
+ghost use Rattle.krates_ids.specs.Correction.{named, Refers, dependency_reference, IsCorrection};
 
 use crate::index::FeaturesMap;
 use krates_text::features::{Feature, ParsedFeature};
@@ -35,7 +36,7 @@ fn add_absent(
     others: &FeaturesMap,
 ) -> Result<(), AllocError>
     ensures { OnOk result ((name : Text) → named (features_view features.new) name
-        ≡ or_else (named (features_view features.old) name) (named (features_view others.now) name)) }
+        ≡ option_or (named (features_view features.old) name) (named (features_view others.now) name)) }
 {
     for (name, values) in others {
         if !features.contains_key(name.as_str()) {
