@@ -1,14 +1,13 @@
 -- Documents that differ only in order are both admitted or both refused.
-use Rattle.std.proofs.Common.{◌≡◌, List, [], ◌∷◌, map, Option, Some, None, IsPermutation, refl, sym, ap, ◌∙◌, subst}
-use Rattle.std.proofs.lemmas.List.Sorted.{IsPermutation-sym, IsPermutation-map}
+use Rattle.std.proofs.Common.{◌≡◌, List, [], ◌∷◌, map, Option, Some, None, Contains, IsPermutation, refl, sym, ap, ◌∙◌, subst}
+use Rattle.std.proofs.lemmas.List.Sorted.{Contains-permutation, IsPermutation-sym, IsPermutation-map}
 use Rattle.std.proofs.lemmas.Option.{same_Some}
-use Rattle.std.specs.List.{AllZip, AllByRecursion}
-use Rattle.krates_cm.specs.Document.{Text, VersionModel, PackageModel, NodeDepModel, NodeModel, ResolveModel, MetadataModel}
-use Rattle.krates_cm.specs.Names.{version_named}
+use Rattle.std.specs.List.{AllZip}
+use Rattle.krates_cm.specs.Document.{Text, PackageModel, NodeDepModel, NodeModel, ResolveModel, MetadataModel}
 use Rattle.krates_ids.specs.Correction.{with_features}
-use Rattle.krates_ids.specs.Identity.{Identity, Reads}
-use Rattle.krates_rules.specs.Admission.{AreIdsOf, AreDepIds, HasVersion, HasThisVersion, IsRootId, package_texts, node_texts, dep_texts, IdsModel}
+use Rattle.krates_rules.specs.Admission.{StandsForId, dep_texts, node_texts, of_dep, of_member, of_node, of_package, of_root, package_texts}
 use Rattle.krates_rules.specs.Reordering.{ReordersPackage, ReordersPackages, ReordersNode, ReordersGraph, ReordersResolve, Reorders, ResolveAlike}
+use Rattle.krates_rules.proofs.Members.{contains_of, member_of, partner_of, swapped}
 use Rattle.krates.specs.Build.{IsResolvable}
 use Rattle.krates.proofs.MovedLists.{moved_zip, zip_turned}
 
@@ -74,71 +73,23 @@ node_texts_moved g h w =
     let same = same_texts ReordersNode (λ (x : NodeModel). x.id) g.nodes w.nodes w.each (λ a b r. sym (ap (λ (x : NodeModel). x.id) r.rest)) in
     subst (λ ts. IsPermutation ts (node_texts h)) (sym same) moved
 
--- a text with its id, which has a version
-record ReadsVersion (t : Text) (i : Identity) : Type 0 where
-  reads : Reads t i
-  version : HasVersion i
+-- a node of the one has a node of the other, whose dependencies have the same ids
+node_there : (g h : ResolveModel) (n : NodeModel) → ReordersGraph g h → Contains h.nodes n → (o : NodeModel) × Contains g.nodes o × IsPermutation (dep_texts n) (dep_texts o)
+node_there g h n w c =
+    let here = Contains-permutation h.nodes w.nodes n (IsPermutation-sym w.nodes h.nodes w.moved) c in
+    let p = partner_of (λ y x. ReordersNode x y) w.nodes g.nodes n (swapped ReordersNode g.nodes w.nodes w.each) (member_of w.nodes n here) in
+    let deps = IsPermutation-sym p.partner.deps n.deps p.related.deps in
+    (p.partner, contains_of g.nodes p.partner p.member, IsPermutation-map (λ (d : NodeDepModel). d.pkg) n.deps p.partner.deps deps)
 
-joined : (texts : List Text) (ids : List Identity) → AllZip Reads texts ids → AllByRecursion HasVersion ids → AllZip ReadsVersion texts ids
-joined [] [] z v = tt
-joined [] (i ∷ ids) z v = absurd z
-joined (t ∷ texts) [] z v = absurd z
-joined (t ∷ texts) (i ∷ ids) z v = (record { reads = z.0; version = v.0 }, joined texts ids z.1 v.1)
-
-divided : (texts : List Text) (ids : List Identity) → AllZip ReadsVersion texts ids → AllZip Reads texts ids × AllByRecursion HasVersion ids
-divided [] [] z = (tt, tt)
-divided [] (i ∷ ids) z = absurd z
-divided (t ∷ texts) [] z = absurd z
-divided (t ∷ texts) (i ∷ ids) z = let rest = divided texts ids z.1 in ((z.0.reads, rest.0), (z.0.version, rest.1))
-
-dep_ids_moved : (a b : NodeModel) (ids : List Identity) → ReordersNode a b → AreDepIds a ids → (js : List Identity) × AreDepIds b js
-dep_ids_moved a b ids w h =
-    let moved = IsPermutation-map (λ (d : NodeDepModel). d.pkg) a.deps b.deps w.deps in
-    let m = moved_zip ReadsVersion (dep_texts a) (dep_texts b) ids moved (joined (dep_texts a) ids h.read h.versions) in
-    let both = divided (dep_texts b) m.list m.zip in
-    (m.list, record { read = both.0; versions = both.1 })
-
-each_moved : (xs ys : List NodeModel) (lists : List (List Identity)) → AllZip ReordersNode xs ys → AllZip AreDepIds xs lists → (others : List (List Identity)) × AllZip AreDepIds ys others
-each_moved [] [] lists z h = ([], tt)
-each_moved [] (y ∷ ys) lists z h = absurd z
-each_moved (x ∷ xs) [] lists z h = absurd z
-each_moved (x ∷ xs) (y ∷ ys) [] z h = absurd h
-each_moved (x ∷ xs) (y ∷ ys) (ids ∷ lists) z h =
-    let first = dep_ids_moved x y ids z.0 h.0 in
-    let rest = each_moved xs ys lists z.1 h.1 in
-    (first.0 ∷ rest.0, (first.1, rest.1))
-
--- the version of an id that has one
-version_of : (version : Option VersionModel) → (version ≡ None → ⊥) → (v : VersionModel) × (version ≡ Some v)
-version_of None has = absurd (has refl)
-version_of (Some v) has = (v, refl)
-
-versions_of : (ids : List Identity) → AllByRecursion HasVersion ids → (versions : List VersionModel) × AllZip HasThisVersion ids versions
-versions_of [] has = ([], tt)
-versions_of (i ∷ ids) has =
-    let first = version_of (version_named i.version) has.0 in
-    let rest = versions_of ids has.1 in
-    (first.0 ∷ rest.0, (first.1, rest.1))
-
-all_versions : (nodes : List NodeModel) (lists : List (List Identity)) → AllZip AreDepIds nodes lists → (versions : List (List VersionModel)) × AllZip (AllZip HasThisVersion) lists versions
-all_versions [] [] h = ([], tt)
-all_versions [] (ids ∷ lists) h = absurd h
-all_versions (n ∷ nodes) [] h = absurd h
-all_versions (n ∷ nodes) (ids ∷ lists) h =
-    let first = versions_of ids h.0.versions in
-    let rest = all_versions nodes lists h.1 in
-    (first.0 ∷ rest.0, (first.1, rest.1))
-
-ids_moved : (m n : MetadataModel) (g h : ResolveModel) (ids : IdsModel) → Reorders m n → ReordersGraph g h → AreIdsOf m g ids → (js : IdsModel) × AreIdsOf n h js
-ids_moved m n g h ids w x a =
-    let packages = moved_zip Reads (package_texts m) (package_texts n) ids.packages (package_texts_moved m n w) a.packages in
-    let members = moved_zip Reads m.workspace_members n.workspace_members ids.members w.members a.members in
-    let nodes = moved_zip Reads (node_texts g) (node_texts h) ids.nodes (node_texts_moved g h x) a.nodes in
-    let each = each_moved g.nodes x.nodes ids.deps x.each a.deps in
-    let deps = moved_zip AreDepIds x.nodes h.nodes each.0 x.moved each.1 in
-    let versions = all_versions h.nodes deps.list deps.zip in
-    let js : IdsModel = record { packages = packages.list; members = members.list; root = ids.root; nodes = nodes.list; deps = deps.list; versions = versions.0 } in
-    (js, record { packages = packages.zip; members = members.zip; root = subst (λ t. IsRootId t ids.root) (sym x.root) a.root; nodes = nodes.zip; deps = deps.zip; versions = versions.1 })
+-- a text that has to be an id of the one has to be one of the other
+stands_there : (m n : MetadataModel) (g h : ResolveModel) (t : Text) → Reorders m n → ReordersGraph g h → StandsForId n h t → StandsForId m g t
+stands_there m n g h t w x (of_package c) = of_package (Contains-permutation (package_texts n) (package_texts m) t (IsPermutation-sym (package_texts m) (package_texts n) (package_texts_moved m n w)) c)
+stands_there m n g h t w x (of_member c) = of_member (Contains-permutation n.workspace_members m.workspace_members t (IsPermutation-sym m.workspace_members n.workspace_members w.members) c)
+stands_there m n g h t w x (of_root is) = of_root (sym x.root ∙ is)
+stands_there m n g h t w x (of_node c) = of_node (Contains-permutation (node_texts h) (node_texts g) t (IsPermutation-sym (node_texts g) (node_texts h) (node_texts_moved g h x)) c)
+stands_there m n g h t w x (of_dep node c d) =
+    let o = node_there g h node x c in
+    of_dep o.0 o.1 (Contains-permutation (dep_texts node) (dep_texts o.0) t o.2 d)
 
 graph_there : (a b : Option ResolveModel) (g : ResolveModel) → ReordersResolve a b → a ≡ Some g → (h : ResolveModel) × (b ≡ Some h) × ReordersGraph g h
 graph_there None b g w is = absurd cc
@@ -148,18 +99,16 @@ graph_there (Some x) (Some h) g w is = (h, refl, subst (λ y. ReordersGraph y h)
 -- if one can be resolved, the other can
 pub resolvable_there : (m n : MetadataModel) → Reorders m n → ResolveAlike m n → IsResolvable m → IsResolvable n
 resolvable_there m n w alike r =
-    let a = r.admitted in
-    let h = graph_there m.resolve n.resolve a.graph w.resolve a.has_graph in
-    let js = ids_moved m n a.graph h.0 r.ids w h.2 a.read in
+    let h = graph_there m.resolve n.resolve r.graph w.resolve r.has_graph in
     record {
-      ids = js.0;
-      admitted = record {
-        graph = h.0;
-        has_graph = h.1;
-        read = js.1;
-        none_doubled = λ id d.
-            let back = (alike.doubled id).1 (record { graph = h.0; has_graph = h.1; holds = d }) in
-            let same : back.graph ≡ a.graph = cc (back.has_graph, a.has_graph) in
-            a.none_doubled id (rw same at back.holds);
-      };
+      graph = h.0;
+      has_graph = h.1;
+      read = λ t s. r.read t (stands_there m n r.graph h.0 t w h.2 s);
+      versions = λ node t c d.
+          let o = node_there r.graph h.0 node h.2 c in
+          r.versions o.0 t o.1 (Contains-permutation (dep_texts node) (dep_texts o.0) t o.2 d);
+      none_doubled = λ id d.
+          let back = (alike.doubled id).1 (record { graph = h.0; has_graph = h.1; holds = d }) in
+          let same : back.graph ≡ r.graph = cc (back.has_graph, r.has_graph) in
+          r.none_doubled id (rw same at back.holds);
     }

@@ -14,7 +14,7 @@ use Rattle.krates_rules.specs.Resolved.{ReadsAs, resolved, id_of}
 use Rattle.krates_selection.specs.Selection.{feature_fact}
 use Rattle.krates_selection.specs.declared.selection.Selection.{Selection}
 use Rattle.krates_rules.specs.Setting.{SettingModel}
-use Rattle.krates.specs.Build.{IsResolvable, IsDerived, KeepsCrate, DropsCrate, IsLost}
+use Rattle.krates.specs.Build.{KeepsCrate, DropsCrate, IsLost, IsDerived}
 use Rattle.krates_drawing.specs.Listed.{AreThosePackages}
 use Rattle.krates_drawing.specs.Division.{IsAmong, IsDivision}
 use Rattle.krates_drawing.specs.Krate.{krate_ids, krate_packages}
@@ -143,8 +143,3 @@ enabled m s x d P facts sel b same so i f =
       λ h. (let both = told.0 h in (so i f).1 ((b.kept i).0 both.0, subst (λ fs. Contains fs fact) same both.1)),
       λ h. (let both = (so i f).0 h in told.1 ((b.kept i).1 both.0, subst (λ fs. Contains fs fact) (sym same) both.1)),
     )
-
--- ---- refusals
-
-pub resolvable : (m : MetadataModel) (ids : IdsModel) → IsAdmitted m ids → IsResolvable m
-resolvable m ids a = record { ids = ids; admitted = a }

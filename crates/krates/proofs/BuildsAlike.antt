@@ -16,20 +16,19 @@ use Rattle.krates_ids.specs.declared.error.Error.TheVariants as errors
 use Rattle.krates_ids.specs.declared.index.IndexAnswer.{IndexAnswer}
 use Rattle.krates_ids.specs.declared.index.PackageNames.{PackageNames}
 use Rattle.krates_rules.specs.Admission.{NoneDoubled}
-use Rattle.krates_rules.specs.Facts.{Id, Fact, Crate, Lost}
+use Rattle.krates_rules.specs.Facts.{Id, Fact, Crate}
 use Rattle.krates_rules.specs.Reordering.{Reorders, ResolveAlike, IsOrderFree}
 use Rattle.krates_rules.specs.Setting.{SettingModel}
-use Rattle.krates.specs.Build.{IsResolvable, IsDerived, KeepsCrate, DropsCrate, GraphRefusal, IsRefusedSeeing}
-use Rattle.krates.specs.BuildLaws.{BuildAlike, IsBuildOrderFree, IsSeenBy}
+use Rattle.krates.specs.Build.{IsResolvable, KeepsCrate, DropsCrate, GraphRefusal, IsRefusedSeeing, IsDerived}
+use Rattle.krates.specs.BuildLaws.{BuildAlike, IsBuildOrderFree}
 use Rattle.krates_queries.specs.Drawn.{IsOutlineFor}
-use Rattle.krates.specs.Indexed.{HasNames}
+use Rattle.krates.specs.Indexed.{HasNames, IsSeenBy}
 use Rattle.krates.proofs.AdmittedAlike.{turned, resolvable_there}
 use Rattle.krates.proofs.CorrectedAlike.{OneCorrection, seen_alike}
 use Rattle.krates_drawing.proofs.DivisionLemmas.{ReadsOnce}
 use Rattle.krates.proofs.ListedAlike.{same_there, list_alike}
 use Rattle.krates_rules.proofs.Members.{Member}
 use Rattle.krates.proofs.SeenLemmas.{resolvable_seen}
-use Rattle.krates.proofs.SelectionFacts.{Selects, derived_of, none_lost}
 
 -- ---- the names that an index is asked for
 
@@ -76,55 +75,27 @@ names_same m n w names =
 -- an outline for the first document is one for the second, if no id is doubled in that
 pub outline_for_there : IsOutlineThere → (p q : MetadataModel) (s : SettingModel) (t : Outline) → Reorders p q → IsResolvable q → IsOutlineFor p s t → IsOutlineFor q s t
 outline_for_there law p q s t w r h =
-    let a = r.admitted in
-    let there = law p q w h.graph a.graph h.has_graph a.has_graph a.none_doubled s h.holds.selection h.holds.selected t h.holds.is_outline in
-    record { graph = a.graph; has_graph = a.has_graph; holds = record { selection = h.holds.selection; selected = there.0; is_outline = there.1 } }
+    let there = law p q w h.graph r.graph h.has_graph r.has_graph r.none_doubled s h.holds.selection h.holds.selected t h.holds.is_outline in
+    record { graph = r.graph; has_graph = r.has_graph; holds = record { selection = h.holds.selection; selected = there.0; is_outline = there.1 } }
 
 -- and both are drawn the same
 drawn_same : IsDrawnAlike → (p q : MetadataModel) (s : SettingModel) (t v : Outline) → Reorders p q → IsResolvable q → IsOutlineFor p s t → IsOutlineFor q s v → DrawAlike t v
 drawn_same law p q s t v w r h k =
-    let a = r.admitted in
-    let none : NoneDoubled q k.graph = subst (NoneDoubled q) (same_Some a.graph k.graph (sym a.has_graph ∙ k.has_graph)) a.none_doubled in
+    let none : NoneDoubled q k.graph = subst (NoneDoubled q) (same_Some r.graph k.graph (sym r.has_graph ∙ k.has_graph)) r.none_doubled in
     law p q w h.graph k.graph h.has_graph k.has_graph none s h.holds.selection k.holds.selection h.holds.selected k.holds.selected t v h.holds.is_outline k.holds.is_outline
 
 too_many_there : IsOutlineThere → (p q : MetadataModel) (s : SettingModel) → Reorders p q → IsResolvable q → GraphRefusal p s errors.TooMany → GraphRefusal q s errors.TooMany
-too_many_there law p q s w r h =
-    let there = outline_for_there law p q s h.holds.outline w r (record { graph = h.graph; has_graph = h.has_graph; holds = h.holds.is_outline }) in
-    let sel : Selects q s there.holds.selection = record { graph = there.graph; has_graph = there.has_graph; holds = there.holds.selected } in
-    record {
-      graph = there.graph;
-      has_graph = there.has_graph;
-      holds = record {
-        none_lost = λ c d. none_lost q s there.holds.selection sel c (derived_of q s there.graph (Lost c) there.has_graph d);
-        some = there.holds.selected.some;
-        outline = h.holds.outline;
-        is_outline = there.holds;
-        many = h.holds.many;
-      };
-    }
+too_many_there law p q s w r h = record { outline = h.outline; is_outline = outline_for_there law p q s h.outline w r h.is_outline; many = h.many }
 
 unbuilt_there : IsOutlineThere → (p q : MetadataModel) (s : SettingModel) → ResolveAlike p q → Reorders p q → IsResolvable q → (e : Error) → GraphRefusal p s e → GraphRefusal q s e
-unbuilt_there law p q s w moved r (errors.Lost what) h = (w.unselected s (errors.Lost what)).0 h
-unbuilt_there law p q s w moved r errors.NoRootKrates h = (w.unselected s errors.NoRootKrates).0 h
 unbuilt_there law p q s w moved r errors.TooMany h = too_many_there law p q s moved r h
 unbuilt_there law p q s w moved r errors.Memory h = tt
-unbuilt_there law p q s w moved r errors.NoResolveGraph h = absurd h
-unbuilt_there law p q s w moved r (errors.InvalidId t) h = absurd h
-unbuilt_there law p q s w moved r (errors.Doubled kid) h = absurd h
-unbuilt_there law p q s w moved r (errors.Metadata x) h = absurd h
-unbuilt_there law p q s w moved r (errors.InvalidPkgSpec x) h = absurd h
+unbuilt_there law p q s w moved r e h = (w.unselected s e).0 h
 
 pub refused_there : IsOutlineThere → (m n p q : Metadata) (s : SettingModel) → (IsResolvable (metadata_view m) → IsResolvable (metadata_view n) × IsResolvable (metadata_view q)) → ResolveAlike (metadata_view m) (metadata_view n)
     → ResolveAlike (metadata_view p) (metadata_view q) → Reorders (metadata_view p) (metadata_view q) → (e : Error) → IsRefusedSeeing m p s e → IsRefusedSeeing n q s e
-refused_there law m n p q s r given w moved errors.NoResolveGraph h = (given.refused errors.NoResolveGraph).0 h
-refused_there law m n p q s r given w moved (errors.InvalidId t) h = (given.refused (errors.InvalidId t)).0 h
-refused_there law m n p q s r given w moved (errors.Doubled kid) h = (given.refused (errors.Doubled kid)).0 h
-refused_there law m n p q s r given w moved (errors.Lost what) h = ((r h.0).0, unbuilt_there law (metadata_view p) (metadata_view q) s w moved (r h.0).1 (errors.Lost what) h.1)
-refused_there law m n p q s r given w moved errors.NoRootKrates h = ((r h.0).0, unbuilt_there law (metadata_view p) (metadata_view q) s w moved (r h.0).1 errors.NoRootKrates h.1)
-refused_there law m n p q s r given w moved errors.TooMany h = ((r h.0).0, unbuilt_there law (metadata_view p) (metadata_view q) s w moved (r h.0).1 errors.TooMany h.1)
-refused_there law m n p q s r given w moved errors.Memory h = tt
-refused_there law m n p q s r given w moved (errors.Metadata x) h = absurd h
-refused_there law m n p q s r given w moved (errors.InvalidPkgSpec x) h = absurd h
+refused_there law m n p q s r given w moved e (inl h) = inl ((given.refused e).0 h)
+refused_there law m n p q s r given w moved e (inr h) = let both = r h.0 in inr (both.0, unbuilt_there law (metadata_view p) (metadata_view q) s w moved both.1 e h.1)
 
 -- ---- the law
 

@@ -20,10 +20,10 @@ built_written P m (Err e) written resolvable holds = holds
 
 refused : {S : Type 0} (may_answer : Answering S) (index : Option S) (m : Metadata) (s : SettingModel) (e : Error) → IsSomeAnswer (metadata_view m) → BuildRefusal may_answer index m s e
     → CargoBuildRefusal may_answer index s e
-refused may_answer index m s (errors.Metadata cause) written h = absurd h
+refused may_answer index m s (errors.Metadata cause) written h = elim h [ inl given ↦ absurd given | inr seen ↦ absurd seen.1.holds.holds ]
 refused may_answer index m s errors.Memory written h = tt
 refused may_answer index m s errors.NoResolveGraph written h = record { metadata = m; written = written; holds = h }
-refused may_answer index m s (errors.InvalidPkgSpec what) written h = absurd h
+refused may_answer index m s (errors.InvalidPkgSpec what) written h = record { metadata = m; written = written; holds = h }
 refused may_answer index m s errors.NoRootKrates written h = record { metadata = m; written = written; holds = h }
 refused may_answer index m s (errors.InvalidId id) written h = record { metadata = m; written = written; holds = h }
 refused may_answer index m s (errors.Doubled id) written h = record { metadata = m; written = written; holds = h }

@@ -10,7 +10,7 @@ use Rattle.krates_ids.specs.declared.index.IndexAnswer.{IndexAnswer}
 use Rattle.krates_rules.specs.Reordering.{ReordersPackage, ReordersPackages, Reorders}
 use Rattle.krates_document.specs.CorrectedDocument.{IsCorrectedDocument}
 use Rattle.krates_document.proofs.CorrectedDocument.{views_corrected, rest_kept}
-use Rattle.krates.specs.BuildLaws.{IsSeenBy}
+use Rattle.krates.specs.Indexed.{IsSeenBy}
 use Rattle.krates.proofs.MovedLists.{moved_zip, zipped_through}
 
 -- a package has only one correction, up to the order of its features

@@ -1,5 +1,5 @@
 -- A correction changes no id, so a document whose packages are corrected is admitted with the same ids.
-use Rattle.std.proofs.Common.{◌≡◌, List, [], ◌∷◌, Option, Some, None, Contains, map, refl, sym, ap, ◌∙◌, subst}
+use Rattle.std.proofs.Common.{◌≡◌, List, [], ◌∷◌, Option, Some, None, Contains, map, refl, sym, ap, ◌∙◌, subst, inr}
 use Rattle.std.specs.List.{AllByRecursion, AllZip}
 use Rattle.krates_cm.specs.Document.{MetadataModel, ResolveModel, PackageModel, Text, id_view, package_view, metadata_view}
 use Rattle.krates_cm.specs.declared.metadata.Metadata.{Metadata}
@@ -7,19 +7,19 @@ use Rattle.krates_cm.specs.declared.package.Package.{Package}
 use Rattle.krates_drawing.specs.declared.edge.Edge.{Edge}
 use Rattle.krates_ids.specs.Identity.{Identity, Reads}
 use Rattle.krates_ids.specs.declared.index.IndexAnswer.{IndexAnswer}
+use Rattle.krates_ids.specs.declared.index.PackageNames.{PackageNames}
 use Rattle.krates_rules.specs.Admission.{IsAdmitted, IsDoubled, IsDoubledIn, StandsForId, package_texts, doubled_package, doubled_node, doubled_dep, of_package, of_member, of_root, of_node, of_dep, IdsModel}
 use Rattle.krates_rules.specs.Facts.{Id}
 use Rattle.krates_rules.specs.NamedIds.{IsReadOf, NamesReadIds, named_ids}
 use Rattle.krates_rules.specs.Resolved.{HasGraphWith, resolved}
 use Rattle.std.specs.Prelude.{Result, Ok, Err, IfOk, IfErr}
 use Rattle.krates_ids.specs.declared.error.Error.{Error}
-use Rattle.krates_ids.specs.declared.error.Error.TheVariants as errors
 use Rattle.krates_rules.specs.Setting.{SettingModel}
 use Rattle.krates.specs.Build.{IsResolvable, IsBuilt, GraphRefusal, BuildRefusal}
-use Rattle.krates.specs.BuildLaws.{IsSeenBy}
 use Rattle.krates_queries.specs.Kept.{KeptCrates}
 use Rattle.krates_document.specs.CorrectedDocument.{IsCorrectedPackage, IsCorrectedDocument}
-use Rattle.krates.specs.Indexed.{Answering, IsSeen, Sees}
+use Rattle.krates.specs.Indexed.{Answering, HasNames, IsSeen, Sees, IsSeenBy}
+use Rattle.krates.proofs.ResolvableLemmas.{admitted_of, resolvable}
 
 -- the texts of the ids are unchanged
 same_texts : (answer : IndexAnswer) (xs ys : List Package) → AllZip (IsCorrectedPackage answer) xs ys
@@ -58,35 +58,47 @@ admitted_corrected answer given seen ids c a =
     (ap (λ (m : Metadata). (metadata_view m).workspace_members) c.nothing_else)
     (same_texts answer given.packages.items seen.packages.items c.packages) a
 
+-- so the document that is resolved is admitted with the ids of the given one
+admitted_by : (answer : Option IndexAnswer) (given seen : Metadata) (ids : IdsModel) → IsSeenBy answer given seen → IsAdmitted (metadata_view given) ids → IsAdmitted (metadata_view seen) ids
+admitted_by None given seen ids is_seen a = subst (λ (m : Metadata). IsAdmitted (metadata_view m) ids) (sym is_seen) a
+admitted_by (Some answer) given seen ids is_seen a = admitted_corrected answer given seen ids is_seen a
+
 pub admitted_seen : {S : Type 0} (may_answer : Answering S) (index : Option S) (given seen : Metadata) (ids : IdsModel) → IsSeen may_answer index given seen
     → IsAdmitted (metadata_view given) ids → IsAdmitted (metadata_view seen) ids
-admitted_seen may_answer None given seen ids is_seen a = subst (λ (m : Metadata). IsAdmitted (metadata_view m) ids) (sym is_seen) a
-admitted_seen may_answer (Some source) given seen ids is_seen a = admitted_corrected is_seen.answer given seen ids is_seen.corrected a
+admitted_seen may_answer index given seen ids s a = subst (λ (m : Metadata). IsAdmitted (metadata_view m) ids) s.holds (admitted_by s.answer given s.seen ids s.is_seen a)
 
 -- so if the document that was given can be resolved, the corrected one can
 pub resolvable_seen : (answer : Option IndexAnswer) (given seen : Metadata) → IsSeenBy answer given seen → IsResolvable (metadata_view given) → IsResolvable (metadata_view seen)
-resolvable_seen None given seen is_seen r = subst (λ (m : Metadata). IsResolvable (metadata_view m)) (sym is_seen) r
-resolvable_seen (Some answer) given seen is_seen r = record { ids = r.ids; admitted = admitted_corrected answer given seen r.ids is_seen r.admitted }
+resolvable_seen answer given seen is_seen r =
+    let a = admitted_of (metadata_view given) r in
+    resolvable (metadata_view seen) a.0 (admitted_by answer given seen a.0 is_seen a.1)
 
 -- ---- what is said about the document that is resolved
+
+-- what holds of the document that is resolved
+seen_holds : {S : Type 0} (may_answer : Answering S) (index : Option S) (given seen : Metadata) (P : Metadata → Type 0) → IsSeen may_answer index given seen → P seen → Sees may_answer index given P
+seen_holds may_answer index given seen P s h = record { answer = s.answer; is_answer = s.is_answer; seen = s.seen; is_seen = s.is_seen; holds = subst P (sym s.holds) h }
+
+-- without an index the given one is seen
+pub unindexed : {S : Type 0} (may_answer : Answering S) (index : Option S) (m : Metadata) → index ≡ None → IsSeen may_answer index m m
+unindexed may_answer index m none =
+    subst (λ i. IsSeen may_answer i m m) (sym none) (record { answer = None; is_answer = refl; seen = m; is_seen = refl; holds = refl })
+
+-- with one, what its answer corrects
+pub answered : {S : Type 0} (may_answer : Answering S) (index : Option S) (source : S) (m seen : Metadata) (names : PackageNames) (answer : IndexAnswer) → index ≡ Some source
+    → HasNames m.packages.items names → may_answer source names answer → IsCorrectedDocument answer m seen → IsSeen may_answer index m seen
+answered may_answer index source m seen names answer is has given corrected =
+    subst (λ i. IsSeen may_answer i m seen) (sym is) (record { answer = Some answer; is_answer = (names, has, given); seen = seen; is_seen = corrected; holds = refl })
+
+-- without an index it is the given one
+pub as_given : {S : Type 0} (may_answer : Answering S) (m : Metadata) (P : Metadata → Type 0) → Sees may_answer None m P → P m
+as_given may_answer m P h = subst P (subst (λ a. IsSeenBy a m h.seen) h.is_answer h.is_seen) h.holds
 
 pub sees_built : {S F N E : Type 0} (may_answer : Answering S) (index : Option S) (given seen : Metadata) (s : SettingModel) (filters : F → Package → F → Type 0) (made : Package → N → Type 0)
     (made_edge : Edge → E → Type 0) (before after : F) (result : Result (KeptCrates N E) Error) → IsSeen may_answer index given seen → IfOk result (IsBuilt filters made made_edge seen s before after)
     → IfOk result (λ k. Sees may_answer index given (λ m. IsBuilt filters made made_edge m s before after k))
-sees_built may_answer index given seen s filters made made_edge before after (Ok k) is_seen b = record { seen = seen; is_seen = is_seen; holds = b }
+sees_built may_answer index given seen s filters made made_edge before after (Ok k) is_seen b = seen_holds may_answer index given seen (λ m. IsBuilt filters made made_edge m s before after k) is_seen b
 sees_built may_answer index given seen s filters made made_edge before after (Err e) is_seen b = tt
-
-refused_as : {S : Type 0} (may_answer : Answering S) (index : Option S) (given seen : Metadata) (s : SettingModel) → IsResolvable (metadata_view given) → IsSeen may_answer index given seen
-    → (e : Error) → GraphRefusal (metadata_view seen) s e → BuildRefusal may_answer index given s e
-refused_as may_answer index given seen s r is_seen errors.NoResolveGraph h = absurd h
-refused_as may_answer index given seen s r is_seen (errors.Metadata inner) h = absurd h
-refused_as may_answer index given seen s r is_seen (errors.InvalidPkgSpec t) h = absurd h
-refused_as may_answer index given seen s r is_seen errors.NoRootKrates h = (r, record { seen = seen; is_seen = is_seen; holds = h })
-refused_as may_answer index given seen s r is_seen (errors.InvalidId t) h = absurd h
-refused_as may_answer index given seen s r is_seen (errors.Doubled kid) h = absurd h
-refused_as may_answer index given seen s r is_seen (errors.Lost what) h = (r, record { seen = seen; is_seen = is_seen; holds = h })
-refused_as may_answer index given seen s r is_seen errors.TooMany h = (r, record { seen = seen; is_seen = is_seen; holds = h })
-refused_as may_answer index given seen s r is_seen errors.Memory h = tt
 
 -- the texts that have to be ids are the same, so the ids that are read of the corrected document are read of the given one
 same_stands : (m n : MetadataModel) (g : ResolveModel) (t : Text) → n.workspace_members ≡ m.workspace_members → package_texts n ≡ package_texts m → StandsForId n g t → StandsForId m g t
@@ -111,17 +123,16 @@ named_corrected answer given seen e c h =
     (ap (λ (m : Metadata). (metadata_view m).workspace_members) c.nothing_else)
     (same_texts answer given.packages.items seen.packages.items c.packages) h
 
-named_seen : {S : Type 0} (may_answer : Answering S) (index : Option S) (given seen : Metadata) (e : Error) → IsSeen may_answer index given seen
-    → NamesReadIds (metadata_view seen) e → NamesReadIds (metadata_view given) e
-named_seen may_answer None given seen e is_seen h = subst (λ (m : Metadata). NamesReadIds (metadata_view m) e) is_seen h
-named_seen may_answer (Some source) given seen e is_seen h = named_corrected is_seen.answer given seen e is_seen.corrected h
+named_by : (answer : Option IndexAnswer) (given seen : Metadata) (e : Error) → IsSeenBy answer given seen → NamesReadIds (metadata_view seen) e → NamesReadIds (metadata_view given) e
+named_by None given seen e is_seen h = subst (λ (m : Metadata). NamesReadIds (metadata_view m) e) is_seen h
+named_by (Some answer) given seen e is_seen h = named_corrected answer given seen e is_seen h
 
 pub sees_named : {S K : Type 0} (may_answer : Answering S) (index : Option S) (given seen : Metadata) (result : Result K Error) → IsSeen may_answer index given seen
     → IfErr result (NamesReadIds (metadata_view seen)) → IfErr result (NamesReadIds (metadata_view given))
 sees_named may_answer index given seen (Ok k) is_seen h = tt
-sees_named may_answer index given seen (Err e) is_seen h = named_seen may_answer index given seen e is_seen h
+sees_named may_answer index given seen (Err e) s h = named_by s.answer given s.seen e s.is_seen (subst (λ (m : Metadata). NamesReadIds (metadata_view m) e) (sym s.holds) h)
 
 pub sees_refused : {S : Type 0} (may_answer : Answering S) (index : Option S) (given seen : Metadata) (s : SettingModel) (ids : IdsModel) {K : Type 0} (result : Result K Error)
     → IsAdmitted (metadata_view given) ids → IsSeen may_answer index given seen → IfErr result (GraphRefusal (metadata_view seen) s) → IfErr result (BuildRefusal may_answer index given s)
 sees_refused may_answer index given seen s ids (Ok k) a is_seen h = tt
-sees_refused may_answer index given seen s ids (Err e) a is_seen h = refused_as may_answer index given seen s (record { ids = ids; admitted = a }) is_seen e h
+sees_refused may_answer index given seen s ids (Err e) a is_seen h = inr (resolvable (metadata_view given) ids a, seen_holds may_answer index given seen (λ m. GraphRefusal (metadata_view m) s e) is_seen h)

@@ -1,43 +1,47 @@
 -- What a build keeps of a document, what it reports, and why it is refused.
 --
 -- Which crates are kept is said by derivations alone: by what the document and the setting answer the rules.
-use Rattle.std.specs.Prelude.{ℕ, ◌≡◌, ◌⊎◌, ◌↔◌, ◌≤◌, ◌<◌, ◌^◌, List, Option, map, Contains, length, ⊤}
+use Rattle.std.specs.Prelude.{ℕ, ◌≡◌, ◌⊎◌, ◌↔◌, ◌≤◌, ◌<◌, ◌^◌, List, Option, Some, map, Contains, length, ⊤}
 use Rattle.std.specs.List.{AllZip, FoldsTo}
 use Rattle.std.specs.List.Sorted.{IsStrictlyIncreasing}
-use Rattle.krates_cm.specs.Document.{MetadataModel, Text, metadata_view, text_view}
+use Rattle.krates_cm.specs.Document.{MetadataModel, NodeModel, ResolveModel, Text, VersionModel, metadata_view, text_view}
+use Rattle.krates_cm.specs.Names.{version_named}
 use Rattle.krates_cm.specs.declared.metadata.Metadata.{Metadata}
 use Rattle.krates_cm.specs.declared.package.Package.{Package}
 use Rattle.krates_drawing.specs.Agreement.{DependsOn, OneEach}
 use Rattle.krates_drawing.specs.Drawing.{planned_edges, planned_nodes}
 use Rattle.krates_drawing.specs.Outline.{Outline}
 use Rattle.krates_drawing.specs.declared.edge.Edge.{Edge}
-use Rattle.krates_ids.specs.Identity.{Identity}
+use Rattle.krates_ids.specs.Identity.{Identity, Reads}
 use Rattle.krates_ids.specs.declared.error.Error.{Error}
 use Rattle.krates_ids.specs.declared.error.Error.TheVariants as errors
-use Rattle.krates_rules.specs.Admission.{IsAdmitted, IdsModel}
+use Rattle.krates_rules.specs.Admission.{IsDoubled, StandsForId, dep_texts}
 use Rattle.krates_rules.specs.AdmissionRefusals.{AdmissionRefusal}
 use Rattle.krates_rules.specs.Derivation.{Derivable}
 use Rattle.krates_rules.specs.Facts.{Id, Cause, Fact, Crate, Feature, Lost}
 use Rattle.krates_rules.specs.Questions.{questions}
-use Rattle.krates_rules.specs.Resolved.{HasGraphWith, IsMember, Resolved, StandsAt, id_of, resolved}
+use Rattle.krates_rules.specs.Resolved.{HasGraphWith, IsMember, StandsAt, id_of, resolved}
 use Rattle.krates_rules.specs.Rules.{Questions}
-use Rattle.krates_rules.specs.SelectionRefusals.{SelectionRefusal}
 use Rattle.krates_rules.specs.Setting.{SettingModel}
-use Rattle.krates_selection.specs.Selection.{IsSelectionOf}
+use Rattle.krates_selection.specs.Selection.{IsSelectionOf, RefusesSelection}
 use Rattle.krates_selection.specs.declared.selection.Selection.{Selection}
 use Rattle.krates.specs.Indexed.{Answering, Sees}
 use Rattle.krates_drawing.specs.Listed.{AreThosePackages}
 use Rattle.krates_queries.specs.DirectDependents.{IsDependent}
 use Rattle.krates_queries.specs.KeptSteps.{IsExplainedBy, steps_of}
-use Rattle.krates_queries.specs.Drawn.{HasOutline, IsDrawn, IsNumbered, planned_node}
+use Rattle.krates_queries.specs.Drawn.{IsDrawn, IsNumbered, IsOutlineFor, planned_node}
 use Rattle.krates_queries.specs.Kept.{KeptCrates, HasEnabled, ids_of, values_of}
 
 -- ---- the document
 
--- the document can be resolved: it has a resolved graph, each id that matters is read, and none is doubled
+-- the document can be resolved: it has a resolved graph, each text that has to be an id is read as one, that of a dependency as one
+-- with a semantic version, and no id is doubled
 pub record IsResolvable (m : MetadataModel) : Type 0 where
-  pub ids : IdsModel
-  pub admitted : IsAdmitted m ids
+  pub graph : ResolveModel
+  pub has_graph : m.resolve ≡ Some graph
+  pub read : (t : Text) → StandsForId m graph t → (i : Identity) × Reads t i
+  pub versions : (n : NodeModel) (t : Text) → Contains graph.nodes n → Contains (dep_texts n) t → (i : Identity) × Reads t i × ((v : VersionModel) × (version_named i.version ≡ Some v))
+  pub none_doubled : (id : Id) → IsDoubled m graph id → ⊥
 
 -- this holds of what the document's graph and the setting answer the rules
 abbrev pub Answers : MetadataModel → SettingModel → (Questions → Type 0) → Type 0
@@ -129,44 +133,27 @@ pub record IsBuilt {F N E : Type 0} (filters : F → Package → F → Type 0) (
 
 -- ---- refusals
 
--- nothing is lost and some crate is kept, and more nodes or more edges are drawn than can be numbered
-pub record HasTooMany (r : Resolved) (s : SettingModel) : Type 0 where
-  pub none_lost : (c : Cause) → Derivable (questions r s) (Lost c) → ⊥
-  pub some : (i : Id) × Derivable (questions r s) (Crate i)
+-- something is selected, so nothing is lost, and more nodes or more edges are drawn of it than can be numbered
+pub record HasTooMany (m : MetadataModel) (s : SettingModel) : Type 0 where
   pub outline : Outline
-  pub is_outline : HasOutline r s outline
+  pub is_outline : IsOutlineFor m s outline
   pub many : (2 ^ 32 ≤ length (planned_nodes outline)) ⊎ (2 ^ 32 ≤ length (planned_edges outline))
 
--- why nothing is built of a document that can be resolved; memory may always run out
+-- why nothing is built of a document that can be resolved: too much is drawn, or nothing is selected; memory may always run out
 abbrev pub GraphRefusal : MetadataModel → SettingModel → Error → Type 0
-GraphRefusal m s (errors.Lost what) = Answers m s (λ q. SelectionRefusal q (errors.Lost what))
-GraphRefusal m s errors.NoRootKrates = Answers m s (λ q. SelectionRefusal q errors.NoRootKrates)
-GraphRefusal m s errors.TooMany = HasGraphWith m (λ g. HasTooMany (resolved m g) s)
+GraphRefusal m s errors.TooMany = HasTooMany m s
 GraphRefusal m s errors.Memory = ⊤
-GraphRefusal m s _ = ⊥
+GraphRefusal m s e = RefusesSelection m s e
 
--- The first class that is true of the document counts, and the cause is true; memory may always run out. Whether the document
--- can be resolved is asked of it as it is given, and all else of it as it is resolved.
+-- The document can't be resolved as it is given, for this cause; or it can, and nothing is built of it as it is resolved, for this
+-- cause. So a cause of the first kind counts before one of the second; memory may always run out.
 abbrev pub BuildRefusal : {S : Type 0} → Answering S → Option S → Metadata → SettingModel → Error → Type 0
-BuildRefusal may_answer index m s errors.NoResolveGraph = AdmissionRefusal (metadata_view m) errors.NoResolveGraph
-BuildRefusal may_answer index m s (errors.InvalidId t) = AdmissionRefusal (metadata_view m) (errors.InvalidId t)
-BuildRefusal may_answer index m s (errors.Doubled kid) = AdmissionRefusal (metadata_view m) (errors.Doubled kid)
-BuildRefusal may_answer index m s (errors.Lost what) = IsResolvable (metadata_view m) × Sees may_answer index m (λ seen. GraphRefusal (metadata_view seen) s (errors.Lost what))
-BuildRefusal may_answer index m s errors.NoRootKrates = IsResolvable (metadata_view m) × Sees may_answer index m (λ seen. GraphRefusal (metadata_view seen) s errors.NoRootKrates)
-BuildRefusal may_answer index m s errors.TooMany = IsResolvable (metadata_view m) × Sees may_answer index m (λ seen. GraphRefusal (metadata_view seen) s errors.TooMany)
-BuildRefusal may_answer index m s errors.Memory = ⊤
-BuildRefusal may_answer index m s _ = ⊥
+BuildRefusal may_answer index m s e = AdmissionRefusal (metadata_view m) e
+    ⊎ (IsResolvable (metadata_view m) × Sees may_answer index m (λ seen. GraphRefusal (metadata_view seen) s e))
 
 -- the same for a build that is given `m` and resolves `p`
 abbrev pub IsRefusedSeeing : Metadata → Metadata → SettingModel → Error → Type 0
-IsRefusedSeeing m p s errors.NoResolveGraph = AdmissionRefusal (metadata_view m) errors.NoResolveGraph
-IsRefusedSeeing m p s (errors.InvalidId t) = AdmissionRefusal (metadata_view m) (errors.InvalidId t)
-IsRefusedSeeing m p s (errors.Doubled kid) = AdmissionRefusal (metadata_view m) (errors.Doubled kid)
-IsRefusedSeeing m p s (errors.Lost what) = IsResolvable (metadata_view m) × GraphRefusal (metadata_view p) s (errors.Lost what)
-IsRefusedSeeing m p s errors.NoRootKrates = IsResolvable (metadata_view m) × GraphRefusal (metadata_view p) s errors.NoRootKrates
-IsRefusedSeeing m p s errors.TooMany = IsResolvable (metadata_view m) × GraphRefusal (metadata_view p) s errors.TooMany
-IsRefusedSeeing m p s errors.Memory = ⊤
-IsRefusedSeeing m p s _ = ⊥
+IsRefusedSeeing m p s e = AdmissionRefusal (metadata_view m) e ⊎ (IsResolvable (metadata_view m) × GraphRefusal (metadata_view p) s e)
 
 -- the same without an index, where the document is resolved as it is given
 abbrev pub BuildRefusalAsGiven : Metadata → SettingModel → Error → Type 0

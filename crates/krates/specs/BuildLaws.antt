@@ -1,5 +1,5 @@
 -- What two builds have in common: of documents that differ only in order, and under a setting and one that keeps less.
-use Rattle.std.specs.Prelude.{◌≡◌, ◌⊎◌, ◌↔◌, List, Option, Some, None, true, false, Contains, map}
+use Rattle.std.specs.Prelude.{◌≡◌, ◌⊎◌, ◌↔◌, List, Option, true, false, Contains, map}
 use Rattle.std.specs.List.{AllZip}
 use Rattle.krates_cm.specs.Document.{metadata_view, package_view}
 use Rattle.krates_cm.specs.declared.metadata.Metadata.{Metadata}
@@ -18,17 +18,11 @@ use Rattle.krates_rules.specs.Narrowing.{IsNarrower}
 use Rattle.krates_rules.specs.Reordering.{Reorders, ReordersPackage, ResolveAlike}
 use Rattle.krates_rules.specs.Resolved.{id_of}
 use Rattle.krates_rules.specs.Setting.{SettingModel}
-use Rattle.krates.specs.Build.{IsResolvable, IsDerived, KeepsCrate, DropsCrate, IsLost, IsRefusedSeeing}
+use Rattle.krates.specs.Build.{IsResolvable, KeepsCrate, DropsCrate, IsLost, IsRefusedSeeing, IsDerived}
 use Rattle.krates_drawing.specs.Listed.{AreThosePackages}
-use Rattle.krates_document.specs.CorrectedDocument.{IsCorrectedDocument}
 use Rattle.krates_queries.specs.Drawn.{CanBeNumbered, IsOutlineFor}
-use Rattle.krates.specs.Indexed.{HasNames}
+use Rattle.krates.specs.Indexed.{HasNames, IsSeenBy}
 use Rattle.krates_queries.specs.Kept.{AreOrdered}
-
--- the document that is resolved: with an answer of an index, the one whose packages it corrects; otherwise the given one
-abbrev pub IsSeenBy : Option IndexAnswer → Metadata → Metadata → Type 0
-IsSeenBy None given seen = seen ≡ given
-IsSeenBy (Some answer) given seen = IsCorrectedDocument answer given seen
 
 -- ---- documents in another order
 

@@ -1,5 +1,5 @@
 -- The document that a build resolves: the one that it is given, or that with each package corrected by what an index answers.
-use Rattle.std.specs.Prelude.{◌≡◌, List, Option, Some, None, ⊤}
+use Rattle.std.specs.Prelude.{◌≡◌, List, Option, Some, None, IsSomeAnd, ⊤}
 use Rattle.std.specs.BTreeSet.{contains_text}
 use Rattle.std.specs.List.{list_any}
 use Rattle.std.specs.Str.{bytes_eq}
@@ -23,21 +23,24 @@ IsAskable may_ask (Some source) m = (names : PackageNames) → HasNames m.packag
 abbrev pub Answering : Type 0 → Type 1
 Answering S = S → PackageNames → IndexAnswer → Type 0
 
--- for the names of all packages there is this answer, and the document is corrected by it
-pub record IsAnswered (may_answer : PackageNames → IndexAnswer → Type 0) (given seen : Metadata) : Type 0 where
-  pub names : PackageNames
-  pub answer : IndexAnswer
-  pub all_names : HasNames given.packages.items names
-  pub is_answer : may_answer names answer
-  pub corrected : IsCorrectedDocument answer given seen
+-- the index may give this answer for the names of all packages; without an index there is none
+abbrev pub MayAnswer : {S : Type 0} → Answering S → Option S → List Package → Option IndexAnswer → Type 0
+MayAnswer may_answer None packages answer = answer ≡ None
+MayAnswer may_answer (Some source) packages answer = (names : PackageNames) × HasNames packages names × IsSomeAnd answer (may_answer source names)
 
--- without an index the document is resolved as it is, with one as it is corrected
-abbrev pub IsSeen : {S : Type 0} → Answering S → Option S → Metadata → Metadata → Type 0
-IsSeen may_answer None given seen = seen ≡ given
-IsSeen may_answer (Some source) given seen = IsAnswered (may_answer source) given seen
+-- the document that is looked at: without an answer of an index the given one, with one that whose packages it corrects
+abbrev pub IsSeenBy : Option IndexAnswer → Metadata → Metadata → Type 0
+IsSeenBy None given seen = seen ≡ given
+IsSeenBy (Some answer) given seen = IsCorrectedDocument answer given seen
 
--- this holds of the document that is resolved
+-- this holds of the document that is resolved: of the given one, as it is seen by what the index answers
 pub record Sees {S : Type 0} (may_answer : Answering S) (index : Option S) (given : Metadata) (P : Metadata → Type 0) : Type 0 where
+  pub answer : Option IndexAnswer
+  pub is_answer : MayAnswer may_answer index given.packages.items answer
   pub seen : Metadata
-  pub is_seen : IsSeen may_answer index given seen
+  pub is_seen : IsSeenBy answer given seen
   pub holds : P seen
+
+-- this is the document that is resolved
+abbrev pub IsSeen : {S : Type 0} → Answering S → Option S → Metadata → Metadata → Type 0
+IsSeen may_answer index given seen = Sees may_answer index given (λ m. m ≡ seen)

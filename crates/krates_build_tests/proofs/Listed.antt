@@ -25,8 +25,9 @@ use Rattle.krates_rules.specs.Resolved.{HasGraphWith, IsMember, Resolved, Stands
 use Rattle.krates_rules.specs.Setting.{SettingModel}
 use Rattle.krates_rules.specs.declared.kind.DepKind.{DepKind}
 use Rattle.krates_rules.specs.declared.kind.Scope.TheVariants as scopes
+use Rattle.krates.specs.Indexed.{IsSeenBy}
 use Rattle.krates.specs.Build.{AreKeptMembers, HasMember, IsMemberAt, KeepsCrate}
-use Rattle.krates.specs.BuildLaws.{IsBuildNarrowing, IsSeenBy}
+use Rattle.krates.specs.BuildLaws.{IsBuildNarrowing}
 use Rattle.krates_queries.specs.Drawn.{IsDrawing, IsOutlineFor, planned_node}
 use Rattle.krates_queries.specs.Kept.{KeptCrates, ids_of}
 use Rattle.krates_queries.specs.KratesFiltered.{AreReached, IsReached, line_view}

@@ -15,8 +15,8 @@ use Rattle.krates_rules.specs.Setting.{SettingModel}
 use Rattle.krates_rules.specs.declared.kind.DepKind.{DepKind}
 use Rattle.krates_rules.specs.declared.kind.IgnoredKinds.{IgnoredKinds}
 use Rattle.krates_rules.specs.declared.kind.Scope.TheVariants as scopes
-use Rattle.krates.specs.Build.{Answers, AreKeptMembers, KeepsCrate}
-use Rattle.krates.specs.BuildLaws.{IsSeenBy}
+use Rattle.krates.specs.Indexed.{IsSeenBy}
+use Rattle.krates.specs.Build.{AreKeptMembers, KeepsCrate, Answers}
 use Rattle.krates_queries.specs.Direct.{value_at}
 use Rattle.krates_queries.specs.Drawn.{IsDrawn}
 use Rattle.krates_queries.specs.Kept.{KeptCrates, ids_of}

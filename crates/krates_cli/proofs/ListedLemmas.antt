@@ -1,5 +1,5 @@
 -- A text that has a listing is refused for nothing that is said of it.
-use Rattle.std.proofs.Common.{◌≡◌, List, [], Option, Some, None, IsSome, IsUtf8, refl, ap, sym, ◌∙◌, ◌⊎◌, subst, inl, inr, arith, string_bytes}
+use Rattle.std.proofs.Common.{◌≡◌, List, [], Option, Some, None, IsSome, IsUtf8, refl, ap, sym, ◌∙◌, ◌⊎◌, subst, inl, inr, string_bytes}
 use Rattle.std.proofs.lemmas.Option.{none-some, same_Some}
 use Rattle.std.specs.Prelude.{MatchOption}
 use Rattle.krates_cm.specs.Document.{Text, MetadataModel, metadata_view}
@@ -22,7 +22,8 @@ use Rattle.krates_rules.specs.SelectionRefusals.{HasNoRoot, SelectionRefusal, ca
 use Rattle.krates_rules.specs.Setting.{SettingModel}
 use Rattle.krates_rules.proofs.AdmittedTexts.{none_invalid, of_graph}
 use Rattle.krates_rules.proofs.Readings.{ReadsOnce}
-use Rattle.krates.specs.Build.{Answers, BuildRefusalAsGiven, KeepsCrate}
+use Rattle.krates.proofs.ResolvableLemmas.{admitted_of}
+use Rattle.krates.specs.Build.{BuildRefusalAsGiven, KeepsCrate, Answers}
 use Rattle.krates_cli.specs.CommandLine.{AskForListing, AskForProgram, IsCause, LinesRefusal}
 use Rattle.krates_cli.specs.Listing.{ExplainsCrate, IsListing, IsListingOf, IsSplit, ListsPackages}
 use Rattle.krates_cli.specs.ListingRefusals.{IsOutside, IsUnkept, KeepsNot, RunRefusal}
@@ -53,29 +54,30 @@ document_refused text m cm_errors.NoManifestParent document refused = absurd ref
 -- a document that is divided is refused for nothing but memory, and more crates than can be numbered
 divided_refused : ReadsOnce → (s : SettingModel) (m n : Metadata) (kept others : List Package) (cause : build.Error) → metadata_view n ≡ metadata_view m
     → IsSplit s m kept others → BuildRefusalAsGiven n s cause → (cause ≡ build_errors.Memory → ⊥) → cause ≡ build_errors.TooMany
-divided_refused once s m n kept others build_errors.NoResolveGraph same split refused limited =
-    absurd (none-some _ (sym (subst (λ (d : MetadataModel). d.resolve ≡ None) same refused) ∙ split.resolvable.admitted.has_graph))
-divided_refused once s m n kept others (build_errors.InvalidId t) same split refused limited =
-    let admitted = split.resolvable.admitted in
+divided_refused once s m n kept others build_errors.NoResolveGraph same split (inl refused) limited =
+    absurd (none-some _ (sym (subst (λ (d : MetadataModel). d.resolve ≡ None) same refused) ∙ split.resolvable.has_graph))
+divided_refused once s m n kept others (build_errors.InvalidId t) same split (inl refused) limited =
+    let both = admitted_of (metadata_view m) split.resolvable in
+    let admitted = both.1 in
     let d = metadata_view m in
     let invalid = subst (λ (d : MetadataModel). HasGraphWith d (λ g. IsInvalidId d g (string_bytes t))) same refused in
-    absurd (none_invalid once d admitted.graph split.resolvable.ids (string_bytes t) admitted.read (of_graph d (λ g. IsInvalidId d g (string_bytes t)) admitted.graph admitted.has_graph invalid))
-divided_refused once s m n kept others (build_errors.Doubled kid) same split refused limited =
-    let admitted = split.resolvable.admitted in
+    absurd (none_invalid once d admitted.graph both.0 (string_bytes t) admitted.read (of_graph d (λ g. IsInvalidId d g (string_bytes t)) admitted.graph admitted.has_graph invalid))
+divided_refused once s m n kept others (build_errors.Doubled kid) same split (inl refused) limited =
+    let admitted = split.resolvable in
     let d = metadata_view m in
     let doubled = subst (λ (d : MetadataModel). HasGraphWith d (λ g. IsDoubled d g (id_of kid))) same refused in
     absurd (admitted.none_doubled (id_of kid) (of_graph d (λ g. IsDoubled d g (id_of kid)) admitted.graph admitted.has_graph doubled))
-divided_refused once s m n kept others (build_errors.Lost what) same split refused limited =
+divided_refused once s m n kept others build_errors.Memory same split refused limited = absurd (limited refl)
+divided_refused once s m n kept others _ same split (inl refused) limited = absurd refused
+divided_refused once s m n kept others (build_errors.Lost what) same split (inr refused) limited =
     absurd (split.none_lost (cause_of what) (subst (λ (d : MetadataModel). Answers d s (λ q. SelectionRefusal q (build_errors.Lost what))) same refused.1))
-divided_refused once s m n kept others build_errors.NoRootKrates same split refused limited =
+divided_refused once s m n kept others build_errors.NoRootKrates same split (inr refused) limited =
     let some = split.some.1 in
     let d = metadata_view m in
     let rootless = subst (λ (d : MetadataModel). Answers d s HasNoRoot) same refused.1 in
     absurd ((of_graph d (λ g. HasNoRoot (questions (resolved d g) s)) some.graph some.has_graph rootless).no_crate split.some.0 some.holds)
-divided_refused once s m n kept others build_errors.TooMany same split refused limited = refl
-divided_refused once s m n kept others build_errors.Memory same split refused limited = absurd (limited refl)
-divided_refused once s m n kept others (build_errors.Metadata _) same split refused limited = absurd refused
-divided_refused once s m n kept others (build_errors.InvalidPkgSpec _) same split refused limited = absurd refused
+divided_refused once s m n kept others build_errors.TooMany same split (inr refused) limited = refl
+divided_refused once s m n kept others _ same split (inr refused) limited = absurd refused.1.holds
 
 -- the packages of a document that has a listing
 split_of : (s : SettingModel) (m : Metadata) (lines : Text) (explaining : Option Identity) → MatchOption explaining (ListsPackages s m lines) (λ krate. ExplainsCrate s m krate lines)

@@ -1,5 +1,5 @@
 -- What a refused build says of a text.
-use Rattle.std.proofs.Common.{◌≡◌, ◌<◌, ◌∷◌, ◌++◌, codes, ℕ, zero, suc, List, [], true, Option, None, Some, IfSome, IsUtf8, Result, Ok, Err, IfOk, IfErr, String, Global, string_bytes, arith, get_or, length, map, refl, sym, ap, subst, ◌∙◌}
+use Rattle.std.proofs.Common.{◌≡◌, ◌<◌, ◌∷◌, ◌++◌, codes, ℕ, zero, suc, List, [], true, Option, None, Some, IfSome, IsUtf8, Result, Ok, Err, IfOk, IfErr, String, Global, string_bytes, arith, get_or, length, map, refl, sym, ap, subst, ◌∙◌, inl, inr}
 use Rattle.std.specs.List.{AllZip}
 use Rattle.std.specs.Prelude.{MatchOption, ⊤}
 use Rattle.krates_cm.specs.Document.{Text, metadata_view}
@@ -18,6 +18,8 @@ use Rattle.krates_rules.specs.Setting.{SettingModel}
 use Rattle.krates_ids.specs.declared.error.Error.TheVariants as causes
 use Rattle.krates.specs.Build.{BuildRefusal, KeepsCrate, IsBuilt, BuildRefusalAsGiven, GraphRefusal, IsResolvable}
 use Rattle.krates.specs.Indexed.{Answering, Sees}
+use Rattle.krates.proofs.ResolvableLemmas.{admitted_of}
+use Rattle.krates.proofs.SeenLemmas.{as_given}
 use Rattle.krates_cli.specs.declared.run_error.RunError.{RunError}
 use Rattle.krates_cli.specs.declared.run_error.RunError.TheVariants as errors
 use Rattle.krates_queries.specs.Kept.{KeptCrates, ids_of, values_of}
@@ -40,19 +42,9 @@ NoWrite errors.Write = ⊥
 NoWrite _ = ⊤
 
 -- without an index the document is looked at as it is given
-pub as_given : {S : Type 0} (may_answer : Answering S) (m : Metadata) (P : Metadata → Type 0) → Sees may_answer None m P → P m
-as_given may_answer m P h = subst P h.is_seen h.holds
-
 pub refused_as_given : {S : Type 0} (may_answer : Answering S) (m : Metadata) (s : SettingModel) (cause : build.Error) → BuildRefusal may_answer None m s cause → BuildRefusalAsGiven m s cause
-refused_as_given a m s causes.NoResolveGraph h = h
-refused_as_given a m s (causes.InvalidId t) h = h
-refused_as_given a m s (causes.Doubled kid) h = h
-refused_as_given a m s (causes.Lost what) h = (h.0, as_given a m (λ seen. GraphRefusal (metadata_view seen) s (causes.Lost what)) h.1)
-refused_as_given a m s causes.NoRootKrates h = (h.0, as_given a m (λ seen. GraphRefusal (metadata_view seen) s causes.NoRootKrates) h.1)
-refused_as_given a m s causes.TooMany h = (h.0, as_given a m (λ seen. GraphRefusal (metadata_view seen) s causes.TooMany) h.1)
-refused_as_given a m s causes.Memory h = tt
-refused_as_given a m s (causes.Metadata cause) h = absurd h
-refused_as_given a m s (causes.InvalidPkgSpec text) h = absurd h
+refused_as_given a m s cause (inl given) = inl given
+refused_as_given a m s cause (inr seen) = inr (seen.0, as_given a m (λ seen. GraphRefusal (metadata_view seen) s cause) seen.1)
 
 -- a document whose build is refused has no listing, for the same reason
 pub unbuilt : (a : Request) (m : Metadata) (cause : build.Error) (e : RunError) → BuildRefusalAsGiven m a.setting cause → BuildErrorBecomes cause e → IsUnlisted a m e
@@ -175,8 +167,8 @@ explained s m made_edge kept before after krate lines resolvable built e =
       steps = e.steps;
       why = record {
         accepted = record {
-          ids = resolvable.ids;
-          admitted = resolvable.admitted;
+          ids = (admitted_of (metadata_view m) resolvable).0;
+          admitted = (admitted_of (metadata_view m) resolvable).1;
           holds = record { graph = follows.graph; has_graph = follows.has_graph; holds = e.why.accepted (resolved (metadata_view m) follows.graph) s follows.holds };
         };
         ends = e.ends;

@@ -2,6 +2,7 @@
 use Rattle.std.proofs.Common.{◌≡◌, ◌↔◌, List, Contains, Option, None, Some, map, subst}
 use Rattle.krates.specs.Build.{IsBuilt, KeepsCrate}
 use Rattle.krates.specs.Indexed.{Answering, Sees}
+use Rattle.krates.proofs.SeenLemmas.{as_given}
 use Rattle.krates_cm.specs.Document.{metadata_view}
 use Rattle.krates_cm.specs.declared.metadata.Metadata.{Metadata}
 use Rattle.krates_cm.specs.declared.package.Package.{Package}
@@ -22,6 +23,6 @@ module _ {S F N E : Type 0} (may_answer : Answering S) (filters : F → Package 
     setting = chosen;
     chosen = is_chosen;
     kept = subst (λ (t : SettingModel). (i : Id) → KeepsCrate (metadata_view m) t i ↔ Contains (map id_of (ids_of k)) i) under
-        (subst (λ (seen : Metadata). (i : Id) → KeepsCrate (metadata_view seen) s i ↔ Contains (map id_of (ids_of k)) i) sees.is_seen sees.holds.kept);
+        (as_given may_answer m (λ seen. IsBuilt filters made made_edge seen s before after k) sees).kept;
   }
   build_of (Some source) m c also s chosen before after k unindexed under is_chosen sees = cc

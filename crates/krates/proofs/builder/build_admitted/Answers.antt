@@ -17,12 +17,13 @@ use Rattle.krates.specs.declared.builder.Rest.{Rest}
 use Rattle.krates_drawing.specs.declared.division.Division.{Division}
 use Rattle.krates.specs.Members.{AreNumbersOf}
 use Rattle.krates_drawing.specs.Node.{crate_ids}
-use Rattle.krates.proofs.BuildLemmas.{package_ids, ids_distinct, resolvable}
+use Rattle.krates.proofs.BuildLemmas.{package_ids, ids_distinct}
 use Rattle.krates.proofs.ConnectedLemmas.{agrees, connects}
 use Rattle.krates.proofs.DrawnLemmas.{builds_outline, is_built, kept_ids, outline_stands}
 use Rattle.krates.proofs.ExplainedLemmas.{explains, kept_steps}
 use Rattle.krates.proofs.Numbered.{numbered, numbered_graph, undrawn, undrawn_names}
 use Rattle.krates.proofs.MemberLemmas.{crate_numbers, kept_members}
+use Rattle.krates.proofs.ResolvableLemmas.{resolvable}
 use Rattle.krates_rules.proofs.OrderedIds.{Compares}
 use Rattle.krates.proofs.builder.build_admitted.Goals as goal
 

@@ -1,4 +1,7 @@
+use Rattle.std.proofs.Common.{rules}
+use Rattle.krates_cm.specs.Document.{metadata_view}
 use Rattle.krates_document.specs.Ids.{ids_view}
+use Rattle.krates.proofs.ResolvableLemmas.{on_ok, resolvable}
 use Rattle.krates.proofs.SeenLemmas.{admitted_seen, sees_built, sees_named, sees_refused}
 use Rattle.krates.proofs.builder.Builder.build_with_metadata.Goals as goal
 
@@ -13,3 +16,11 @@ returns-clause-refused g c = rw (← c.self.view_is) (sees_refused _ _ c.args.me
 
 pub returns-clause-named : goal.returns-clause-named
 returns-clause-named g c = sees_named _ _ c.args.metadata c.in_ok-metadata.metadata _ c.in_ok-metadata.ensures.seen c.build_admitted.ensures.named
+
+pub seen_through-requires : goal.seen_through-requires
+seen_through-requires g c =
+    let can = resolvable (metadata_view c.args.metadata) (ids_view c.in_ok-ids.ids) c.in_ok-ids.ensures.admitted in
+    search rules
+
+pub returns-clause-admitted : goal.returns-clause-admitted
+returns-clause-admitted g c = on_ok _ c.build_admitted.result (resolvable (metadata_view c.args.metadata) (ids_view c.in_ok-ids.ids) c.in_ok-ids.ensures.admitted)
