@@ -5,7 +5,6 @@ use Rattle.std.specs.List.{AllZip}
 use Rattle.krates_cm.specs.Document.{Text, VersionModel, NodeModel, ResolveModel, MetadataModel}
 use Rattle.krates_ids.specs.Identity.{Identity, Reads}
 use Rattle.krates_rules.specs.Admission.{AreDepIds, AreIdsOf, HasThisVersion, IdsModel, IsAdmitted, IsRootId, StandsForId, dep_texts, node_texts, of_dep, of_member, of_node, of_package, of_root, package_texts}
-use Rattle.krates_document.proofs.AdmissionLemmas.{have_versions}
 use Rattle.krates_rules.proofs.Members.{Member, member_of, contains_of, partner_of}
 use Rattle.krates.specs.Build.{IsResolvable}
 
@@ -26,7 +25,7 @@ root_read (Some u) (Some i) t h e = (i, subst (λ v. Reads v i) (same_Some u t e
 dep_read : (m : MetadataModel) (g : ResolveModel) (ids : IdsModel) (n : NodeModel) (t : Text) → AreIdsOf m g ids → Contains g.nodes n → Contains (dep_texts n) t → IsVersioned t
 dep_read m g ids n t a c d =
     let list = partner_of AreDepIds g.nodes ids.deps n a.deps (member_of g.nodes n c) in
-    let id = partner_of Reads (dep_texts n) list.partner t list.related.read (member_of (dep_texts n) t d) in
+    let id = partner_of Reads (dep_texts n) list.partner t list.related (member_of (dep_texts n) t d) in
     let versions = partner_of (AllZip HasThisVersion) ids.deps ids.versions list.partner a.versions list.member in
     let version = partner_of HasThisVersion list.partner versions.partner id.partner versions.related id.member in
     (id.partner, id.related, (version.partner, version.related))
@@ -86,7 +85,7 @@ nodes_read [] read = record { ids = []; versions = []; read = tt; have = tt }
 nodes_read (n ∷ nodes) read =
     let first = deps_read (dep_texts n) (λ t d. read n t (inl refl) d) in
     let rest = nodes_read nodes (λ o t c d. read o t (inr c) d) in
-    record { ids = first.ids ∷ rest.ids; versions = first.versions ∷ rest.versions; read = (record { read = first.read; versions = have_versions first.ids first.versions first.have }, rest.read); have = (first.have, rest.have) }
+    record { ids = first.ids ∷ rest.ids; versions = first.versions ∷ rest.versions; read = (first.read, rest.read); have = (first.have, rest.have) }
 
 pub admitted_of : (m : MetadataModel) → IsResolvable m → (ids : IdsModel) × IsAdmitted m ids
 admitted_of m r =

@@ -3,9 +3,8 @@ use Rattle.std.proofs.Common.{◌≡◌, ℕ, zero, suc, ◌<◌, List, [], ◌�
 use Rattle.std.specs.List.{AllZip, AllByRecursion}
 use Rattle.std.specs.Prelude.{String}
 use Rattle.std.specs.declared.alloc.Global.{Global}
-use Rattle.std.proofs.lemmas.Option.{none-some}
 use Rattle.std.proofs.lemmas.Simd.{map-map}
-use Rattle.krates_cm.specs.Document.{Text, VersionModel, NodeModel, ResolveModel, MetadataModel, id_view, node_view, node_dep_view, package_view, resolve_view, metadata_view}
+use Rattle.krates_cm.specs.Document.{Text, NodeModel, ResolveModel, MetadataModel, id_view, node_view, node_dep_view, package_view, resolve_view, metadata_view}
 use Rattle.krates_cm.specs.declared.metadata.Metadata.{Metadata}
 use Rattle.krates_cm.specs.declared.package.Package.{Package}
 use Rattle.krates_cm.specs.declared.resolve.Resolve.{Resolve}
@@ -15,7 +14,7 @@ use Rattle.krates_cm.specs.declared.package_id.PackageId.{PackageId}
 use Rattle.krates_ids.specs.Identity.{Identity, Reads, Fault, IsFault}
 use Rattle.krates_ids.specs.declared.error.Error.{Error}
 use Rattle.krates_ids.specs.declared.error.Error.TheVariants as errors
-use Rattle.krates_rules.specs.Admission.{package_texts, node_texts, dep_texts, HasVersion, HasThisVersion, StandsForId, of_package, of_node, of_dep, IsInvalidId, unread, bad_version, AreDepIds, AreIdsOf, IsDoubledIn, IsDoubled, doubled_package, doubled_node, doubled_dep, NoneDoubled, IdsModel}
+use Rattle.krates_rules.specs.Admission.{package_texts, node_texts, dep_texts, StandsForId, of_package, of_node, of_dep, IsInvalidId, unread, bad_version, AreDepIds, AreIdsOf, IsDoubledIn, IsDoubled, doubled_package, doubled_node, doubled_dep, NoneDoubled, IdsModel}
 use Rattle.krates_rules.specs.AdmissionRefusals.{AdmissionRefusal}
 use Rattle.krates_document.specs.AdmissionSteps.{IsInvalidBy, InvalidIdRefusal, IsNoId, UnreadRefusal, IsBadText, InvalidDepRefusal, InvalidNodeRefusal, AreAllDistinct, HasDoubled, IsDoubledBy, DoubledRefusal, DoubledInRefusal, IsDoubledWithin, among_packages, among_nodes, among_deps, DoubledWithinRefusal}
 use Rattle.krates_rules.specs.DistinctIds.{IsDoubledAmong, AreDistinct}
@@ -46,12 +45,6 @@ node_texts_of g = map-map (λ n. n.id) node_view g.nodes.items
 -- the ids of a node's dependencies, as the code and as the definitions see them
 pub dep_texts_of : (n : Node) → dep_texts (node_view n) ≡ map (λ (d : NodeDep). id_view d.pkg) n.deps.items
 dep_texts_of n = map-map (λ d. d.pkg) node_dep_view n.deps.items
-
--- ids whose versions are read have versions
-pub have_versions : (ids : List Identity) (versions : List VersionModel) → AllZip HasThisVersion ids versions → AllByRecursion HasVersion ids
-have_versions [] versions z = tt
-have_versions (i ∷ ids) [] z = absurd z
-have_versions (i ∷ ids) (v ∷ versions) z = (λ none. none-some v (sym none ∙ z.0), have_versions ids versions z.1)
 
 -- ---- a refusal by its class
 
@@ -177,14 +170,14 @@ none_doubled once m g ids are distinct id (doubled_package t) = distinct.package
 none_doubled once m g ids are distinct id (doubled_node t) = distinct.nodes id (texts_twice once _ _ id are.nodes t)
 none_doubled once m g ids are distinct id (doubled_dep n among t) =
     let w = dep_list g.nodes ids.deps n among.0 are.deps among.1 among.2 in
-    each_at AreDistinct ids.deps w.0 w.1.0 distinct.deps w.1.1 w.1.2 id (texts_twice once _ _ id w.2.read t)
+    each_at AreDistinct ids.deps w.0 w.1.0 distinct.deps w.1.1 w.1.2 id (texts_twice once _ _ id w.2 t)
 
 doubled_of : (m : MetadataModel) (g : ResolveModel) (ids : IdsModel) (kid : Identity) → AreIdsOf m g ids → IsDoubledWithin ids kid → IsDoubled m g (id_of kid)
 doubled_of m g ids kid are (among_packages t) = doubled_package (twice_texts _ _ (id_of kid) are.packages t.1)
 doubled_of m g ids kid are (among_nodes t) = doubled_node (twice_texts _ _ (id_of kid) are.nodes t.1)
 doubled_of m g ids kid are (among_deps list among t) =
     let w = list_deps g.nodes ids.deps list among.0 are.deps among.1 among.2 in
-    doubled_dep w.0 w.1 (twice_texts _ _ (id_of kid) w.2.read t.1)
+    doubled_dep w.0 w.1 (twice_texts _ _ (id_of kid) w.2 t.1)
 
 -- a document in which an id stands twice is refused
 pub twice_refused : (m : MetadataModel) (g : ResolveModel) (ids : IdsModel) → m.resolve ≡ Some g → AreIdsOf m g ids → (e : Error) → DoubledWithinRefusal ids e → AdmissionRefusal m e
@@ -208,7 +201,7 @@ read_of m g ids kid are (among_packages t) = let w = text_of (package_texts m) i
 read_of m g ids kid are (among_nodes t) = let w = text_of (node_texts g) ids.nodes kid are.nodes t.0 in (w.0, of_node w.1, w.2)
 read_of m g ids kid are (among_deps list among t) =
     let n = list_deps g.nodes ids.deps list among.0 are.deps among.1 among.2 in
-    let w = text_of (dep_texts n.0) list kid n.2.read t.0 in
+    let w = text_of (dep_texts n.0) list kid n.2 t.0 in
     (w.0, of_dep n.0 n.1 w.1, w.2)
 
 pub twice_named : (m : MetadataModel) (g : ResolveModel) (ids : IdsModel) → m.resolve ≡ Some g → AreIdsOf m g ids → (e : Error) → DoubledWithinRefusal ids e → NamesReadIds m e

@@ -55,7 +55,7 @@ no_dep_told once r parent child x none of absent n d has dep =
     let at = place_in p.at.node.deps d e.among in
     let pkg : NodeDepModel → _ = λ m. m.pkg in
     let text : slice_get (dep_texts p.at.node) at.0 ≡ Some d.pkg = slice_get-map pkg p.at.node.deps at.0 ∙ ap (option_map pkg) at.1 in
-    let y = right_of Reads (dep_texts p.at.node) x.children.now at.0 d.pkg p.children.read text in
+    let y = right_of Reads (dep_texts p.at.node) x.children.now at.0 d.pkg p.children text in
     absent at.0 (record { there = y.0; at = y.1; same = ap id_of (once d.pkg y.0 e.id.read y.2 e.id.reads) ∙ e.id.same })
 
 -- the entry at the child's place is the one between the two crates

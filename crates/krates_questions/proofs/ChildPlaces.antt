@@ -16,8 +16,8 @@ use Rattle.krates_questions.proofs.LeastReferents.{AreLookedAt}
 -- two readings of the same texts have the same id at a place
 same_there : ReadsOnce → (n : NodeModel) (kids ids : List Identity) (k : ℕ) (i : Identity) → AreDepIds n kids → AreDepIds n ids → slice_get ids k ≡ Some i → slice_get kids k ≡ Some i
 same_there once n kids ids k i these those at =
-    let w = left_of Reads (dep_texts n) ids k i those.read at in
-    let y = right_of Reads (dep_texts n) kids k w.0 these.read w.1 in
+    let w = left_of Reads (dep_texts n) ids k i those at in
+    let y = right_of Reads (dep_texts n) kids k w.0 these w.1 in
     y.1 ∙ ap (λ x. Some x) (once w.0 y.0 i y.2 w.2)
 
 -- a place of the id is among the places under the name of its package

@@ -93,7 +93,7 @@ dep_there once d p child place index v h at is =
     let numbers = names_at (AreNumbersOf ids) (ids_view d.ids.now).deps d.ids.now.table.dep_numbers place kids.0 v d.ids.now.indexed.dep_numbers kids.1 is in
     let pkg : NodeDepModel → Text = λ x. x.pkg in
     let text : slice_get (dep_texts n) index ≡ Some at.dep.pkg = slice_get-map pkg n.deps index ∙ ap (option_map pkg) at.at in
-    numbered_there once ids (dep_texts n) kids.0 v.items index at.dep.pkg child kids.2.read numbers text at.id
+    numbered_there once ids (dep_texts n) kids.0 v.items index at.dep.pkg child kids.2 numbers text at.id
 
 pub dep_numbered : ReadsOnce → (d : Lookup) (p child : Id) (place index : ℕ) (v : Vec (Option ℕ)) (number : Option ℕ) → IsLookup d → DepAt (resolved_view d) p child place index → v ≡ get_or d.ids.now.table.dep_numbers.items place v
     → number ≡ get_or v.items index number → IsNumberIn d child number

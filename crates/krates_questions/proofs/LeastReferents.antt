@@ -161,7 +161,7 @@ answers_there once r parts name child none p n =
     let at = place_in p.at.node.deps n.dep d.among in
     let pkg : NodeDepModel → Text = λ e. e.pkg in
     let text : slice_get (dep_texts p.at.node) at.0 ≡ Some n.dep.pkg = slice_get-map pkg p.at.node.deps at.0 ∙ ap (option_map pkg) at.1 in
-    let y = right_of Reads (dep_texts p.at.node) parts.children.now at.0 n.dep.pkg p.children.read text in
+    let y = right_of Reads (dep_texts p.at.node) parts.children.now at.0 n.dep.pkg p.children text in
     let is : id_of y.0 ≡ child = ap id_of (once n.dep.pkg y.0 d.id.read y.2 d.id.reads) ∙ d.id.same in
     let here : slice_get (map node_dep_view parts.deps.now) at.0 ≡ Some n.dep = ap (λ ds. slice_get ds at.0) (sym p.deps) ∙ at.1 in (
       at.0,
@@ -178,8 +178,8 @@ same_kid : ReadsOnce → (n : NodeModel) (kids others : List Identity) (k : ℕ)
 same_kid once n kids others k d c these those at there =
     let pkg : NodeDepModel → Text = λ e. e.pkg in
     let text : slice_get (dep_texts n) k ≡ Some d.pkg = slice_get-map pkg n.deps k ∙ ap (option_map pkg) at in
-    let one = right_of Reads (dep_texts n) kids k d.pkg these.read text in
-    let other = right_of Reads (dep_texts n) others k d.pkg those.read text in
+    let one = right_of Reads (dep_texts n) kids k d.pkg these text in
+    let other = right_of Reads (dep_texts n) others k d.pkg those text in
     let is : one.0 ≡ c = once d.pkg one.0 other.0 one.2 other.2 ∙ same_Some other.0 c (sym other.1 ∙ there) in
     one.1 ∙ ap (λ x. Some x) is
 

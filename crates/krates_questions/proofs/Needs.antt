@@ -122,7 +122,7 @@ children_told once r p child x none of = (to, back)
         let at = place_in of.parts.at.node.deps h.dep e.among in
         let pkg : NodeDepModel → _ = λ m. m.pkg in
         let text : slice_get (dep_texts of.parts.at.node) at.0 ≡ Some h.dep.pkg = slice_get-map pkg of.parts.at.node.deps at.0 ∙ ap (option_map pkg) at.1 in
-        let y = right_of Reads (dep_texts of.parts.at.node) x.children.now at.0 h.dep.pkg of.parts.children.read text in
+        let y = right_of Reads (dep_texts of.parts.at.node) x.children.now at.0 h.dep.pkg of.parts.children text in
         let is : id_of y.0 ≡ child = ap id_of (once h.dep.pkg y.0 e.id.read y.2 e.id.reads) ∙ e.id.same in
         contains_at (map id_of x.children.now) at.0 child (slice_get-map id_of x.children.now at.0 ∙ ap (option_map id_of) y.1 ∙ ap (λ z. Some z) is)
 
@@ -132,7 +132,7 @@ children_told once r p child x none of = (to, back)
         let s = seen_at id_of x.children.now at.0 child at.1 in
         let y = get_or x.children.now at.0 s.0 in
         let there : slice_get x.children.now at.0 ≡ Some y = slice_get-get_or x.children.now at.0 s.0 s.1 in
-        let t = left_of Reads (dep_texts of.parts.at.node) x.children.now at.0 y of.parts.children.read there in
+        let t = left_of Reads (dep_texts of.parts.at.node) x.children.now at.0 y of.parts.children there in
         let pkg : NodeDepModel → _ = λ m. m.pkg in
         let d = seen_at pkg of.parts.at.node.deps at.0 t.0 t.1 in
         let dep = get_or of.parts.at.node.deps at.0 d.0 in

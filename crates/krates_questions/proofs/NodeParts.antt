@@ -48,7 +48,7 @@ node_here r ids k i z at =
 -- the dependency at a place has the id at that place
 pub has_dep_here : (n : NodeModel) (ids : List Identity) (k : ℕ) (d : NodeDepModel) (i : Identity) → AreDepIds n ids → slice_get n.deps k ≡ Some d → slice_get ids k ≡ Some i → HasDep n (id_of i) d
 has_dep_here n ids k d i z here at =
-    let w = at_place (λ (d : NodeDepModel). d.pkg) n.deps ids (id_of i) k z.read (record { there = i; at = at; same = refl }) in
+    let w = at_place (λ (d : NodeDepModel). d.pkg) n.deps ids (id_of i) k z (record { there = i; at = at; same = refl }) in
     record { among = contains_at n.deps k d here; id = subst (λ (e : NodeDepModel). ReadsAs e.pkg (id_of i)) (same_Some w.0 d (sym w.1 ∙ here)) w.2 }
 
 pub dep_ids_here : (g : ResolveModel) (lists : List (List Identity)) (k : ℕ) (n : NodeModel) (ids : List Identity) → AllZip AreDepIds g.nodes lists → slice_get g.nodes k ≡ Some n → slice_get lists k ≡ Some ids → AreDepIds n ids
@@ -130,7 +130,7 @@ parts_here d place x n ids h lt is_id is_node is_ids deps children versions decl
 -- a child has the dependency at its place
 pub deps_long : (r : Resolved) (place : ℕ) (x : NodeParts) → AreParts r place x → length x.children.now ≡ length x.deps.now
 deps_long r place x p =
-    sym (long_zip Reads (dep_texts p.at.node) x.children.now p.children.read) ∙ length-map p.at.node.deps (λ (d : NodeDepModel). d.pkg) ∙ ap length p.deps ∙ length-map x.deps.now node_dep_view
+    sym (long_zip Reads (dep_texts p.at.node) x.children.now p.children) ∙ length-map p.at.node.deps (λ (d : NodeDepModel). d.pkg) ∙ ap length p.deps ∙ length-map x.deps.now node_dep_view
 
 -- and so has its version
 pub own_long : (r : Resolved) (place : ℕ) (x : NodeParts) → AreParts r place x → length x.versions.now ≡ length x.children.now
@@ -200,7 +200,7 @@ entry_here r place x k y p e =
       tells = whole.tells;
       at = whole.at;
       parent_read = subst (IsReadOf r) (sym e.parent) p.read;
-      child_read = read_at r (dep_texts p.at.node) x.children.now k y.child.now (λ t among. of_dep p.at.node p.has_node.among among) p.children.read e.child;
+      child_read = read_at r (dep_texts p.at.node) x.children.now k y.child.now (λ t among. of_dep p.at.node p.has_node.among among) p.children e.child;
     }
 
 -- within a vector's items is within the vector

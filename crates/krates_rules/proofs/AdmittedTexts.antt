@@ -1,11 +1,11 @@
 -- The texts of an admitted document that have to be ids: each is read, and none is invalid.
 use Rattle.std.proofs.Common.{◌≡◌, ℕ, zero, suc, ◌<◌, List, [], ◌∷◌, length, get_or, Contains, Option, Some, None, refl, sym, ◌∙◌, subst, arith}
 use Rattle.std.proofs.lemmas.Option.{none-some, same_Some}
-use Rattle.std.specs.List.{AllByRecursion, AllZip}
-use Rattle.krates_cm.specs.Document.{MetadataModel, NodeModel, ResolveModel, Text}
+use Rattle.std.specs.List.{AllZip}
+use Rattle.krates_cm.specs.Document.{MetadataModel, NodeModel, ResolveModel, Text, VersionModel}
 use Rattle.krates_cm.specs.Names.{version_named}
 use Rattle.krates_ids.specs.Identity.{Identity, Reads}
-use Rattle.krates_rules.specs.Admission.{AreDepIds, AreIdsOf, HasVersion, IdsModel, IsInvalidId, IsRootId, StandsForId, bad_version, dep_texts, node_texts, of_dep, of_member, of_node, of_package, of_root, package_texts, unread}
+use Rattle.krates_rules.specs.Admission.{AreDepIds, AreIdsOf, HasThisVersion, IdsModel, IsInvalidId, IsRootId, StandsForId, bad_version, dep_texts, node_texts, of_dep, of_member, of_node, of_package, of_root, package_texts, unread}
 use Rattle.krates_rules.specs.Resolved.{HasGraphWith}
 use Rattle.krates_rules.proofs.Readings.{ReadsOnce}
 
@@ -23,18 +23,15 @@ beside R (a ∷ xs) (b ∷ ys) x (suc k) zip lt is =
     let w = beside R xs ys x k zip.1 (omega arith) is in
     (w.0, (suc w.1.0, omega (arith, w.1.1), w.1.2), w.2)
 
-each : {A : Type 0} (P : A → Type 0) (xs : List A) (x : A) (k : ℕ) → AllByRecursion P xs → k < length xs → get_or xs k x ≡ x → P x
-each P [] x k h lt is = absurd (omega arith)
-each P (a ∷ xs) x zero h lt is = subst P is h.0
-each P (a ∷ xs) x (suc k) h lt is = each P xs x k h.1 (omega arith) is
-
 -- an id of a dependency that stands among the nodes, with its version
-dep_id : (g : ResolveModel) (ids : List (List Identity)) (n : NodeModel) (t : Text) → AllZip AreDepIds g.nodes ids → Contains g.nodes n → Contains (dep_texts n) t
-    → (i : Identity) × Reads t i × HasVersion i
-dep_id g ids n t zip node dep =
-    let list = beside AreDepIds g.nodes ids n node.0 zip node.1 node.2 in
-    let w = beside Reads (dep_texts n) list.0 t dep.0 list.2.read dep.1 dep.2 in
-    (w.0, w.2, each HasVersion list.0 w.0 w.1.0 list.2.versions w.1.1 w.1.2)
+dep_id : (m : MetadataModel) (g : ResolveModel) (ids : IdsModel) (n : NodeModel) (t : Text) → AreIdsOf m g ids → Contains g.nodes n → Contains (dep_texts n) t
+    → (i : Identity) × Reads t i × ((v : VersionModel) × HasThisVersion i v)
+dep_id m g ids n t are node dep =
+    let list = beside AreDepIds g.nodes ids.deps n node.0 are.deps node.1 node.2 in
+    let w = beside Reads (dep_texts n) list.0 t dep.0 list.2 dep.1 dep.2 in
+    let versions = beside (AllZip HasThisVersion) ids.deps ids.versions list.0 list.1.0 are.versions list.1.1 list.1.2 in
+    let version = beside HasThisVersion list.0 versions.0 w.0 w.1.0 versions.2 w.1.1 w.1.2 in
+    (w.0, w.2, (version.0, version.2))
 
 root_id : (text : Option Text) (root : Option Identity) (t : Text) → IsRootId text root → text ≡ Some t → (i : Identity) × Reads t i
 root_id None root t is e = absurd (none-some t e)
@@ -47,11 +44,11 @@ stands_read m g ids t are (of_package c) = let w = beside Reads (package_texts m
 stands_read m g ids t are (of_member c) = let w = beside Reads m.workspace_members ids.members t c.0 are.members c.1 c.2 in (w.0, w.2)
 stands_read m g ids t are (of_root e) = root_id g.root ids.root t are.root e
 stands_read m g ids t are (of_node c) = let w = beside Reads (node_texts g) ids.nodes t c.0 are.nodes c.1 c.2 in (w.0, w.2)
-stands_read m g ids t are (of_dep n c d) = let w = dep_id g ids.deps n t are.deps c d in (w.0, w.1)
+stands_read m g ids t are (of_dep n c d) = let w = dep_id m g ids n t are c d in (w.0, w.1)
 
 -- of an admitted document no id is invalid
 pub none_invalid : ReadsOnce → (m : MetadataModel) (g : ResolveModel) (ids : IdsModel) (t : Text) → AreIdsOf m g ids → IsInvalidId m g t → ⊥
 none_invalid once m g ids t are (unread stands none) = let w = stands_read m g ids t are stands in none w.0 w.1
 none_invalid once m g ids t are (bad_version n c d i reads none) =
-    let w = dep_id g ids.deps n t are.deps c d in
-    w.2 (subst (λ (j : Identity). version_named j.version ≡ None) (once t i w.0 reads w.1) none)
+    let w = dep_id m g ids n t are c d in
+    none-some w.2.0 (sym (subst (λ (j : Identity). version_named j.version ≡ None) (once t i w.0 reads w.1) none) ∙ w.2.1)

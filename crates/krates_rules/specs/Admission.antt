@@ -1,7 +1,7 @@
 -- Which documents can be resolved at all: there is a resolved graph, each id that matters is read, and none is
 -- doubled (Cargo Book, "cargo metadata", "JSON format").
 use Rattle.std.specs.Prelude.{◌≡◌, ℕ, ◌<◌, List, Option, Some, None, map, Contains, slice_get, MatchOption, IsSomeAnd}
-use Rattle.std.specs.List.{AllZip, AllByRecursion}
+use Rattle.std.specs.List.{AllZip}
 use Rattle.krates_cm.specs.Document.{Text, VersionModel, NodeModel, ResolveModel, MetadataModel}
 use Rattle.krates_cm.specs.Names.{version_named}
 use Rattle.krates_ids.specs.Identity.{Identity, Reads}
@@ -24,18 +24,13 @@ dep_texts n = map (λ d. d.pkg) n.deps
 
 -- ---- texts that are read
 
--- the version is semantic
-abbrev pub HasVersion : Identity → Type 0
-HasVersion i = version_named i.version ≡ None → ⊥
-
--- this is the version of the id, read
+-- the version of the id is semantic, and this is it
 abbrev pub HasThisVersion : Identity → VersionModel → Type 0
 HasThisVersion i version = version_named i.version ≡ Some version
 
--- these are the ids of the node's dependencies, and their versions are semantic
-pub record AreDepIds (n : NodeModel) (ids : List Identity) : Type 0 where
-  pub read : AllZip Reads (dep_texts n) ids
-  pub versions : AllByRecursion HasVersion ids
+-- these are the ids of the node's dependencies
+abbrev pub AreDepIds : NodeModel → List Identity → Type 0
+AreDepIds n ids = AllZip Reads (dep_texts n) ids
 
 -- this is the root's id, or there is no root and no id
 abbrev pub IsRootId : Option Text → Option Identity → Type 0

@@ -48,7 +48,7 @@ listed_tried once r s x e n ids dep none has z all l =
     let d = subst (λ (m : NodeModel). HasDep m e.child dep) same l.has_dep in
     let at = place_in n.deps dep d.among in
     let text : slice_get (dep_texts n) at.0 ≡ Some dep.pkg = slice_get-map (λ (d : NodeDepModel). d.pkg) n.deps at.0 ∙ ap (option_map (λ (d : NodeDepModel). d.pkg)) at.1 in
-    let y = right_of Reads (dep_texts n) ids at.0 dep.pkg z.read text in
+    let y = right_of Reads (dep_texts n) ids at.0 dep.pkg z text in
     let child : id_of y.0 ≡ e.child = ap id_of (once dep.pkg y.0 d.id.read y.2 d.id.reads) ∙ d.id.same in
     let tried = all at.0 dep y.0 (slice_get_within ids at.0 y.0 y.1) at.1 y.1 (kind_info_of e) l.has_kind in
     subst (λ (c : Id). IsTried r s x (edge_between e.parent c (kind_info_of e)) IsRequired) child tried

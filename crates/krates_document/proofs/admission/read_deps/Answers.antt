@@ -9,7 +9,7 @@ use Rattle.krates_ids.specs.Identity.{Reads}
 use Rattle.krates_rules.specs.Admission.{AreDepIds, HasThisVersion, dep_texts}
 use Rattle.krates_document.specs.AdmissionSteps.{InvalidDepRefusal}
 use Rattle.krates_document.specs.IdLists.{kids_in, versions_in}
-use Rattle.krates_document.proofs.AdmissionLemmas.{bad_node, dep_texts_of, have_versions}
+use Rattle.krates_document.proofs.AdmissionLemmas.{bad_node, dep_texts_of}
 use Rattle.krates_rules.proofs.Zips.{zip_next, zip_all, zip_push, one_seen}
 use Rattle.krates_document.proofs.admission.read_deps.Goals as goal
 
@@ -31,10 +31,7 @@ loop-node-preserved c =
     let kids = ids.kids.items in
     let versions = map parts_of ids.versions.items in
     let texts : map (λ (d : NodeDep). id_view d.pkg) c.deref.result.now ≡ dep_texts (node_view node) = ap (map (λ (d : NodeDep). id_view d.pkg)) c.deref.ensures.value ∙ sym (dep_texts_of node) in
-    let read : AreDepIds (node_view node) kids = record {
-      read = subst (λ (ts : List Text). AllZip Reads ts kids) texts c.in_ok-ids.ensures.read;
-      versions = have_versions kids versions c.in_ok-ids.ensures.versions;
-    } in
+    let read : AreDepIds (node_view node) kids = subst (λ (ts : List Text). AllZip Reads ts kids) texts c.in_ok-ids.ensures.read in
     rw (c.in_ok-push.ensures.items, c.in_ok-push-2.ensures.items, map-append, map-append) record {
       read = zip_next AreDepIds node_view c.args.nodes.now l.node-index node (kids_in l.kids) kids (omega arith) c.node-item.is read l.invariant.read;
       versions = zip_push (AllZip HasThisVersion) (kids_in l.kids) (versions_in l.versions) kids versions l.invariant.versions c.in_ok-ids.ensures.versions;
