@@ -1,4 +1,5 @@
-use Rattle.std.proofs.Common.{◌∙◌}
+use Rattle.std.proofs.Common.{◌∙◌, arith}
+use Rattle.std.proofs.lemmas.Grind.{common_steps}
 use Rattle.krates_resolve.proofs.Saturated.{saturated, done_start}
 use Rattle.krates_resolve.proofs.Counted.{counted_end, counted_start}
 use Rattle.krates_resolve.proofs.saturation.saturate.Goals as goal
@@ -26,3 +27,6 @@ returns-clause-counted c =
     let done = taken.0 in
     let none = rw c.if-branch.false at taken.1 in
     counted_end c.args.context.now c.take_next.new.found c.take_next.new.work c.in_ok-take_next.ensures.counted done.krates_within done.features_within none.0 none.1
+
+pub loop-found-preserved : goal.loop-found-preserved
+loop-found-preserved c = grind (arith, common_steps)
