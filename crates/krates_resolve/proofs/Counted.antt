@@ -6,15 +6,13 @@ use Rattle.std.proofs.lemmas.List.Sums.{sum_by_push}
 use Rattle.std.proofs.lemmas.Option.{slice_get-get_or, slice_get_within, same_Some}
 use Rattle.std.proofs.Math.Nat.{min-eq_left, min-eq_right}
 use Rattle.std.specs.List.{slice_get}
-use Rattle.krates_rules.specs.Resolved.{Resolved}
-use Rattle.krates_rules.specs.Setting.{SettingModel}
-use Rattle.krates_resolve.specs.Counting.{AreCounted, HasCountedAll, HaveTakenReferences, NumberHasReferences}
-use Rattle.krates_selection.specs.Work.{IsFresh}
-use Rattle.krates_search.specs.SearchState.{Grows}
-use Rattle.krates_selection.specs.Work.{counted}
+use Rattle.krates_resolve.specs.Counting.{NumberHasReferences, HasCounted, HaveTakenReferences, HasCountedAll}
+use Rattle.krates_selection.specs.Work.{IsFresh, counted}
 use Rattle.krates_search.specs.declared.search_state.SearchState.{SearchState}
 use Rattle.krates_selection.specs.declared.work.Work.{Work}
 use Rattle.krates_resolve.proofs.Taken.{taken_to}
+use Rattle.krates_questions.specs.declared.context.Context.{Context}
+use Rattle.krates_search.specs.SearchState.{Grows}
 
 -- ---- counts that stay at their greatest value
 
@@ -45,8 +43,8 @@ stood xs ys n k p stays within lt at =
     old ∙ sym (stays k (get_or xs k 0) old) ∙ at
 
 -- the features taken so far have as many references after more has been found
-references_stay : (r : Resolved) (s : SettingModel) (x z : SearchState) (n m : ℕ) → Grows r (taken_to x m x.features.taken) z → x.features.taken ≤ length x.features.put → HaveTakenReferences r s x n → HaveTakenReferences r s z n
-references_stay r s x z n m g within h = record {
+references_stay : (b : Context) (x z : SearchState) (n m : ℕ) → Grows b (taken_to x m x.features.taken) z → x.features.taken ≤ length x.features.put → HaveTakenReferences b x n → HaveTakenReferences b z n
+references_stay b x z n m g within h = record {
   counts = h.counts;
   long = h.long ∙ sym g.features_taken;
   each = λ k number c put count. h.each k number c
@@ -54,14 +52,14 @@ references_stay r s x z n m g within h = record {
   total = h.total;
 }
 
-pub crate_counted : (r : Resolved) (s : SettingModel) (x z : SearchState) (w v : Work) → AreCounted r s x w → Grows r (taken_to x (x.krates.taken + 1) x.features.taken) z → x.features.taken ≤ length x.features.put
-    → v ≡ record w { krates = counted (w.krates + 1) } → AreCounted r s z v
-crate_counted r s x z w v all g within is = record {
+pub crate_counted : (b : Context) (x z : SearchState) (w v : Work) → HasCounted b x w → Grows b (taken_to x (x.krates.taken + 1) x.features.taken) z → x.features.taken ≤ length x.features.put
+    → v ≡ record w { krates = counted (w.krates + 1) } → HasCounted b z v
+crate_counted b x z w v all g within is = record {
   krates = ap (λ (o : Work). o.krates) is ∙ ap (λ (k : ℕ). counted (k + 1)) all.krates ∙ counted_more x.krates.taken 1 ∙ ap counted (sym g.krates_taken);
   features = ap (λ (o : Work). o.features) is ∙ all.features ∙ ap counted (sym g.features_taken);
   references = (
     all.references.0,
-    references_stay r s x z all.references.0 (x.krates.taken + 1) g within all.references.1,
+    references_stay b x z all.references.0 (x.krates.taken + 1) g within all.references.1,
     ap (λ (o : Work). o.references) is ∙ all.references.2,
   );
 }
@@ -80,9 +78,9 @@ before_end (x ∷ xs) y zero p at lt = at
 before_end (x ∷ xs) y (suc k) p at lt = before_end xs y k p at (omega (arith, lt))
 
 -- the references of one more feature
-references_more : (r : Resolved) (s : SettingModel) (x z : SearchState) (n m t : ℕ) → Grows r (taken_to x x.krates.taken (x.features.taken + 1)) z → x.features.taken ≤ length x.features.put → slice_get x.features.put x.features.taken ≡ Some t
-    → NumberHasReferences r s t m → HaveTakenReferences r s x n → HaveTakenReferences r s z (n + m)
-references_more r s x z n m t g within at here h = record {
+references_more : (b : Context) (x z : SearchState) (n m t : ℕ) → Grows b (taken_to x x.krates.taken (x.features.taken + 1)) z → x.features.taken ≤ length x.features.put → slice_get x.features.put x.features.taken ≡ Some t
+    → NumberHasReferences b t m → HaveTakenReferences b x n → HaveTakenReferences b z (n + m)
+references_more b x z n m t g within at here h = record {
   counts = h.counts ++ m ∷ [];
   long = length-append h.counts (m ∷ []) ∙ ap (λ (l : ℕ). l + 1) h.long ∙ sym g.features_taken;
   each = λ k number c put count. elim (cases_lt k (length h.counts)) [
@@ -92,27 +90,27 @@ references_more r s x z n m t g within at here h = record {
         let long = length-append h.counts (m ∷ []) in
         let e : x.features.taken ≡ k = omega (arith, below, long, le, h.long) in
         let same : t ≡ number = same_Some t number (sym (g.features x.features.taken t at) ∙ ap (λ (j : ℕ). slice_get z.features.put j) e ∙ put) in
-        subst (λ (j : ℕ). NumberHasReferences r s j c) same (subst (NumberHasReferences r s t) (at_end h.counts m k c count le) here))
+        subst (λ (j : ℕ). NumberHasReferences b j c) same (subst (NumberHasReferences b t) (at_end h.counts m k c count le) here))
   ];
   total = ap (λ (j : ℕ). j + m) h.total ∙ sym (sum_by_push (λ (j : ℕ). j) h.counts m);
 }
 
-pub feature_counted : (r : Resolved) (s : SettingModel) (x z : SearchState) (w v : Work) (t m k : ℕ) → AreCounted r s x w → Grows r (taken_to x x.krates.taken (x.features.taken + 1)) z → x.features.taken ≤ length x.features.put
-    → slice_get x.features.put x.features.taken ≡ Some t → NumberHasReferences r s t m → v.krates ≡ w.krates → v.features ≡ counted (w.features + 1) → k ≡ counted m → v.references ≡ counted (w.references + k) → AreCounted r s z v
-feature_counted r s x z w v t m k all g within at here krates features is references = record {
+pub feature_counted : (b : Context) (x z : SearchState) (w v : Work) (t m k : ℕ) → HasCounted b x w → Grows b (taken_to x x.krates.taken (x.features.taken + 1)) z → x.features.taken ≤ length x.features.put
+    → slice_get x.features.put x.features.taken ≡ Some t → NumberHasReferences b t m → v.krates ≡ w.krates → v.features ≡ counted (w.features + 1) → k ≡ counted m → v.references ≡ counted (w.references + k) → HasCounted b z v
+feature_counted b x z w v t m k all g within at here krates features is references = record {
   krates = krates ∙ all.krates ∙ ap counted (sym g.krates_taken);
   features = features ∙ ap (λ (k : ℕ). counted (k + 1)) all.features ∙ counted_more x.features.taken 1 ∙ ap counted (sym g.features_taken);
   references = (
     all.references.0 + m,
-    references_more r s x z all.references.0 m t g within at here all.references.1,
+    references_more b x z all.references.0 m t g within at here all.references.1,
     references ∙ ap (λ (j : ℕ). counted (w.references + j)) is ∙ ap (λ (j : ℕ). counted (j + counted m)) all.references.2 ∙ counted_both all.references.0 m,
   );
 }
 
 -- ---- at the start and at the end
 
-pub counted_start : (r : Resolved) (s : SettingModel) (x : SearchState) (w : Work) → IsFresh w → x.krates.taken ≡ 0 → x.features.taken ≡ 0 → AreCounted r s x w
-counted_start r s x w fresh krates features = record {
+pub counted_start : (b : Context) (x : SearchState) (w : Work) → IsFresh w → x.krates.taken ≡ 0 → x.features.taken ≡ 0 → HasCounted b x w
+counted_start b x w fresh krates features = record {
   krates = ap (λ (o : Work). o.krates) fresh ∙ ap counted (sym krates);
   features = ap (λ (o : Work). o.features) fresh ∙ ap counted (sym features);
   references = (
@@ -125,6 +123,6 @@ counted_start r s x w fresh krates features = record {
     none_there : (k m : ℕ) → slice_get [] k ≡ Some m → ⊥
     none_there k m at = cc
 
-pub counted_end : (r : Resolved) (s : SettingModel) (x : SearchState) (w : Work) → AreCounted r s x w → x.krates.taken ≤ length x.krates.put → x.features.taken ≤ length x.features.put → length x.krates.put ≤ x.krates.taken
-    → length x.features.put ≤ x.features.taken → HasCountedAll r s x w
-counted_end r s x w all krates features no_krate no_feature = record { counted = all; krates = omega (arith, krates, no_krate); features = omega (arith, features, no_feature) }
+pub counted_end : (b : Context) (x : SearchState) (w : Work) → HasCounted b x w → x.krates.taken ≤ length x.krates.put → x.features.taken ≤ length x.features.put → length x.krates.put ≤ x.krates.taken
+    → length x.features.put ≤ x.features.taken → HasCountedAll b x w
+counted_end b x w all krates features no_krate no_feature = record { counted = all; krates = omega (arith, krates, no_krate); features = omega (arith, features, no_feature) }

@@ -2,11 +2,11 @@
 use Rattle.std.proofs.Common.{◌≡◌, ◌≢◌, ℕ, zero, suc, ◌+◌, ◌<◌, List, [], ◌∷◌, ◌++◌, length, get_or, map, take, drop, replicate, All, AllPairs, ◌⊎◌, Contains, Option, None, Some, Less, inl, inr, refl, sym, ap, ◌∙◌, subst, arith}
 use Rattle.std.proofs.Math.ListN.{set}
 use Rattle.std.proofs.lemmas.List.{append_assoc, append-nil, get_or-take, length-map, length-replicate, length-set, map-append, length-take-le, length_push, take_more}
-use Rattle.std.proofs.lemmas.List.Elements.{All-contains, All-from_recursion, Contains-append_cases, Contains-append_right, Contains-push_cases}
+use Rattle.std.proofs.lemmas.List.Elements.{All-contains, All-from_recursion, Contains-append_cases, Contains-append_right, Contains-push_cases, filter_map-append}
 use Rattle.std.proofs.lemmas.List.Sorted.{All-permutation, Contains-permutation, IsPermutation-cons, IsPermutation-push_more, IsPermutation-refl, IsPermutation-sym, IsPermutation-trans, IsPermutation-append_comm, IsPermutation-append_left, length_permutation}
 use Rattle.std.proofs.lemmas.Option.{same_Some, slice_get-get_or, slice_get_cases, slice_get_within}
-use Rattle.std.specs.List.{AllByRecursion, AllZip, slice_get}
-use Rattle.std.specs.Option.{IsSome}
+use Rattle.std.specs.List.{AllByRecursion, AllZip, filter_map, slice_get}
+use Rattle.std.specs.Option.{IsSome, option_map}
 use Rattle.std.specs.List.Sorted.{IsPermutation, IsStrictlySortedBy}
 use Rattle.krates_ids.specs.Identity.{Identity}
 use Rattle.krates_rules.specs.Facts.{Id}
@@ -22,7 +22,17 @@ use Rattle.krates_rules.proofs.Standings.{contains_at}
 use Rattle.krates_questions.proofs.NodeParts.{node_here, nodes_long}
 use Rattle.krates_document.proofs.NumberedPlaces.{id_order_total}
 use Rattle.krates_search.proofs.LinkLemmas.{there_is}
-use Rattle.krates_resolve.specs.KeptCrates.{AreAt, AreKept, AreNodePlaces, ranks_from, there_in}
+use Rattle.krates_resolve.specs.KeptCrates.{AreAt, AreKept, AreNodePlaces}
+
+-- the places that are there
+abbrev pub there_in : List (Option NodePlace) → List ℕ
+there_in kept = filter_map (option_map (λ (p : NodePlace). p.index)) kept
+
+-- for each that is there, how many are there before it, counted on from a number
+abbrev pub ranks_from : ℕ → List (Option NodePlace) → List (Option ℕ)
+ranks_from n [] = []
+ranks_from n (None ∷ places) = None ∷ ranks_from n places
+ranks_from n (Some p ∷ places) = Some n ∷ ranks_from (n + 1) places
 
 -- ---- the places of their nodes, by number
 
@@ -143,11 +153,6 @@ place_low d places kept k p h within so lt is =
 abbrev pub AreRanked : List Identity → List (Option NodePlace) → List Identity → List (Option ℕ) → Type 0
 AreRanked ids kept kids numbers = AreAt ids (there_in kept) kids × (numbers ≡ ranks_from 0 kept)
 
-there_push : (kept : List (Option NodePlace)) (o : Option NodePlace) → there_in (kept ++ o ∷ []) ≡ there_in kept ++ there_in (o ∷ [])
-there_push [] o = refl
-there_push (None ∷ kept) o = there_push kept o
-there_push (Some p ∷ kept) o = ap (λ (ps : List ℕ). p.index ∷ ps) (there_push kept o)
-
 ranks_push : (n : ℕ) (kept : List (Option NodePlace)) (o : Option NodePlace) → ranks_from n (kept ++ o ∷ []) ≡ ranks_from n kept ++ ranks_from (n + length (there_in kept)) (o ∷ [])
 ranks_push n [] o = ap (λ (m : ℕ). ranks_from m (o ∷ [])) (omega arith)
 ranks_push n (None ∷ kept) o = ap (λ (rs : List (Option ℕ)). None ∷ rs) (ranks_push n kept o)
@@ -162,7 +167,7 @@ pub ranked_none : (ids : List Identity) (kept : List (Option NodePlace)) (k : �
     → AreRanked ids (take (k + 1) kept) kids (numbers ++ None ∷ [])
 ranked_none ids kept k kids numbers lt is so =
     subst (λ (os : List (Option NodePlace)). AreRanked ids os kids (numbers ++ None ∷ [])) (sym (take_more kept k None lt ∙ ap (λ (o : Option NodePlace). take k kept ++ o ∷ []) is))
-    (subst (λ (ps : List ℕ). AreAt ids ps kids) (sym (there_push (take k kept) None ∙ append-nil (there_in (take k kept)))) so.0, ap (λ (rs : List (Option ℕ)). rs ++ None ∷ []) so.1 ∙ sym (ranks_push 0 (take k kept) None))
+    (subst (λ (ps : List ℕ). AreAt ids ps kids) (sym (filter_map-append (option_map (λ (p : NodePlace). p.index)) (take k kept) (None ∷ []) ∙ append-nil (there_in (take k kept)))) so.0, ap (λ (rs : List (Option ℕ)). rs ++ None ∷ []) so.1 ∙ sym (ranks_push 0 (take k kept) None))
 
 -- one that is
 pub ranked_some : (ids : List Identity) (kept : List (Option NodePlace)) (k : ℕ) (p : NodePlace) (kid : Identity) (kids : List Identity) (numbers : List (Option ℕ)) → k < length kept → get_or kept k None ≡ Some p → slice_get ids p.index ≡ Some kid
@@ -171,7 +176,7 @@ ranked_some ids kept k p kid kids numbers lt is at so =
     let early = take k kept in
     let long = kids_long ids (there_in early) kids so.0 in
     subst (λ (os : List (Option NodePlace)). AreRanked ids os (kids ++ kid ∷ []) (numbers ++ Some (length kids) ∷ [])) (sym (take_more kept k None lt ∙ ap (λ (o : Option NodePlace). early ++ o ∷ []) is)) (
-      ap (map (slice_get ids)) (there_push early (Some p)) ∙ map-append (slice_get ids) (there_in early) (p.index ∷ []) ∙ ap (λ (os : List (Option Identity)). os ++ slice_get ids p.index ∷ []) so.0
+      ap (map (slice_get ids)) (filter_map-append (option_map (λ (p : NodePlace). p.index)) early (Some p ∷ [])) ∙ map-append (slice_get ids) (there_in early) (p.index ∷ []) ∙ ap (λ (os : List (Option Identity)). os ++ slice_get ids p.index ∷ []) so.0
           ∙ ap (λ (o : Option Identity). map (λ (k : Identity). Some k) kids ++ o ∷ []) at ∙ sym (map-append (λ (k : Identity). Some k) kids (kid ∷ [])),
       ap (λ (rs : List (Option ℕ)). rs ++ Some (length kids) ∷ []) so.1 ∙ ap (λ (n : ℕ). ranks_from 0 early ++ Some n ∷ []) (omega (arith, long)) ∙ sym (ranks_push 0 early (Some p)),
     )

@@ -17,14 +17,13 @@ use Rattle.krates_questions.specs.NodeEntry.{krate_of}
 use Rattle.krates_questions.specs.ReferentPlace.{AreReferentsIn, referent_id}
 use Rattle.krates_questions.specs.declared.referent.Referent.{Referent}
 use Rattle.krates_questions.proofs.DepPlaces.{one_dep_place}
-use Rattle.krates_search.proofs.Growing.{asked_at_grows, strongly_at_grows, waiting_at_grows}
-use Rattle.krates_search.specs.SearchState.{Grows, WaitsOrIsToggled}
+use Rattle.krates_search.specs.SearchState.{WaitsOrIsToggled, HasFollowed, Grows, IsAny}
 use Rattle.krates_selection.proofs.Steps.{one_way}
 use Rattle.krates_selection.specs.Work.{CountsName}
 use Rattle.krates_search.specs.declared.search_state.SearchState.{SearchState}
-use Rattle.krates_resolve.specs.Progress.{CountsReferenceOf, HasFollowed}
-use Rattle.krates_resolve.specs.References.{DependsAt, HasFollowedAt, NamesDependency, Refers, RefersTo, name_of}
+use Rattle.krates_resolve.specs.References.{CountsReferenceOf, DependsAt, HasFollowedAt, NamesDependency, name_of, RefersTo, Refers}
 use Rattle.krates_resolve.specs.declared.references.Referrer.{Referrer}
+use Rattle.krates_search.proofs.Growing.{toggled_grows, tried_grows, waiting_grows}
 
 -- these are all that the name of the reference means
 abbrev pub AreMeant : Referrer → Reference → List Referent → Type 0
@@ -33,8 +32,8 @@ AreMeant by reference xs = AreReferentsIn (document_of by.context) by.context.se
 -- as the code goes over them
 pub meant_here : (by : Referrer) (reference : Reference) (name : Text) (all : Bool) (items xs : List Referent) → name ≡ name_of reference → all ≡ by.context.setting.now.all_named → xs ≡ items → AreReferentsIn (document_of by.context) all by.parts name items → AreMeant by reference xs
 meant_here by reference name all items xs named told same h =
-    let r = document_of by.context in
-    subst (λ (t : Text). AreReferentsIn r by.context.setting.now.all_named by.parts t xs) named (subst (λ (b : Bool). AreReferentsIn r b by.parts name xs) told (subst (AreReferentsIn r all by.parts name) (sym same) h))
+    let b = by.context in
+    subst (λ (t : Text). AreReferentsIn (document_of b) b.setting.now.all_named by.parts t xs) named (subst (λ (y : Bool). AreReferentsIn (document_of b) y by.parts name xs) told (subst (AreReferentsIn (document_of b) all by.parts name) (sym same) h))
 
 pub item_among : (xs : List Referent) (k : ℕ) (x : Referent) → k < length xs → x ≡ get_or xs k x → Contains xs x
 item_among xs k x lt is = (k, lt, sym is)
@@ -50,14 +49,14 @@ referent_within by reference xs x h among = slice_get_within by.parts.children.n
 -- the reference of the crate is one to each
 pub refers_to : ReadsOnce → (by : Referrer) (f : SearchState) (reference : Reference) (xs : List Referent) (x : Referent) → AreMeant by reference xs → Contains xs x → Refers by f reference → RefersTo by f reference x.place
 refers_to once by f reference xs x h among refers =
-    let r = document_of by.context in
+    let b = by.context in
     let p = krate_of by.parts in
     let at = h.each x among in
     record {
       refers = refers;
       child = referent_id x;
       dep = at.dep;
-      is = λ other there. subst (IsReferent r by.context.setting.now.all_named p (name_of reference)) (one_way once r p (referent_id x) p other by.parts.place.index x.place at.dep there).1 at.is;
+      is = λ other there. subst (IsReferent (document_of b) b.setting.now.all_named p (name_of reference)) (one_way once (document_of b) p (referent_id x) p other by.parts.place.index x.place at.dep there).1 at.is;
     }
 
 -- ---- what was found at each
@@ -81,22 +80,21 @@ followed_each by f (strong c g) xs none named h each = (
   λ e d same referent w stands. let m = meant_at by (strong c g) xs e.child h referent in (each m.0 m.1).1 e d same m.2 w stands,
 )
 followed_each by f (weak c g) xs none named h each = λ child place index referent there.
-    let r = document_of by.context in
+    let b = by.context in
     let p = krate_of by.parts in
     let m = meant_at by (weak c g) xs child h referent in
-    let at = one_dep_place r p child by.parts.place.index m.0.place place index none m.2 there in
-    subst (λ (n : ℕ). WaitsOrIsToggled r f p child n index g) at.0 (subst (λ (n : ℕ). WaitsOrIsToggled r f p child by.parts.place.index n g) at.1 (each m.0 m.1 child m.2))
+    let at = one_dep_place (document_of b) p child by.parts.place.index m.0.place place index none m.2 there in
+    subst (λ (n : ℕ). WaitsOrIsToggled b f p child n index g) at.0 (subst (λ (n : ℕ). WaitsOrIsToggled b f p child by.parts.place.index n g) at.1 (each m.0 m.1 child m.2))
 
 -- it stays found
-pub followed_at_grows : (by : Referrer) (f g : SearchState) (reference : Reference) (index : ℕ) → Grows (document_of by.context) f g → HasFollowedAt by f reference index → HasFollowedAt by g reference index
+pub followed_at_grows : (by : Referrer) (f g : SearchState) (reference : Reference) (index : ℕ) → Grows by.context f g → HasFollowedAt by f reference index → HasFollowedAt by g reference index
 followed_at_grows by f g (simple t) index more h = tt
-followed_at_grows by f g (krate c) index more h = asked_at_grows (document_of by.context) by.context.setting.now f g (krate_of by.parts) by.parts.place.index index more h
-followed_at_grows by f g (strong c t) index more h =
-    let r = document_of by.context in
-    let s = by.context.setting.now in
-    let p = krate_of by.parts in
-    (asked_at_grows r s f g p by.parts.place.index index more h.0, strongly_at_grows r s f g p by.parts.place.index index t more h.1)
-followed_at_grows by f g (weak c t) index more h = waiting_at_grows (document_of by.context) f g (krate_of by.parts) by.parts.place.index index t more h
+followed_at_grows by f g (krate c) index more h = λ e same at. tried_grows by.context f g e IsAny more.found (h e same at)
+followed_at_grows by f g (strong c t) index more h = (
+  λ e same at. tried_grows by.context f g e IsAny more.found (h.0 e same at),
+  λ e d same at w stands. toggled_grows by.context f g (krate_of by.parts) e.child t more.found (h.1 e d same at w stands),
+)
+followed_at_grows by f g (weak c t) index more h = λ child dep. waiting_grows by.context f g (krate_of by.parts) child by.parts.place.index index t more.found more.waits dep (h child dep)
 
 -- ---- how often a reference counts
 

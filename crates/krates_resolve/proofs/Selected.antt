@@ -1,5 +1,5 @@
 -- A selection that is made of the crates, edges and features that were found.
-use Rattle.std.proofs.Common.{◌≡◌, ◌↔◌, ℕ, ◌<◌, List, length, get_or, map, All, Contains, Option, Some, option_map, inl, inr, sym, ap, ◌∙◌, subst, arith}
+use Rattle.std.proofs.Common.{◌≡◌, ℕ, ◌<◌, List, length, get_or, map, All, Contains, Option, Some, option_map, inl, inr, sym, ap, ◌∙◌, subst, arith}
 use Rattle.std.proofs.lemmas.List.{length-map}
 use Rattle.std.proofs.lemmas.List.Elements.{Contains-append_left, Contains-append_right, Contains-append_cases}
 use Rattle.std.proofs.lemmas.Option.{slice_get-map}
@@ -9,19 +9,12 @@ use Rattle.std.proofs.lemmas.List.Sorted.{Contains-permutation, IsPermutation-sy
 use Rattle.krates_cm.specs.Document.{NodeModel, text_view}
 use Rattle.krates_ids.specs.Identity.{Identity, Reads, id_cmp}
 use Rattle.krates_rules.specs.Admission.{NoneDoubled, node_texts}
-use Rattle.krates_rules.specs.Derivation.{Derivable}
 use Rattle.krates_rules.specs.Facts.{Id, Edge, Fact, Crate, Feature, Kept, Toggled, Lost}
-use Rattle.krates_rules.specs.Questions.{questions}
-use Rattle.krates_rules.specs.Resolved.{NodeAt, Resolved, id_of}
-use Rattle.krates_rules.specs.Setting.{SettingModel}
+use Rattle.krates_rules.specs.Resolved.{id_of}
 use Rattle.krates_selection.specs.CrateNumbers.{id_at}
-use Rattle.krates_search.specs.SearchState.{HasFound}
-use Rattle.krates_search.specs.FoundEdge.{IsFoundEdge, found_view}
-use Rattle.krates_search.specs.FoundToggle.{IsFoundToggle, found_toggled}
-use Rattle.krates_search.specs.KeptEdges.{AreInOrder, HasKeptNodes}
-use Rattle.krates_search.specs.KeptFeatures.{AreSorted, HasKeptHome}
+use Rattle.krates_search.specs.FoundEdge.{found_view, IsFoundEdge}
+use Rattle.krates_search.specs.FoundToggle.{found_toggled, IsFoundToggle}
 use Rattle.krates_selection.specs.KeptTables.{IsKeptIn}
-use Rattle.krates_search.specs.KeptToggled.{AreToggled, HasKeptCrates}
 use Rattle.krates_selection.specs.Selection.{edge_view, crate_fact, edge_fact, feature_fact, toggled_fact, facts_of, IsSelection}
 use Rattle.krates_selection.specs.Work.{CountsEach}
 use Rattle.krates_search.specs.declared.search_state.SearchState.{SearchState}
@@ -35,14 +28,18 @@ use Rattle.krates_questions.proofs.Lookups.{one_id}
 use Rattle.krates_questions.proofs.FeatureNumbers.{listed_place}
 use Rattle.krates_questions.proofs.NodeParts.{long_zip, node_here}
 use Rattle.krates_questions.specs.ListedFeatures.{listed_features}
-use Rattle.krates_questions.specs.Lookup.{IsLookup, resolved_view}
-use Rattle.krates_questions.specs.declared.lookup.Lookup.{Lookup}
-use Rattle.krates_questions.specs.Numbering.{FeatureAt}
+use Rattle.krates_questions.specs.Lookup.{IsLookup}
 use Rattle.krates_rules.proofs.Elements.{contains_image, contains_or, contains_source}
 use Rattle.krates_search.proofs.LinkLemmas.{there_is}
 use Rattle.krates_selection.proofs.KeptEnds.{child_kept, crate_of_feature, parent_kept, toggled_kept}
 use Rattle.krates_rules.proofs.OnlyOne.{place_in}
 use Rattle.krates_rules.proofs.Standings.{contains_at}
+use Rattle.krates_questions.specs.declared.context.Context.{Context}
+use Rattle.krates_questions.specs.Context.{document_of, rules_of, Derives, IsNodeAt, IsFeatureAt}
+use Rattle.krates_search.specs.KeptToggled.{AreToggled, HasKeptCrates}
+use Rattle.krates_search.specs.KeptFeatures.{AreSorted, HasKeptHome}
+use Rattle.krates_search.specs.KeptEdges.{HasKeptNodes, AreInOrder}
+use Rattle.krates_resolve.specs.Saturation.{HasExactly}
 
 -- ---- the ids at places
 
@@ -62,21 +59,24 @@ place_of_kid ids places kids kid same c =
 
 -- ---- the kept crates
 
+-- the ids of the nodes, by their places
+abbrev ids_at : Context → List Identity
+ids_at b = b.document.now.ids.now.nodes.items
+
 -- what was found is exactly what is derivable, and these are the ids of its crates, in order
-pub record IsWhole (r : Resolved) (s : SettingModel) (ids : List Identity) (found : SearchState) (kids : List Identity) : Type 0 where
-  pub none_doubled : NoneDoubled r.metadata r.graph
-  pub reads : AllZip Reads (node_texts r.graph) ids
-  pub exact : (f : Fact) → Derivable (questions r s) f ↔ HasFound r found f
+pub record IsWhole (b : Context) (found : SearchState) (kids : List Identity) : Type 0 where
+  pub none_doubled : NoneDoubled (document_of b).metadata (document_of b).graph
+  pub reads : AllZip Reads (node_texts (document_of b).graph) (ids_at b)
+  pub exact : HasExactly b found
   pub order : List ℕ
   pub whole : IsPermutation found.krates.put order
-  pub krates : AreAt ids order kids
+  pub krates : AreAt (ids_at b) order kids
   pub some : 0 < length found.krates.put
   pub rise : IsStrictlySortedBy id_cmp kids
 
 -- as the search's result is read
-pub whole_of : (look : Lookup) (s : SettingModel) (found : SearchState) (kids : List Identity) (numbers : List (Option ℕ)) → IsLookup look → ((f : Fact) → Derivable (questions (resolved_view look) s) f ↔ HasFound (resolved_view look) found f)
-    → AreKept look found.krates.put kids numbers → 0 < length found.krates.put → IsWhole (resolved_view look) s look.ids.now.nodes.items found kids
-whole_of look s found kids numbers h exact kept some = record {
+pub whole_of : (b : Context) (found : SearchState) (kids : List Identity) (numbers : List (Option ℕ)) → IsLookup b.document.now → HasExactly b found → AreKept b.document.now found.krates.put kids numbers → 0 < length found.krates.put → IsWhole b found kids
+whole_of b found kids numbers h exact kept some = record {
   none_doubled = h.distinct;
   reads = h.ids.nodes;
   exact = exact;
@@ -88,87 +88,87 @@ whole_of look s found kids numbers h exact kept some = record {
 }
 
 -- the crate at a place where one was found
-kept_at : (r : Resolved) (s : SettingModel) (ids : List Identity) (found : SearchState) (kids : List Identity) (p : ℕ) → IsWhole r s ids found kids → Contains found.krates.put p → (kid : Identity) × Contains kids kid × NodeAt r (id_of kid) p
-kept_at r s ids found kids p whole c =
-    let k = kid_at ids whole.order kids p whole.krates (Contains-permutation found.krates.put whole.order p whole.whole c) in
-    (k.0, k.1, node_here r ids p k.0 whole.reads k.2)
+kept_at : (b : Context) (found : SearchState) (kids : List Identity) (p : ℕ) → IsWhole b found kids → Contains found.krates.put p → (kid : Identity) × Contains kids kid × IsNodeAt b (id_of kid) p
+kept_at b found kids p whole c =
+    let k = kid_at (ids_at b) whole.order kids p whole.krates (Contains-permutation found.krates.put whole.order p whole.whole c) in
+    (k.0, k.1, node_here (document_of b) (ids_at b) p k.0 whole.reads k.2)
 
 -- a derivable crate is kept
-crate_kept : ReadsOnce → (r : Resolved) (s : SettingModel) (ids : List Identity) (found : SearchState) (kids : List Identity) → IsWhole r s ids found kids → (i : Id) → Derivable (questions r s) (Crate i) → IsKeptIn kids i
-crate_kept once r s ids found kids whole i d =
+crate_kept : ReadsOnce → (b : Context) (found : SearchState) (kids : List Identity) → IsWhole b found kids → (i : Id) → Derives b (Crate i) → IsKeptIn kids i
+crate_kept once b found kids whole i d =
     let there = (whole.exact (Crate i)).0 d in
-    let k = kept_at r s ids found kids there.place whole there.among in
+    let k = kept_at b found kids there.place whole there.among in
     let at = place_in kids k.0 k.1 in
-    (at.0, record { there = k.0; at = at.1; same = one_id once r (id_of k.0) i there.place k.2 there.node })
+    (at.0, record { there = k.0; at = at.1; same = one_id once (document_of b) (id_of k.0) i there.place k.2 there.node })
 
 -- and so are the crates of what was found
-ends_kept : ReadsOnce → (r : Resolved) (s : SettingModel) (ids : List Identity) (found : SearchState) (kids : List Identity) → IsWhole r s ids found kids → (e : FoundEdge) → Contains found.edges.items e → IsFoundEdge r s e
-    → HasKeptNodes r kids e
-ends_kept once r s ids found kids whole e c is =
+ends_kept : ReadsOnce → (b : Context) (found : SearchState) (kids : List Identity) → IsWhole b found kids → (e : FoundEdge) → Contains found.edges.items e → IsFoundEdge b e
+    → HasKeptNodes b kids e
+ends_kept once b found kids whole e c is =
     let d = (whole.exact (Kept (found_view e))).1 (contains_image found_view found.edges.items e c) in
-    let q = questions r s in record {
+    let q = rules_of b in record {
       parent = is.parent;
       child = is.child;
-      parent_kept = crate_kept once r s ids found kids whole (id_of e.parent.now) (parent_kept q (found_view e) d).0;
-      child_kept = crate_kept once r s ids found kids whole (id_of e.child.now) (child_kept q (found_view e) d);
+      parent_kept = crate_kept once b found kids whole (id_of e.parent.now) (parent_kept q (found_view e) d).0;
+      child_kept = crate_kept once b found kids whole (id_of e.child.now) (child_kept q (found_view e) d);
     }
 
-toggle_kept : ReadsOnce → (r : Resolved) (s : SettingModel) (ids : List Identity) (found : SearchState) (kids : List Identity) → IsWhole r s ids found kids → (t : FoundToggle) → Contains found.toggled.items t → IsFoundToggle r t
-    → HasKeptCrates r kids t
-toggle_kept once r s ids found kids whole t c is =
+toggle_kept : ReadsOnce → (b : Context) (found : SearchState) (kids : List Identity) → IsWhole b found kids → (t : FoundToggle) → Contains found.toggled.items t → IsFoundToggle b t
+    → HasKeptCrates b kids t
+toggle_kept once b found kids whole t c is =
     let d = (whole.exact (found_toggled t)).1 (contains_image found_toggled found.toggled.items t c) in
-    let k = toggled_kept (questions r s) (id_of t.by.now) (id_of t.krate.now) t.name.now d in record {
+    let k = toggled_kept (rules_of b) (id_of t.by.now) (id_of t.krate.now) t.name.now d in record {
       by = is.by;
       krate = is.krate;
-      by_kept = crate_kept once r s ids found kids whole (id_of t.by.now) k.0;
-      krate_kept = crate_kept once r s ids found kids whole (id_of t.krate.now) k.1;
+      by_kept = crate_kept once b found kids whole (id_of t.by.now) k.0;
+      krate_kept = crate_kept once b found kids whole (id_of t.krate.now) k.1;
     }
 
-feature_kept : ReadsOnce → (r : Resolved) (s : SettingModel) (ids : List Identity) (found : SearchState) (kids : List Identity) → IsWhole r s ids found kids → (n : ℕ) → Contains found.features.put n → n < length (listed_features r)
-    → HasKeptHome r kids n
-feature_kept once r s ids found kids whole n c lt =
-    let listed = there_is (listed_features r) n lt in
+feature_kept : ReadsOnce → (b : Context) (found : SearchState) (kids : List Identity) → IsWhole b found kids → (n : ℕ) → Contains found.features.put n → n < length (listed_features (document_of b))
+    → HasKeptHome b kids n
+feature_kept once b found kids whole n c lt =
+    let listed = there_is (listed_features (document_of b)) n lt in
     let place = listed.0.0 in
     let name = listed.0.1 in
-    let within = listed_place r n place name listed.1 in
-    let long = long_zip Reads (node_texts r.graph) ids whole.reads in
-    let texts = length-map r.graph.nodes (λ (n : NodeModel). n.id) in
-    let kid = there_is ids place (omega (arith, within, long, texts)) in
-    let at : FeatureAt r (id_of kid.0) name n = record { place = place; at = listed.1; node = node_here r ids place kid.0 whole.reads kid.1 } in
+    let within = listed_place (document_of b) n place name listed.1 in
+    let long = long_zip Reads (node_texts (document_of b).graph) (ids_at b) whole.reads in
+    let texts = length-map (document_of b).graph.nodes (λ (n : NodeModel). n.id) in
+    let kid = there_is (ids_at b) place (omega (arith, within, long, texts)) in
+    let at : IsFeatureAt b (id_of kid.0) name n = record { place = place; at = listed.1; node = node_here (document_of b) (ids_at b) place kid.0 whole.reads kid.1 } in
     let d = (whole.exact (Feature (id_of kid.0) name)).1 (record { number = n; among = c; at = at }) in
-    let kept = crate_kept once r s ids found kids whole (id_of kid.0) (crate_of_feature (questions r s) (id_of kid.0) name d) in
+    let kept = crate_kept once b found kids whole (id_of kid.0) (crate_of_feature (rules_of b) (id_of kid.0) name d) in
     record { krate = id_of kid.0; name = name; at = at; kept = kept }
 
 -- all of them, by the names that the search's result has where it is read
-pub edges_kept : ReadsOnce → (r : Resolved) (s : SettingModel) (ids : List Identity) (found : SearchState) (kids : List Identity) → IsWhole r s ids found kids → All (IsFoundEdge r s) found.edges.items
-    → (ks : List Identity) (es : List FoundEdge) → ks ≡ kids → es ≡ found.edges.items → All (HasKeptNodes r ks) es
-edges_kept once r s ids found kids whole right ks es same is =
-    subst (All (HasKeptNodes r ks)) (sym is) (subst (λ (js : List Identity). All (HasKeptNodes r js) found.edges.items) (sym same) (λ k d lt.
-    ends_kept once r s ids found kids whole (get_or found.edges.items k d) (contains_or found.edges.items k d lt) (right k d lt)))
+pub edges_kept : ReadsOnce → (b : Context) (found : SearchState) (kids : List Identity) → IsWhole b found kids → All (IsFoundEdge b) found.edges.items
+    → (ks : List Identity) (es : List FoundEdge) → ks ≡ kids → es ≡ found.edges.items → All (HasKeptNodes b ks) es
+edges_kept once b found kids whole right ks es same is =
+    subst (All (HasKeptNodes b ks)) (sym is) (subst (λ (js : List Identity). All (HasKeptNodes b js) found.edges.items) (sym same) (λ k d lt.
+    ends_kept once b found kids whole (get_or found.edges.items k d) (contains_or found.edges.items k d lt) (right k d lt)))
 
-pub toggles_kept : ReadsOnce → (r : Resolved) (s : SettingModel) (ids : List Identity) (found : SearchState) (kids : List Identity) → IsWhole r s ids found kids → All (IsFoundToggle r) found.toggled.items
-    → (ks : List Identity) (ts : List FoundToggle) → ks ≡ kids → ts ≡ found.toggled.items → All (HasKeptCrates r ks) ts
-toggles_kept once r s ids found kids whole right ks ts same is =
-    subst (All (HasKeptCrates r ks)) (sym is) (subst (λ (js : List Identity). All (HasKeptCrates r js) found.toggled.items) (sym same) (λ k d lt.
-    toggle_kept once r s ids found kids whole (get_or found.toggled.items k d) (contains_or found.toggled.items k d lt) (right k d lt)))
+pub toggles_kept : ReadsOnce → (b : Context) (found : SearchState) (kids : List Identity) → IsWhole b found kids → All (IsFoundToggle b) found.toggled.items
+    → (ks : List Identity) (ts : List FoundToggle) → ks ≡ kids → ts ≡ found.toggled.items → All (HasKeptCrates b ks) ts
+toggles_kept once b found kids whole right ks ts same is =
+    subst (All (HasKeptCrates b ks)) (sym is) (subst (λ (js : List Identity). All (HasKeptCrates b js) found.toggled.items) (sym same) (λ k d lt.
+    toggle_kept once b found kids whole (get_or found.toggled.items k d) (contains_or found.toggled.items k d lt) (right k d lt)))
 
-pub features_kept : ReadsOnce → (r : Resolved) (s : SettingModel) (ids : List Identity) (found : SearchState) (kids : List Identity) → IsWhole r s ids found kids → All (λ n. n < length (listed_features r)) found.features.put
-    → (ks : List Identity) (ns : List ℕ) → ks ≡ kids → ns ≡ found.features.put → All (HasKeptHome r ks) ns
-features_kept once r s ids found kids whole below ks ns same is =
-    subst (All (HasKeptHome r ks)) (sym is) (subst (λ (js : List Identity). All (HasKeptHome r js) found.features.put) (sym same) (λ k d lt.
-    feature_kept once r s ids found kids whole (get_or found.features.put k d) (contains_or found.features.put k d lt) (below k d lt)))
+pub features_kept : ReadsOnce → (b : Context) (found : SearchState) (kids : List Identity) → IsWhole b found kids → All (λ n. n < length (listed_features (document_of b))) found.features.put
+    → (ks : List Identity) (ns : List ℕ) → ks ≡ kids → ns ≡ found.features.put → All (HasKeptHome b ks) ns
+features_kept once b found kids whole below ks ns same is =
+    subst (All (HasKeptHome b ks)) (sym is) (subst (λ (js : List Identity). All (HasKeptHome b js) found.features.put) (sym same) (λ k d lt.
+    feature_kept once b found kids whole (get_or found.features.put k d) (contains_or found.features.put k d lt) (below k d lt)))
 
 -- ---- the facts of a selection
 
 -- the selection has all that was found, in order
-pub record IsInOrder (r : Resolved) (s : SettingModel) (found : SearchState) (x : Selection) : Type 0 where
-  pub edges : AreInOrder r s x.krates.items found.edges.items x.edges.items
-  pub features : AreSorted r x.krates.items found.features.put x.features.items
+pub record IsInOrder (b : Context) (found : SearchState) (x : Selection) : Type 0 where
+  pub edges : AreInOrder b x.krates.items found.edges.items x.edges.items
+  pub features : AreSorted b x.krates.items found.features.put x.features.items
   pub toggled : AreToggled x.krates.items found.toggled.items x.toggled.items
 
-pub selected : ReadsOnce → (r : Resolved) (s : SettingModel) (ids : List Identity) (found : SearchState) (x : Selection) → IsWhole r s ids found x.krates.items → IsInOrder r s found x
-    → CountsEach r s x.krates.items x.features.items x.work → IsSelection r s x
-selected once r s ids found x whole order counts = record {
+pub selected : ReadsOnce → (b : Context) (found : SearchState) (x : Selection) → IsWhole b found x.krates.items → IsInOrder b found x
+    → CountsEach (document_of b) b.setting.now x.krates.items x.features.items x.work → IsSelection (document_of b) b.setting.now x
+selected once b found x whole order counts = record {
   facts = λ f. (forth f, back f);
   some = root;
   krates = whole.rise;
@@ -195,16 +195,16 @@ selected once r s ids found x whole order counts = record {
     features = map (feature_fact kids) x.features.items
 
     -- the crate at the first place
-    root : (i : Id) × Derivable (questions r s) (Crate i)
+    root : (i : Id) × Derives b (Crate i)
     root =
         let place = get_or found.krates.put 0 0 in
         let among = contains_or found.krates.put 0 0 whole.some in
-        let k = kept_at r s ids found kids place whole among in
+        let k = kept_at b found kids place whole among in
         (id_of k.0, (whole.exact (Crate (id_of k.0))).1 (record { place = place; among = among; node = k.2 }))
 
-    forth : (f : Fact) → Derivable (questions r s) f → Contains (facts_of x) f
+    forth : (f : Fact) → Derives b f → Contains (facts_of x) f
     forth (Crate i) d =
-        let k = crate_kept once r s ids found kids whole i d in
+        let k = crate_kept once b found kids whole i d in
         let among = contains_at kids k.0 k.1.there k.1.at in
         Contains-append_left crates _ (Crate i) (subst (λ (j : Id). Contains crates (Crate j)) k.1.same (contains_image crate_fact kids k.1.there among))
     forth (Kept e) d =
@@ -219,30 +219,30 @@ selected once r s ids found x whole order counts = record {
         Contains-append_right crates _ (Toggled p c g) (Contains-append_right edges _ (Toggled p c g) (Contains-append_right features _ (Toggled p c g) there))
     forth (Lost c) d = absurd ((whole.exact (Lost c)).0 d)
 
-    crate_back : (f : Fact) → Contains crates f → Derivable (questions r s) f
+    crate_back : (f : Fact) → Contains crates f → Derives b f
     crate_back f h =
         let a = contains_source crate_fact kids f h in
-        let p = place_of_kid ids whole.order kids a.0 whole.krates a.1 in
+        let p = place_of_kid (ids_at b) whole.order kids a.0 whole.krates a.1 in
         let among = Contains-permutation whole.order found.krates.put p.0 (IsPermutation-sym found.krates.put whole.order whole.whole) p.1 in
-        subst (Derivable (questions r s)) a.2 ((whole.exact (crate_fact a.0)).1 (record { place = p.0; among = among; node = node_here r ids p.0 a.0 whole.reads p.2 }))
+        subst (Derives b) a.2 ((whole.exact (crate_fact a.0)).1 (record { place = p.0; among = among; node = node_here (document_of b) (ids_at b) p.0 a.0 whole.reads p.2 }))
 
-    edge_back : (f : Fact) → Contains edges f → Derivable (questions r s) f
+    edge_back : (f : Fact) → Contains edges f → Derives b f
     edge_back f h =
         let a = contains_source (edge_fact kids) x.edges.items f h in
-        subst (Derivable (questions r s)) a.2 ((whole.exact (edge_fact kids a.0)).1 ((order.edges.same (edge_view kids a.0)).1 (contains_image (edge_view kids) x.edges.items a.0 a.1)))
+        subst (Derives b) a.2 ((whole.exact (edge_fact kids a.0)).1 ((order.edges.same (edge_view kids a.0)).1 (contains_image (edge_view kids) x.edges.items a.0 a.1)))
 
-    feature_back : (f : Fact) → Contains features f → Derivable (questions r s) f
+    feature_back : (f : Fact) → Contains features f → Derives b f
     feature_back f h =
         let a = contains_source (feature_fact kids) x.features.items f h in
         let among = contains_image (feature_fact kids) x.features.items a.0 a.1 in
-        subst (Derivable (questions r s)) a.2 ((whole.exact (feature_fact kids a.0)).1 ((order.features.each (id_at kids a.0.krate) (text_view a.0.name)).1 among))
+        subst (Derives b) a.2 ((whole.exact (feature_fact kids a.0)).1 ((order.features.each (id_at kids a.0.krate) (text_view a.0.name)).1 among))
 
-    toggled_back : (f : Fact) → Contains (map (toggled_fact kids) x.toggled.items) f → Derivable (questions r s) f
+    toggled_back : (f : Fact) → Contains (map (toggled_fact kids) x.toggled.items) f → Derives b f
     toggled_back f h =
         let a = contains_source (toggled_fact kids) x.toggled.items f h in
-        subst (Derivable (questions r s)) a.2 ((whole.exact (toggled_fact kids a.0)).1 ((order.toggled.same (toggled_fact kids a.0)).1 (contains_image (toggled_fact kids) x.toggled.items a.0 a.1)))
+        subst (Derives b) a.2 ((whole.exact (toggled_fact kids a.0)).1 ((order.toggled.same (toggled_fact kids a.0)).1 (contains_image (toggled_fact kids) x.toggled.items a.0 a.1)))
 
-    back : (f : Fact) → Contains (facts_of x) f → Derivable (questions r s) f
+    back : (f : Fact) → Contains (facts_of x) f → Derives b f
     back f c = elim (Contains-append_cases crates _ f c) [
       | inl k ↦ crate_back f k
       | inr rest ↦ elim (Contains-append_cases edges _ f rest) [

@@ -5,17 +5,15 @@ use Rattle.std.proofs.lemmas.List.Elements.{All-contains}
 use Rattle.std.proofs.lemmas.Option.{slice_get-get_or, slice_get_within, none-some, same_Some}
 use Rattle.std.specs.List.{slice_get}
 use Rattle.krates_graph.specs.Agenda.{PutNumbers, IsOrderly}
-use Rattle.krates_cm.specs.Document.{Text, DependencyModel}
-use Rattle.krates_text.specs.FeatureReference.{Reference, krate, weak, strong, simple}
-use Rattle.krates_rules.specs.Facts.{Id, Edge}
-use Rattle.krates_search.specs.SearchState.{IsEnabledBySome, IsToggledIn, HasUsed, IsAny, IsTried, IsFollowed, HasFollowedAll, IsExpanded, HasRoots, IsSound, Advances}
-use Rattle.krates_rules.specs.Resolved.{NodeAt, Resolved}
-use Rattle.krates_questions.specs.Numbering.{FeatureAt}
-use Rattle.krates_resolve.specs.Saturation.{AreDone, left_in}
-use Rattle.krates_rules.specs.Setting.{SettingModel}
+use Rattle.krates_cm.specs.Document.{Text}
+use Rattle.krates_rules.specs.Facts.{Id}
+use Rattle.krates_search.specs.SearchState.{IsAny, HasFollowedReferences, HasExpanded, IsSound, Advances, IsRequired}
+use Rattle.krates_resolve.specs.Saturation.{left_in, HasDone}
 use Rattle.krates_search.specs.declared.search_state.SearchState.{SearchState}
-use Rattle.krates_search.proofs.Growing.{expanded_grows, followed_all_grows, roots_grow}
 use Rattle.krates_rules.proofs.Standings.{contains_at}
+use Rattle.krates_questions.specs.declared.context.Context.{Context}
+use Rattle.krates_questions.specs.Context.{IsNodeAt, IsFeatureAt}
+use Rattle.krates_search.proofs.Growing.{used_grows, tried_grows, rooted_grows, followed_grows}
 
 -- ---- what was found doesn't depend on how many were taken
 
@@ -23,41 +21,8 @@ use Rattle.krates_rules.proofs.Standings.{contains_at}
 abbrev pub taken_to : SearchState → ℕ → ℕ → SearchState
 taken_to x n m = record { krates = record x.krates { taken = n }; features = record x.features { taken = m }; edges = x.edges; toggled = x.toggled; trace = x.trace; krate_steps = x.krate_steps; feature_steps = x.feature_steps; links = x.links; excluded = x.excluded }
 
-named_taken : (r : Resolved) (x : SearchState) (n m : ℕ) (i : Id) (f : Text) → IsEnabledBySome r x i f → IsEnabledBySome r (taken_to x n m) i f
-named_taken r x n m i f h = record { enabled = h.enabled; listed = h.listed }
-
-toggled_taken : (r : Resolved) (x : SearchState) (n m : ℕ) (p c : Id) (f : Text) → IsToggledIn r x p c f → IsToggledIn r (taken_to x n m) p c f
-toggled_taken r x n m p c f h = record { toggled = h.toggled; listed = h.listed }
-
-used_taken : (r : Resolved) (x : SearchState) (n m : ℕ) (d : DependencyModel) (c : Id) → HasUsed r x d c → HasUsed r (taken_to x n m) d c
-used_taken r x n m d c h = record { declared = λ g among. named_taken r x n m c g (h.declared g among); by_default = h.by_default }
-
-tried_taken : (r : Resolved) (s : SettingModel) (x : SearchState) (n m : ℕ) (e : Edge) (taken : DependencyModel → Type 0) → IsTried r s x e taken → IsTried r s (taken_to x n m) e taken
-tried_taken r s x n m e taken h = record { kept = h.kept; has_package = h.has_package; has_node = h.has_node; declared = h.declared }
-
-expanded_taken : (r : Resolved) (s : SettingModel) (x : SearchState) (n m : ℕ) (i : Id) → IsExpanded r s x i → IsExpanded r s (taken_to x n m) i
-expanded_taken r s x n m i h e same = tried_taken r s x n m e _ (h e same)
-
-followed_taken : (r : Resolved) (s : SettingModel) (x : SearchState) (n m : ℕ) (p : Id) (reference : Reference) → IsFollowed r s x p reference → IsFollowed r s (taken_to x n m) p reference
-followed_taken r s x n m p (simple f) h = named_taken r x n m p f h
-followed_taken r s x n m p (krate name) h = λ e same referent. tried_taken r s x n m e _ (h e same referent)
-followed_taken r s x n m p (strong name f) h = (
-  λ e same referent. tried_taken r s x n m e _ (h.0 e same referent),
-  λ e d same referent w stands. toggled_taken r x n m p e.child f (h.1 e d same referent w stands),
-)
-followed_taken r s x n m p (weak name f) h = λ child place index referent dep. elim (h child place index referent dep) [
-  | inl still ↦ inl still
-  | inr is ↦ inr (toggled_taken r x n m p child f is)
-]
-
-followed_all_taken : (r : Resolved) (s : SettingModel) (x : SearchState) (n m : ℕ) (i : Id) (f : Text) → HasFollowedAll r s x i f → HasFollowedAll r s (taken_to x n m) i f
-followed_all_taken r s x n m i f h reference has = followed_taken r s x n m i reference (h reference has)
-
-roots_taken : (r : Resolved) (s : SettingModel) (x : SearchState) (n m : ℕ) → HasRoots r s x → HasRoots r s (taken_to x n m)
-roots_taken r s x n m h i root = let y = h i root in record { kept = y.kept; enabled = y.enabled; has_package = y.has_package; has_node = y.has_node }
-
-pub sound_taken : (r : Resolved) (s : SettingModel) (x : SearchState) (n m : ℕ) → IsSound r s x → IsSound r s (taken_to x n m)
-sound_taken r s x n m h = record {
+pub sound_taken : (b : Context) (x : SearchState) (n m : ℕ) → IsSound b x → IsSound b (taken_to x n m)
+sound_taken b x n m h = record {
   excluded = h.excluded;
   krates_size = h.krates_size;
   features_size = h.features_size;
@@ -70,13 +35,11 @@ sound_taken r s x n m h = record {
   placed = h.placed;
   toggles = h.toggles;
   reached = h.reached;
-  used = λ e found d w. used_taken r x n m d e.child (h.used e found d w);
+  used = λ e found d w. used_grows b x (taken_to x n m) d e.child (λ f a. a) (h.used e found d w);
   marked = h.marked;
-  asked = h.asked;
   woken = h.woken;
-  tried = λ e place index dep was. tried_taken r s x n m e IsAny (h.tried e place index dep was);
+  tried = λ e place index dep was. tried_grows b x (taken_to x n m) e IsAny (λ f a. a) (h.tried e place index dep was);
   arrived = h.arrived;
-  kept = h.kept;
   toggled = h.toggled;
   enabled = h.enabled;
 }
@@ -150,12 +113,11 @@ none_left xs n none = elim (cases_lt n (length xs)) [
 -- ---- one is taken
 
 -- the crate that was taken has been expanded, as were those before it
-pub crate_done : (r : Resolved) (s : SettingModel) (x z : SearchState) (t : ℕ) → AreDone r s x → Advances r s (taken_to x (x.krates.taken + 1) x.features.taken) z → length x.krates.put ≤ x.krates.size
-    → slice_get x.krates.put x.krates.taken ≡ Some t → ((i : Id) → NodeAt r i t → IsExpanded r s z i) → AreDone r s z × (left_in z < left_in x)
-crate_done r s x z t done a room at now =
+pub crate_done : (b : Context) (x z : SearchState) (t : ℕ) → HasDone b x → Advances b (taken_to x (x.krates.taken + 1) x.features.taken) z → length x.krates.put ≤ x.krates.size
+    → slice_get x.krates.put x.krates.taken ≡ Some t → ((i : Id) → IsNodeAt b i t → HasExpanded b z i) → HasDone b z × (left_in z < left_in x)
+crate_done b x z t done a room at now =
     let n = x.krates.taken + 1 in
     let m = x.features.taken in
-    let y = taken_to x n m in
     let g = a.grows in
     let count : z.krates.taken ≡ x.krates.taken + 1 = g.krates_taken in
     let same : z.features.taken ≡ x.features.taken = g.features_taken in
@@ -166,13 +128,13 @@ crate_done r s x z t done a room at now =
     let features_size : z.features.size ≡ x.features.size = a.sound.features_size ∙ sym done.sound.features_size in (
       record {
         sound = a.sound;
-        roots = roots_grow r s y z g (roots_taken r s x n m done.roots);
+        roots = λ i root. rooted_grows b x z i g.found (done.roots i root);
         expanded = λ k place i lt there node.
-            below_more x.krates.put z.krates.put x.krates.taken t (λ p. (j : Id) → NodeAt r j p → IsExpanded r s x j) (λ p. (j : Id) → NodeAt r j p → IsExpanded r s z j) g.krates at
-            (λ k p lt o j n. done.expanded k p j lt o n) (λ p o j node. expanded_grows r s y z j g (expanded_taken r s x n m j (o j node))) now k place (omega (arith, lt, count)) there i node;
+            below_more x.krates.put z.krates.put x.krates.taken t (λ p. (j : Id) → IsNodeAt b j p → HasExpanded b x j) (λ p. (j : Id) → IsNodeAt b j p → HasExpanded b z j) g.krates at
+            (λ k p lt o j n. done.expanded k p j lt o n) (λ p o j node. λ e same. tried_grows b x z e IsRequired g.found (o j node e same)) now k place (omega (arith, lt, count)) there i node;
         followed_all = λ k number i f lt there is.
-            below_same x.features.put z.features.put m (λ p. (j : Id) (h : Text) → FeatureAt r j h p → HasFollowedAll r s x j h) (λ p. (j : Id) (h : Text) → FeatureAt r j h p → HasFollowedAll r s z j h) g.features done.features_within
-            (λ k p lt o j h is. done.followed_all k p j h lt o is) (λ p o j h is. followed_all_grows r s y z j h g (followed_all_taken r s x n m j h (o j h is))) k number (omega (arith, lt, same)) there i f is;
+            below_same x.features.put z.features.put m (λ p. (j : Id) (h : Text) → IsFeatureAt b j h p → HasFollowedReferences b x j h) (λ p. (j : Id) (h : Text) → IsFeatureAt b j h p → HasFollowedReferences b z j h) g.features done.features_within
+            (λ k p lt o j h is. done.followed_all k p j h lt o is) (λ p o j h is. λ reference has. followed_grows b x z j reference g.found g.waits (o j h is reference has)) k number (omega (arith, lt, same)) there i f is;
         krates_within = omega (arith, long, count);
         features_within = omega (arith, features_long, same);
       },
@@ -180,12 +142,11 @@ crate_done r s x z t done a room at now =
     )
 
 -- the references of the feature that was taken have been followed, as were those of the features before it
-pub feature_done : (r : Resolved) (s : SettingModel) (x z : SearchState) (t : ℕ) → AreDone r s x → Advances r s (taken_to x x.krates.taken (x.features.taken + 1)) z → length x.features.put ≤ x.features.size
-    → slice_get x.features.put x.features.taken ≡ Some t → ((i : Id) (f : Text) → FeatureAt r i f t → HasFollowedAll r s z i f) → AreDone r s z × (left_in z < left_in x)
-feature_done r s x z t done a room at now =
+pub feature_done : (b : Context) (x z : SearchState) (t : ℕ) → HasDone b x → Advances b (taken_to x x.krates.taken (x.features.taken + 1)) z → length x.features.put ≤ x.features.size
+    → slice_get x.features.put x.features.taken ≡ Some t → ((i : Id) (f : Text) → IsFeatureAt b i f t → HasFollowedReferences b z i f) → HasDone b z × (left_in z < left_in x)
+feature_done b x z t done a room at now =
     let n = x.krates.taken in
     let m = x.features.taken + 1 in
-    let y = taken_to x n m in
     let g = a.grows in
     let same : z.krates.taken ≡ x.krates.taken = g.krates_taken in
     let count : z.features.taken ≡ x.features.taken + 1 = g.features_taken in
@@ -196,13 +157,13 @@ feature_done r s x z t done a room at now =
     let features_size : z.features.size ≡ x.features.size = a.sound.features_size ∙ sym done.sound.features_size in (
       record {
         sound = a.sound;
-        roots = roots_grow r s y z g (roots_taken r s x n m done.roots);
+        roots = λ i root. rooted_grows b x z i g.found (done.roots i root);
         expanded = λ k place i lt there node.
-            below_same x.krates.put z.krates.put n (λ p. (j : Id) → NodeAt r j p → IsExpanded r s x j) (λ p. (j : Id) → NodeAt r j p → IsExpanded r s z j) g.krates done.krates_within
-            (λ k p lt o j n. done.expanded k p j lt o n) (λ p o j node. expanded_grows r s y z j g (expanded_taken r s x n m j (o j node))) k place (omega (arith, lt, same)) there i node;
+            below_same x.krates.put z.krates.put n (λ p. (j : Id) → IsNodeAt b j p → HasExpanded b x j) (λ p. (j : Id) → IsNodeAt b j p → HasExpanded b z j) g.krates done.krates_within
+            (λ k p lt o j n. done.expanded k p j lt o n) (λ p o j node. λ e same. tried_grows b x z e IsRequired g.found (o j node e same)) k place (omega (arith, lt, same)) there i node;
         followed_all = λ k number i f lt there is.
-            below_more x.features.put z.features.put x.features.taken t (λ p. (j : Id) (h : Text) → FeatureAt r j h p → HasFollowedAll r s x j h) (λ p. (j : Id) (h : Text) → FeatureAt r j h p → HasFollowedAll r s z j h) g.features at
-            (λ k p lt o j h is. done.followed_all k p j h lt o is) (λ p o j h is. followed_all_grows r s y z j h g (followed_all_taken r s x n m j h (o j h is))) now k number (omega (arith, lt, count)) there i f is;
+            below_more x.features.put z.features.put x.features.taken t (λ p. (j : Id) (h : Text) → IsFeatureAt b j h p → HasFollowedReferences b x j h) (λ p. (j : Id) (h : Text) → IsFeatureAt b j h p → HasFollowedReferences b z j h) g.features at
+            (λ k p lt o j h is. done.followed_all k p j h lt o is) (λ p o j h is. λ reference has. followed_grows b x z j reference g.found g.waits (o j h is reference has)) now k number (omega (arith, lt, count)) there i f is;
         krates_within = omega (arith, krates_long, same);
         features_within = omega (arith, long, count);
       },
@@ -210,6 +171,6 @@ feature_done r s x z t done a room at now =
     )
 
 -- none is left to take
-pub none_done : (r : Resolved) (s : SettingModel) (x : SearchState) → AreDone r s x → slice_get x.krates.put x.krates.taken ≡ None → slice_get x.features.put x.features.taken ≡ None
+pub none_done : (b : Context) (x : SearchState) → HasDone b x → slice_get x.krates.put x.krates.taken ≡ None → slice_get x.features.put x.features.taken ≡ None
     → (length x.krates.put ≤ x.krates.taken) × (length x.features.put ≤ x.features.taken)
-none_done r s x done krates features = (none_left x.krates.put x.krates.taken krates, none_left x.features.put x.features.taken features)
+none_done b x done krates features = (none_left x.krates.put x.krates.taken krates, none_left x.features.put x.features.taken features)

@@ -1,5 +1,7 @@
 -- The kept crates of a document, by the numbers of its crates.
-use Rattle.std.specs.Prelude.{◌≡◌, ℕ, ◌+◌, List, [], ◌∷◌, Option, None, Some, length, map, slice_get}
+use Rattle.std.specs.Prelude.{◌≡◌, ℕ, List, Option, Some, length, map, slice_get}
+use Rattle.std.specs.List.{filter_map}
+use Rattle.std.specs.Option.{option_map}
 use Rattle.std.specs.List.Sorted.{IsPermutation, IsStrictlySortedBy}
 use Rattle.krates_ids.specs.Identity.{Identity, id_cmp}
 use Rattle.krates_rules.specs.Facts.{Id}
@@ -13,23 +15,11 @@ use Rattle.krates_questions.specs.declared.node_place.NodePlace.{NodePlace}
 abbrev pub AreAt : List Identity → List ℕ → List Identity → Type 0
 AreAt ids places kids = map (slice_get ids) places ≡ map (λ k. Some k) kids
 
--- the places that are there
-abbrev pub there_in : List (Option NodePlace) → List ℕ
-there_in [] = []
-there_in (None ∷ places) = there_in places
-there_in (Some p ∷ places) = p.index ∷ there_in places
-
--- for each that is there, how many are there before it, counted on from a number
-abbrev pub ranks_from : ℕ → List (Option NodePlace) → List (Option ℕ)
-ranks_from n [] = []
-ranks_from n (None ∷ places) = None ∷ ranks_from n places
-ranks_from n (Some p ∷ places) = Some n ∷ ranks_from (n + 1) places
-
 -- by the numbers of their crates, these places of nodes
 pub record AreNodePlaces (d : Lookup) (places : List ℕ) (kept : List (Option NodePlace)) : Type 0 where
   pub long : length kept ≡ length d.ids.now.table.ids.items
   pub numbered : (n : ℕ) (p : NodePlace) (i : Id) → slice_get kept n ≡ Some (Some p) → NodeAt (resolved_view d) i p.index → IsNumberIn d i (Some n)
-  pub whole : IsPermutation places (there_in kept)
+  pub whole : IsPermutation places (filter_map (option_map (λ (p : NodePlace). p.index)) kept)
 
 -- the ids of the nodes at these places, in order, and the number among them of each crate of the document
 pub record AreKept (d : Lookup) (places : List ℕ) (kids : List Identity) (numbers : List (Option ℕ)) : Type 0 where

@@ -1,5 +1,5 @@
 pub mod Counting
 pub mod KeptCrates
-pub mod Progress
 pub mod References
+pub mod Rooted
 pub mod Saturation

@@ -1,4 +1,5 @@
 -- What a reference of an enabled feature gives at each dependency that its name means, and what is known of the crate that refers.
+use Rattle.krates_selection.specs.Work.{CountsReference, CountsText}
 use Rattle.krates_cm.specs.Document.{Text}
 use Rattle.krates_questions.specs.Context.{document_of, HasParts, IsDepAt}
 use Rattle.krates_questions.specs.NodeEntry.{krate_of}
@@ -6,12 +7,14 @@ use Rattle.krates_resolve.specs.declared.references.Referrer.{Referrer}
 use Rattle.krates_rules.specs.Facts.{Id}
 use Rattle.krates_rules.specs.Referent.{IsReferent}
 use Rattle.krates_rules.specs.Demands.{Demands}
-use Rattle.krates_search.specs.FollowedReferences.{HasEnabledReference, IsAskedAt, IsReferringStep, IsToggledStronglyAt, IsWaitingAt}
-use Rattle.krates_search.specs.SearchContext.{FindsToggled, HasToggled, MayToggleFor}
+use Rattle.krates_search.specs.FollowedReferences.{IsAskedAt, IsToggledStronglyAt, IsWaitingAt, IsReferringStep, HasEnabledReference}
+use Rattle.krates_search.specs.SearchContext.{FindsToggled}
 use Rattle.krates_search.specs.declared.search_state.SearchState.{SearchState}
 use Rattle.krates_selection.specs.declared.trace.Reason.{Reason}
-use Rattle.krates_text.specs.FeatureReference.{Reference, krate, simple, strong, weak}
+use Rattle.krates_text.specs.FeatureReference.{Reference, krate, simple, strong, weak, IsReference}
 use Rattle.std.specs.Prelude.{ℕ, ⊤}
+use Rattle.krates_questions.specs.declared.context.Context.{Context}
+use Rattle.krates_search.specs.SearchState.{HasFollowed, MayToggle, HasToggled}
 
 -- the name that a reference begins with: that of a dependency, or of a feature of its own crate
 abbrev pub name_of : Reference → Text
@@ -35,8 +38,8 @@ DependsAt by child index = IsDepAt by.context (krate_of by.parts) child by.parts
 
 -- the reference is one of its enabled feature, which was found by the step
 pub record Refers (by : Referrer) (x : SearchState) (reference : Reference) : Type 0 where
-  pub may : HasEnabledReference (document_of by.context) by.context.setting.now (krate_of by.parts) reference
-  pub has_step : IsReferringStep (document_of by.context) x.trace.items by.step (krate_of by.parts) reference
+  pub may : HasEnabledReference by.context (krate_of by.parts) reference
+  pub has_step : IsReferringStep by.context x.trace.items by.step (krate_of by.parts) reference
 
 -- and its name means the dependency at this place
 pub record RefersTo (by : Referrer) (x : SearchState) (reference : Reference) (index : ℕ) : Type 0 where
@@ -53,19 +56,19 @@ pub record DemandsAt (by : Referrer) (x : SearchState) (index : ℕ) : Type 0 wh
 
 -- the edges by the dependency at this place have been tried
 abbrev pub HasAskedAt : Referrer → SearchState → ℕ → Type 0
-HasAskedAt by x index = IsAskedAt (document_of by.context) by.context.setting.now x (krate_of by.parts) by.parts.place.index index
+HasAskedAt by x index = IsAskedAt by.context x (krate_of by.parts) by.parts.place.index index
 
 -- all that the reference gives at this place: edges are tried, and the feature is toggled where one may be kept, or waits for one
 abbrev pub HasFollowedAt : Referrer → SearchState → Reference → ℕ → Type 0
 HasFollowedAt by x (simple g) index = ⊤
 HasFollowedAt by x (krate c) index = HasAskedAt by x index
 HasFollowedAt by x (strong c g) index =
-    HasAskedAt by x index × IsToggledStronglyAt (document_of by.context) by.context.setting.now x (krate_of by.parts) by.parts.place.index index g
-HasFollowedAt by x (weak c g) index = IsWaitingAt (document_of by.context) x (krate_of by.parts) by.parts.place.index index g
+    HasAskedAt by x index × IsToggledStronglyAt by.context x (krate_of by.parts) by.parts.place.index index g
+HasFollowedAt by x (weak c g) index = IsWaitingAt by.context x (krate_of by.parts) by.parts.place.index index g
 
 -- the feature of the dependency at this place may be toggled, or is, or it follows that it is
 abbrev pub MayToggleAt : Referrer → Text → ℕ → Type 0
-MayToggleAt by f index = (child : Id) → DependsAt by child index → MayToggleFor by.context (krate_of by.parts) child f
+MayToggleAt by f index = (child : Id) → DependsAt by child index → MayToggle by.context (krate_of by.parts) child f
 
 abbrev pub HasToggledAt : Referrer → SearchState → Text → ℕ → Type 0
 HasToggledAt by x f index = (child : Id) → DependsAt by child index → HasToggled by.context x (krate_of by.parts) child f
@@ -73,3 +76,14 @@ HasToggledAt by x f index = (child : Id) → DependsAt by child index → HasTog
 abbrev pub FindsToggledAt : Referrer → SearchState → Reason → Text → ℕ → Type 0
 FindsToggledAt by x reason f index =
     (child : Id) → DependsAt by child index → FindsToggled by.context x reason (krate_of by.parts) child f
+
+-- whatever reference the text is, it has been followed
+abbrev pub HasFollowedText : Context → SearchState → Id → Text → Type 0
+HasFollowedText b x i text = (reference : Reference) → IsReference text reference → HasFollowed b x i reference
+
+-- how often a reference counts, and its text
+abbrev pub CountsReferenceOf : Context → Id → Reference → ℕ → Type 0
+CountsReferenceOf b = CountsReference (document_of b) b.setting.now.all_named
+
+abbrev pub CountsTextOf : Context → Id → Text → ℕ → Type 0
+CountsTextOf b = CountsText (document_of b) b.setting.now.all_named

@@ -1,14 +1,16 @@
 //! What the references of an enabled feature give.
 
+ghost use Rattle.krates_cm.specs.Document.{Text};
 ghost use Rattle.krates_questions.specs.NodeEntry.{krate_of};
-ghost use Rattle.krates_search.specs.SearchContext.{Has, IsRight, Moves};
-ghost use Rattle.krates_resolve.specs.Progress.{CountsReferenceOf, CountsTextOf, HasFeatureStep, HasFollowed, HasFollowedText, HasValueStep, MayFollowText, TakenHasFollowedReferences, TakenHasReferences};
-ghost use Rattle.krates_resolve.specs.References.{DemandsAt, FindsToggledAt, HasAskedAt, HasFollowedAt, HasItsParts, HasToggledAt, MayToggleAt, NamesDependency, Refers, RefersTo, name_of};
-ghost use Rattle.krates_questions.specs.Context.{Refuses};
+ghost use Rattle.krates_search.specs.SearchState.{HasFound, HasFollowed, HasFollowedReferences, IsFeatureStep, IsSound, Advances, IsValueOfEnabled};
+ghost use Rattle.krates_resolve.specs.References.{CountsReferenceOf, CountsTextOf, HasFollowedText, FindsToggledAt, HasAskedAt, HasFollowedAt, HasItsParts, HasToggledAt, MayToggleAt, NamesDependency, name_of, RefersTo, Refers, DemandsAt};
+ghost use Rattle.krates_questions.specs.Context.{Refuses, IsFeatureAt};
 ghost use Rattle.std.specs.Prelude.{◌≡◌, ◌<◌, Contains, IfErr, IfOk, OnOk, length};
 ghost use Rattle.krates_text.specs.FeatureReference.{reference_of};
-ghost use Rattle.krates_rules.specs.Facts.{Crate};
+ghost use Rattle.krates_rules.specs.Facts.{Crate, Id};
 ghost use Rattle.krates_search.specs.Links.{IsMarked};
+ghost use Rattle.krates_search.specs.FollowedReferences.{IsValueStep};
+ghost use Rattle.krates_resolve.specs.Counting.{TakenHasReferences};
 
 use krates_graph::agenda::Taken;
 use krates_ids::{Error, laws};
@@ -42,12 +44,13 @@ pub(crate) fn follow_references<'a>(
     step: usize,
     found: &mut SearchState<'a>,
 ) -> Result<u64, Error>
-    requires sound { IsRight context.now found.old }
+    requires sound { IsSound context.now found.old }
     requires put { Contains found.old.features.put taken }
     requires within { taken < found.old.features.size }
-    requires step { HasFeatureStep context.now found.old step taken }
-    ensures advanced { OnOk result (Moves context.now found.old found.new) }
-    ensures followed_all { OnOk result (TakenHasFollowedReferences context.now found.new taken) }
+    requires step { IsFeatureStep context.now found.old.trace.items taken step }
+    ensures advanced { OnOk result (Advances context.now found.old found.new) }
+    ensures followed_all { OnOk result ((krate : Id) (f : Text) → IsFeatureAt context.now krate f taken
+        → HasFollowedReferences context.now found.new krate f) }
     ensures counted { IfOk result (TakenHasReferences context.now taken) }
     ensures refused { IfErr result (Refuses context.now) }
 {
@@ -84,12 +87,12 @@ impl<'a> Referrer<'a, '_> {
     /// Follows a reference of the feature. It answers how often the reference counts.
     fn follow(&self, text: &'a str, found: &mut SearchState<'a>) -> Result<usize, Error>
         requires parts { HasItsParts self.now }
-        requires sound { IsRight self.now.context found.old }
-        requires kept { Has self.now.context found.old (Crate (krate_of self.now.parts)) }
-        requires value { MayFollowText self.now.context (krate_of self.now.parts) text.now }
-        requires step { HasValueStep self.now.context found.old self.now.step (krate_of self.now.parts)
-            text.now }
-        ensures advanced { OnOk result (Moves self.now.context found.old found.new) }
+        requires sound { IsSound self.now.context found.old }
+        requires kept { HasFound self.now.context found.old (Crate (krate_of self.now.parts)) }
+        requires value { IsValueOfEnabled self.now.context (krate_of self.now.parts) text.now }
+        requires step { IsValueStep self.now.context found.old.trace.items self.now.step
+            (krate_of self.now.parts) text.now }
+        ensures advanced { OnOk result (Advances self.now.context found.old found.new) }
         ensures followed { OnOk result (HasFollowedText self.now.context found.new (krate_of self.now.parts)
             text.now) }
         ensures counted { IfOk result (CountsTextOf self.now.context (krate_of self.now.parts) text.now) }
@@ -119,10 +122,10 @@ impl<'a> Referrer<'a, '_> {
         found: &mut SearchState<'a>,
     ) -> Result<usize, Error>
         requires parts { HasItsParts self.now }
-        requires sound { IsRight self.now.context found.old }
+        requires sound { IsSound self.now.context found.old }
         requires named { NamesDependency (reference_of reference) }
         requires refers { Refers self.now found.old (reference_of reference) }
-        ensures advanced { OnOk result (Moves self.now.context found.old found.new) }
+        ensures advanced { OnOk result (Advances self.now.context found.old found.new) }
         ensures followed { OnOk result (HasFollowed self.now.context found.new (krate_of self.now.parts)
             (reference_of reference.entry)) }
         ensures counted { IfOk result (CountsReferenceOf self.now.context (krate_of self.now.parts)
@@ -152,10 +155,10 @@ impl<'a> Referrer<'a, '_> {
         found: &mut SearchState<'a>,
     ) -> Result<(), Error>
         requires parts { HasItsParts self.now }
-        requires sound { IsRight self.now.context found.old }
+        requires sound { IsSound self.now.context found.old }
         requires within { index < length self.now.parts.children.now }
         requires refers { RefersTo self.now found.old (reference_of reference) index }
-        ensures advanced { OnOk result (Moves self.now.context found.old found.new) }
+        ensures advanced { OnOk result (Advances self.now.context found.old found.new) }
         ensures followed { OnOk result (HasFollowedAt self.now found.new (reference_of reference.entry)
             index) }
         ensures refused { IfErr result (Refuses self.now.context) }
@@ -188,10 +191,10 @@ impl<'a> Referrer<'a, '_> {
     /// Keeps the edges by a dependency, also where it is optional, unless that was done before.
     fn ask_at(&self, index: usize, found: &mut SearchState<'a>) -> Result<(), Error>
         requires parts { HasItsParts self.now }
-        requires sound { IsRight self.now.context found.old }
+        requires sound { IsSound self.now.context found.old }
         requires within { index < length self.now.parts.children.now }
         requires demands { DemandsAt self.now found.old index }
-        ensures advanced { OnOk result (Moves self.now.context found.old found.new) }
+        ensures advanced { OnOk result (Advances self.now.context found.old found.new) }
         ensures asked { OnOk result (HasAskedAt self.now found.new index) }
         ensures refused { IfErr result (Refuses self.now.context) }
     {
@@ -215,11 +218,11 @@ impl<'a> Referrer<'a, '_> {
     ) -> Result<(), Error>
         requires parts { HasItsParts self.now }
         requires within { index < length self.now.parts.children.now }
-        requires sound { IsRight self.now.context found.old }
+        requires sound { IsSound self.now.context found.old }
         requires marked { IsMarked found.old.links self.now.parts.place.index index }
         requires may { MayToggleAt self.now name.now index }
         requires step { FindsToggledAt self.now found.old reason name.now index }
-        ensures advanced { OnOk result (Moves self.now.context found.old found.new) }
+        ensures advanced { OnOk result (Advances self.now.context found.old found.new) }
         ensures toggled { OnOk result (HasToggledAt self.now found.new name.now index) }
         ensures same_links { OnOk result (found.new.links ≡ found.old.links) }
         ensures refused { IfErr result (Refuses self.now.context) }

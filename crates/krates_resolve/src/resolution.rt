@@ -8,14 +8,14 @@ ghost use Rattle.krates_document.specs.Ids.{ids_view};
 ghost use Rattle.krates_questions.specs.Lookup.{resolved_view};
 ghost use Rattle.krates_questions.specs.Context.{document_of};
 ghost use Rattle.krates_document.specs.CrateTable.{AreNumbersOf};
-ghost use Rattle.krates_resolve.specs.Counting.{HasCountedAll};
-ghost use Rattle.krates_search.specs.SearchState.{IsSound};
 ghost use Rattle.krates_resolve.specs.Saturation.{HasExactly};
 ghost use Rattle.krates_selection.specs.Selection.{IsSelection, IsSelectionOf, RefusesSelection};
 ghost use Rattle.krates_rules.specs.NamedIds.{NamesIdsOf, NamesReadIds};
 ghost use Rattle.krates_rules.specs.Questions.{questions};
 ghost use Rattle.krates_rules.specs.Resolved.{id_of};
 ghost use Rattle.krates_rules.specs.SelectionRefusals.{SelectionRefusal};
+ghost use Rattle.krates_search.specs.SearchState.{IsSound};
+ghost use Rattle.krates_resolve.specs.Counting.{HasCountedAll};
 
 use crate::kept_crates::KeptCrates;
 use crate::saturation::saturate;
@@ -84,16 +84,16 @@ pub fn select_in<'a>(
     ensures refused { IfErr result (SelectionRefusal (questions (resolved_view document.now) setting.now)) }
     ensures named { IfErr result (NamesIdsOf (resolved_view document.now)) }
 {
-    let mut work = Work::new();
-    let found = saturate(alloc, document, setting, &mut work)?;
-    if found.krates.numbers().is_empty() {
-        return Err(Error::NoRootKrates);
-    }
     let context = Context {
         alloc,
         document,
         setting,
     };
+    let mut work = Work::new();
+    let found = saturate(&context, &mut work)?;
+    if found.krates.numbers().is_empty() {
+        return Err(Error::NoRootKrates);
+    }
     let mut numbered = selection_of(&context, &found, work)?;
     numbered.selection.steps = trace_of(found);
     Ok(numbered)
@@ -105,9 +105,9 @@ fn selection_of<'a>(
     found: &SearchState<'a>,
     work: Work,
 ) -> Result<NumberedSelection, AllocError>
-    requires exact { HasExactly (document_of context.now) context.now.setting.now found.now }
-    requires sound { IsSound (document_of context.now) context.now.setting.now found.now }
-    requires counted { HasCountedAll (document_of context.now) context.now.setting.now found.now work }
+    requires exact { HasExactly context.now found.now }
+    requires sound { IsSound context.now found.now }
+    requires counted { HasCountedAll context.now found.now work }
     requires some { 0 < length found.now.krates.put }
     ensures selected { IfOk result (λ x. IsSelection (document_of context.now) context.now.setting.now x.selection) }
     ensures numbered { IfOk result (λ x. AreNumbersOf (map id_of x.selection.krates.items)

@@ -1,8 +1,9 @@
 //! The roots: the crates that are kept for themselves.
 
 ghost use Rattle.krates_questions.specs.Context.{AsksForRoots, Refuses};
-ghost use Rattle.krates_search.specs.SearchContext.{Has, HasListed, IsNodeOf, IsRight, MayEnableListed, Moves, crate_of};
-ghost use Rattle.krates_resolve.specs.Progress.{HasEachRoot, HasRooted, HasRootedEach, HasRootedRoot, IsMemberOf, IsRootOf, IsStandingRoot};
+ghost use Rattle.krates_search.specs.SearchState.{HasFound, HasRoots, IsSound, Advances, HasRooted};
+ghost use Rattle.krates_search.specs.SearchContext.{HasListed, MayEnableListed, crate_of, IsNodeOf};
+ghost use Rattle.krates_resolve.specs.Rooted.{HasRootedRoot, IsMemberOf, IsRootOf, IsStandingRoot, HasRootedEach};
 ghost use Rattle.std.specs.Prelude.{All, IfErr, OnOk};
 ghost use Rattle.krates_cm.specs.Document.{Text};
 ghost use Rattle.krates_rules.specs.Facts.{Crate};
@@ -25,9 +26,9 @@ pub(crate) fn put_roots<'a>(
     context: &Context<'a, '_>,
     found: &mut SearchState<'a>,
 ) -> Result<(), Error>
-    requires sound { IsRight context.now found.old }
-    ensures advanced { OnOk result (Moves context.now found.old found.new) }
-    ensures roots { OnOk result (HasEachRoot context.now found.new) }
+    requires sound { IsSound context.now found.old }
+    ensures advanced { OnOk result (Advances context.now found.old found.new) }
+    ensures roots { OnOk result (HasRoots context.now found.new) }
     ensures refused { IfErr result (Refuses context.now) }
 {
     context.document.agrees();
@@ -49,11 +50,11 @@ fn put_members<'a>(
     places: &mut Agenda,
     found: &mut SearchState<'a>,
 ) -> Result<(), Error>
-    requires sound { IsRight context.now found.old }
+    requires sound { IsSound context.now found.old }
     requires each { HasRootedEach context.now found.old places.old }
     requires asks { AsksForRoots context.now all }
     requires members { All (IsMemberOf context.now) members.now }
-    ensures advanced { OnOk result (Moves context.now found.old found.new) }
+    ensures advanced { OnOk result (Advances context.now found.old found.new) }
     ensures rooted { OnOk result (All (λ m. HasRootedRoot context.now found.new (id_of m)) members.now) }
     ensures refused { IfErr result (Refuses context.now) }
 {
@@ -71,11 +72,11 @@ fn put_member<'a>(
     places: &mut Agenda,
     found: &mut SearchState<'a>,
 ) -> Result<(), Error>
-    requires sound { IsRight context.now found.old }
+    requires sound { IsSound context.now found.old }
     requires each { HasRootedEach context.now found.old places.old }
     requires asks { AsksForRoots context.now all }
     requires member { IsMemberOf context.now member.now }
-    ensures advanced { OnOk result (Moves context.now found.old found.new) }
+    ensures advanced { OnOk result (Advances context.now found.old found.new) }
     ensures rooted { OnOk result (HasRootedRoot context.now found.new (id_of member.now)) }
     ensures each { OnOk result (HasRootedEach context.now found.new places.new) }
     ensures refused { IfErr result (Refuses context.now) }
@@ -96,10 +97,10 @@ fn put_root<'a>(
     places: &mut Agenda,
     found: &mut SearchState<'a>,
 ) -> Result<(), Error>
-    requires sound { IsRight context.now found.old }
+    requires sound { IsSound context.now found.old }
     requires each { HasRootedEach context.now found.old places.old }
     requires root { IsRootOf context.now root.now }
-    ensures advanced { OnOk result (Moves context.now found.old found.new) }
+    ensures advanced { OnOk result (Advances context.now found.old found.new) }
     ensures rooted { OnOk result (HasRooted context.now found.new (id_of root.now)) }
     ensures each { OnOk result (HasRootedEach context.now found.new places.new) }
     ensures refused { IfErr result (Refuses context.now) }
@@ -124,10 +125,10 @@ fn put_once<'a>(
     found: &mut SearchState<'a>,
 ) -> Result<(), Error>
     requires node { IsNodeOf context.now node }
-    requires sound { IsRight context.now found.old }
+    requires sound { IsSound context.now found.old }
     requires each { HasRootedEach context.now found.old places.old }
     requires root { IsStandingRoot context.now (crate_of node) }
-    ensures advanced { OnOk result (Moves context.now found.old found.new) }
+    ensures advanced { OnOk result (Advances context.now found.old found.new) }
     ensures rooted { OnOk result (HasRooted context.now found.new (crate_of node.entry)) }
     ensures each { OnOk result (HasRootedEach context.now found.new places.new) }
     ensures refused { IfErr result (Refuses context.now) }
@@ -147,11 +148,11 @@ fn enable_listed<'a>(
     found: &mut SearchState<'a>,
 ) -> Result<(), Error>
     requires node { IsNodeOf context.now node }
-    requires sound { IsRight context.now found.old }
-    requires kept { Has context.now found.old (Crate (crate_of node)) }
+    requires sound { IsSound context.now found.old }
+    requires kept { HasFound context.now found.old (Crate (crate_of node)) }
     requires root { IsStandingRoot context.now (crate_of node) }
     requires may { (f : Text) → MayEnableListed context.now (crate_of node) f }
-    ensures advanced { OnOk result (Moves context.now found.old found.new) }
+    ensures advanced { OnOk result (Advances context.now found.old found.new) }
     ensures enabled { OnOk result ((f : Text) → HasListed context.now found.new (crate_of node.entry) f) }
     ensures refused { IfErr result (Refuses context.now) }
 {

@@ -1,29 +1,22 @@
 //! All that is kept of a document.
 
-ghost use Rattle.krates_resolve.specs.Progress.{HasCounted, HasDone, TakesOne};
-ghost use Rattle.krates_questions.specs.Context.{Refuses, document_of};
+ghost use Rattle.krates_resolve.specs.Saturation.{TakesNext, HasExactly, HasDone};
+ghost use Rattle.krates_questions.specs.Context.{Refuses};
 ghost use Rattle.std.specs.Prelude.{◌≡◌, IfErr, IfOk, OnOk};
-ghost use Rattle.krates_resolve.specs.Counting.{HasCountedAll};
 ghost use Rattle.krates_selection.specs.Work.{IsFresh};
 ghost use Rattle.krates_search.specs.SearchState.{IsSound};
-ghost use Rattle.krates_resolve.specs.Saturation.{HasExactly};
-ghost use Rattle.krates_questions.specs.Lookup.{resolved_view};
-ghost use Rattle.krates_rules.specs.NamedIds.{NamesIdsOf};
-ghost use Rattle.krates_rules.specs.Questions.{questions};
-ghost use Rattle.krates_rules.specs.SelectionRefusals.{SelectionRefusal};
+ghost use Rattle.krates_resolve.specs.Counting.{HasCounted, HasCountedAll};
 
 use crate::references::follow_references;
 use crate::roots::put_roots;
-use krates_document::setting::Setting;
 use krates_graph::agenda::Agenda;
 use krates_ids::Error;
-use krates_questions::Document;
 use krates_questions::context::Context;
 use krates_search::expansion::expand;
 use krates_search::links::links_of;
 use krates_search::search_state::SearchState;
 use krates_selection::work::Work;
-use std::alloc::{AllocError, Global};
+use std::alloc::AllocError;
 
 /// All that is kept of a document: exactly what has a derivation from the roots by the rules. The work is counted.
 ///
@@ -31,34 +24,25 @@ use std::alloc::{AllocError, Global};
 /// feature are followed once, which keeps edges and puts crates and features, until none is left. Crates are numbered by the places of their nodes,
 /// features by their places in the list of all.
 pub(crate) fn saturate<'a>(
-    alloc: Global,
-    document: &Document<'a>,
-    setting: &Setting,
+    context: &Context<'a, '_>,
     work: &mut Work,
 ) -> Result<SearchState<'a>, Error>
     requires fresh { IsFresh work.old }
-    ensures exact { IfOk result (HasExactly (resolved_view document.now) setting.now) }
-    ensures sound { IfOk result (λ found. IsSound (resolved_view document.now) setting.now found) }
-    ensures counted { IfOk result
-        (λ found. HasCountedAll (resolved_view document.now) setting.now found work.new) }
-    ensures refused { IfErr result (SelectionRefusal (questions (resolved_view document.now) setting.now)) }
-    ensures named { IfErr result (NamesIdsOf (resolved_view document.now)) }
+    ensures exact { IfOk result (HasExactly context.now) }
+    ensures sound { IfOk result (IsSound context.now) }
+    ensures counted { IfOk result (λ found. HasCountedAll context.now found work.new) }
+    ensures refused { IfErr result (Refuses context.now) }
 {
-    document.agrees();
-    let context = Context {
-        alloc,
-        document,
-        setting,
-    };
-    let mut found = nothing_found(&context)?;
-    put_roots(&context, &mut found)?;
-    while take_next(&context, &mut found, work)? {}
+    context.document.agrees();
+    let mut found = nothing_found(context)?;
+    put_roots(context, &mut found)?;
+    while take_next(context, &mut found, work)? {}
     Ok(found)
 }
 
 /// Nothing is found yet. The agendas have a place for each node and each feature.
 fn nothing_found<'a>(context: &Context<'a, '_>) -> Result<SearchState<'a>, AllocError>
-    ensures sound { IfOk result (IsSound (document_of context.now) context.now.setting.now) }
+    ensures sound { IfOk result (IsSound context.now) }
     ensures krates { IfOk result (λ found. found.krates.taken ≡ 0) }
     ensures features { IfOk result (λ found. found.features.taken ≡ 0) }
 {
@@ -90,7 +74,7 @@ fn take_next<'a>(
 ) -> Result<bool, Error>
     requires done { HasDone context.now found.old }
     requires counted { HasCounted context.now found.old work.old }
-    ensures taken { IfOk result (λ more. TakesOne context.now found.old found.new more) }
+    ensures taken { IfOk result (λ more. TakesNext context.now found.old found.new more) }
     ensures counted { OnOk result (HasCounted context.now found.new work.new) }
     ensures refused { IfErr result (Refuses context.now) }
 {

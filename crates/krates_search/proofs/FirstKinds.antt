@@ -11,9 +11,10 @@ use Rattle.std.specs.Ordering.{is_eq}
 use Rattle.krates_cm.specs.Document.{DepKindInfoModel, dep_kind_info_view}
 use Rattle.krates_cm.specs.declared.resolve.DepKindInfo.{DepKindInfo}
 use Rattle.krates_questions.specs.NodeEntry.{IsFirstInfo}
-use Rattle.krates_search.specs.Kinds.{AreFirstKinds, IsAmongPlaces, IsFirstKind, kind_cmp, kind_view}
+use Rattle.krates_search.specs.Kinds.{IsAmongPlaces, IsFirstKind, kind_cmp, kind_view, AreFirstKinds}
 use Rattle.krates_search.specs.declared.kinds.KindKey.{KindKey}
 use Rattle.krates_search.proofs.KindOrder.{kind_from, kind_to}
+use Rattle.krates_rules.proofs.PutElements.{none_there}
 use Rattle.krates_rules.specs.DeclaredDependency.{FirstAt}
 
 is_equal : (o : Ordering) → is_eq o ≡ true → o ≡ Equal
@@ -62,9 +63,6 @@ seen_more ks i k old new at grown h q =
 pub record AreFirstBelow (ks : List DepKindInfoModel) (i : ℕ) (places : List ℕ) : Type 0 where
   pub first : (place : ℕ) → Contains places place → IsFirstKind ks place
   pub each : (k : DepKindInfoModel) → StandsBelow ks i k → IsAmongPlaces ks places k
-
-none_there : {X : Type 0} (x : X) → Contains [] x → ⊥
-none_there x (k, lt, is) = absurd (omega (arith, lt))
 
 pub none_first : (ks : List DepKindInfoModel) (places : List ℕ) → places ≡ [] → AreFirstBelow ks 0 places
 none_first ks places e = record {

@@ -7,17 +7,17 @@ use Rattle.std.specs.declared.alloc.Global.{Global}
 use Rattle.krates_cm.specs.Document.{Text, text_view}
 use Rattle.krates_ids.specs.Identity.{Identity}
 use Rattle.krates_selection.specs.CrateNumbers.{id_at}
-use Rattle.krates_search.specs.SearchState.{IsEnabled}
-use Rattle.krates_search.specs.KeptFeatures.{AreSorted, IsFeatureOf}
 use Rattle.krates_selection.specs.Selection.{feature_fact}
 use Rattle.krates_selection.specs.SelectionOrder.{feature_cmp, same_feature, same_text}
 use Rattle.krates_selection.specs.declared.selection.EnabledFeature.{EnabledFeature}
 use Rattle.krates_rules.proofs.Elements.{both, contains_image, contains_or, contains_source}
 use Rattle.krates_search.proofs.FeaturesAt.{enabled_told}
 use Rattle.krates_rules.specs.Facts.{Id, Feature}
-use Rattle.krates_rules.specs.Resolved.{Resolved}
 use Rattle.krates_rules.proofs.OnlyOne.{place_in}
 use Rattle.krates_rules.proofs.Readings.{ReadsOnce, left_of}
+use Rattle.krates_questions.specs.declared.context.Context.{Context}
+use Rattle.krates_search.specs.SearchState.{IsEnabled}
+use Rattle.krates_search.specs.KeptFeatures.{AreSorted, IsFeatureOf}
 
 -- ---- features that compare as equal are the same
 
@@ -34,15 +34,15 @@ one_feature kids a b same =
 -- ---- the kept features
 
 -- the features that were found, sorted
-pub record AreSortedFeatures (r : Resolved) (kids : List Identity) (found : List ℕ) (enabled kept : List EnabledFeature) : Type 0 where
-  pub numbered : AllZip (IsFeatureOf r kids) found enabled
+pub record AreSortedFeatures (b : Context) (kids : List Identity) (found : List ℕ) (enabled kept : List EnabledFeature) : Type 0 where
+  pub numbered : AllZip (IsFeatureOf b kids) found enabled
   pub ascending : IsStrictlySortedBy feature_cmp kept
   pub from : (f : EnabledFeature) → Contains kept f → Contains enabled f
   pub each : (f : EnabledFeature) → Contains enabled f → (g : EnabledFeature) × Contains kept g × (same_feature f g ≡ true)
   pub whole : IsDistinct same_feature enabled → IsPermutation enabled kept
 
-pub features_sorted : ReadsOnce → (r : Resolved) (kids : List Identity) (found : List ℕ) (enabled kept : List EnabledFeature) → AreSortedFeatures r kids found enabled kept → AreSorted r kids found kept
-features_sorted once r kids found enabled kept o = record {
+pub features_sorted : ReadsOnce → (b : Context) (kids : List Identity) (found : List ℕ) (enabled kept : List EnabledFeature) → AreSortedFeatures b kids found enabled kept → AreSorted b kids found kept
+features_sorted once b kids found enabled kept o = record {
   each = λ i f. (forth i f, back i f);
   enabled = enabled;
   numbered = o.numbered;
@@ -51,16 +51,16 @@ features_sorted once r kids found enabled kept o = record {
   ascending = o.ascending;
 }
   where
-    told : (i : Id) (f : Text) → IsEnabled r found i f ↔ Contains (map (feature_fact kids) enabled) (Feature i f)
-    told i f = enabled_told once r kids found enabled o.numbered i f
+    told : (i : Id) (f : Text) → IsEnabled b found i f ↔ Contains (map (feature_fact kids) enabled) (Feature i f)
+    told i f = enabled_told once b kids found enabled o.numbered i f
 
-    forth : (i : Id) (f : Text) → IsEnabled r found i f → Contains (map (feature_fact kids) kept) (Feature i f)
+    forth : (i : Id) (f : Text) → IsEnabled b found i f → Contains (map (feature_fact kids) kept) (Feature i f)
     forth i f e =
         let a = contains_source (feature_fact kids) enabled (Feature i f) ((told i f).0 e) in
         let y = o.each a.0 a.1 in
         subst (Contains (map (feature_fact kids) kept)) (one_feature kids a.0 y.0 y.2 ∙ a.2) (contains_image (feature_fact kids) kept y.0 y.1)
 
-    back : (i : Id) (f : Text) → Contains (map (feature_fact kids) kept) (Feature i f) → IsEnabled r found i f
+    back : (i : Id) (f : Text) → Contains (map (feature_fact kids) kept) (Feature i f) → IsEnabled b found i f
     back i f c =
         let a = contains_source (feature_fact kids) kept (Feature i f) c in
         let among = contains_image (feature_fact kids) enabled a.0 (o.from a.0 a.1) in
@@ -69,4 +69,4 @@ features_sorted once r kids found enabled kept o = record {
     home : (f : EnabledFeature) → Contains kept f → f.krate < length kids
     home f c =
         let at = place_in enabled f (o.from f c) in
-        (left_of (IsFeatureOf r kids) found enabled at.0 f o.numbered at.1).2.home
+        (left_of (IsFeatureOf b kids) found enabled at.0 f o.numbered at.1).2.home

@@ -4,22 +4,22 @@ use Rattle.std.specs.List.{slice_get}
 use Rattle.krates_cm.specs.Document.{DependencyModel, DepKindInfoModel, NodeDepModel, node_dep_view}
 use Rattle.krates_questions.specs.NodeEntry.{IsEntry, child_of, edge_for, parent_of}
 use Rattle.krates_questions.specs.declared.node_entry.NodeEntry.{NodeEntry}
-use Rattle.krates_questions.specs.Context.{document_of}
 use Rattle.krates_questions.specs.declared.context.Context.{Context}
 use Rattle.krates_search.proofs.Finding.{finds_declared, finds_default, for_reason}
-use Rattle.krates_search.specs.SearchContext.{FindsUsed}
-use Rattle.krates_selection.specs.Trace.{HasStep, Names, by_one}
+use Rattle.krates_selection.specs.Trace.{Names, by_one}
 use Rattle.krates_search.specs.declared.search_state.SearchState.{SearchState}
-use Rattle.krates_selection.specs.declared.trace.NumberedFact.TheVariants as numbered
 use Rattle.krates_selection.specs.declared.trace.Reason.{Reason}
 use Rattle.krates_rules.proofs.OnlyOne.{one_dep}
 use Rattle.krates_rules.proofs.Standings.{contains_at}
 use Rattle.krates_rules.specs.Admission.{NoneDoubled}
 use Rattle.krates_rules.specs.DeclaredDependency.{FirstAt}
 use Rattle.krates_rules.specs.Facts.{Edge, Feature, Kept}
-use Rattle.krates_rules.specs.Questions.{IsWanted}
 use Rattle.krates_rules.specs.Resolved.{HasDep, HasNode, Resolved}
 use Rattle.krates_rules.specs.Rules.{default_name}
+use Rattle.krates_search.specs.SearchState.{HasStepOf}
+use Rattle.krates_search.specs.SearchContext.{FindsUsed}
+use Rattle.krates_questions.specs.Context.{Wants}
+use Rattle.krates_selection.specs.declared.trace.NumberedFact.TheVariants as numbered
 
 -- the edge of an entry stands at its places
 pub entry_edge : (r : Resolved) (x : NodeEntry) (k : DepKindInfoModel) (kind : ℕ) → NoneDoubled r.metadata r.graph → IsEntry r x → FirstAt (λ o. o ≡ k) (node_dep_view x.dep.now).dep_kinds kind k
@@ -32,12 +32,9 @@ entry_edge r x k kind none is first =
     record { edge = edge_for x k; at = record { dep = at; here = ap (λ (d : NodeDepModel). slice_get d.dep_kinds kind) same ∙ first.here }; is = refl }
 
 -- what the declared dependency of a kept edge asks for follows from the step of the edge
-pub finds_used : (b : Context) (x : SearchState) (reason : Reason) (n : ℕ) (e : Edge) (d : DependencyModel) → reason ≡ by_one 6 n → HasStep (document_of b) x.trace.items n (Kept e) → IsWanted (document_of b) b.setting.now e d → FindsUsed b x reason d e.child
+pub finds_used : (b : Context) (x : SearchState) (reason : Reason) (n : ℕ) (e : Edge) (d : DependencyModel) → reason ≡ by_one 6 n → HasStepOf b x n (Kept e) → Wants b e d → FindsUsed b x reason d e.child
 finds_used b x reason n e d is has wanted =
-    let r = document_of b in
-    let s = b.setting.now in
-    let t = x.trace.items in
     record {
-      declared = λ g among lists. for_reason r s t reason (by_one 6 n) (Feature e.child g) is (finds_declared r s t n e d g has wanted among lists);
-      by_default = λ uses lists. for_reason r s t reason (by_one 6 n) (Feature e.child default_name) is (finds_default r s t n e d has wanted uses lists);
+      declared = λ g among lists. for_reason b x reason (by_one 6 n) (Feature e.child g) is (finds_declared b x n e d g has wanted among lists);
+      by_default = λ uses lists. for_reason b x reason (by_one 6 n) (Feature e.child default_name) is (finds_default b x n e d has wanted uses lists);
     }

@@ -7,7 +7,6 @@ use Rattle.krates_ids.specs.Identity.{Identity}
 use Rattle.krates_rules.specs.Facts.{Fact, Id, Toggled}
 use Rattle.krates_selection.specs.CrateNumbers.{id_at}
 use Rattle.krates_search.specs.FoundToggle.{found_toggled}
-use Rattle.krates_search.specs.KeptToggled.{AreToggled, IsToggleCopy}
 use Rattle.krates_selection.specs.Selection.{toggled_fact}
 use Rattle.krates_selection.specs.SelectionOrder.{same_text, toggled_cmp}
 use Rattle.krates_search.specs.declared.found_toggle.FoundToggle.{FoundToggle}
@@ -17,6 +16,7 @@ use Rattle.krates_rules.proofs.Readings.{left_of, right_of}
 use Rattle.krates_rules.proofs.Standings.{contains_at}
 use Rattle.krates_rules.proofs.Elements.{both, contains_image, contains_or, contains_source}
 use Rattle.krates_search.proofs.KeptFeatures.{same_name}
+use Rattle.krates_search.specs.KeptToggled.{AreToggled, IsToggleCopy}
 
 -- whether toggled features are equal
 abbrev pub same_toggled : ToggledFeature → ToggledFeature → Bool

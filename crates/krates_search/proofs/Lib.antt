@@ -1,5 +1,4 @@
 pub mod EdgeGrowth
-pub mod Enabled
 pub mod EntriesTried
 pub mod FeaturesAt
 pub mod Finding

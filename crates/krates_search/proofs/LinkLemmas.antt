@@ -1,39 +1,24 @@
 -- One link is changed, and what that does to marks and to features that wait.
-use Rattle.std.proofs.Common.{◌≡◌, ◌⊎◌, ℕ, zero, suc, ◌<◌, List, [], ◌∷◌, ◌++◌, length, map, get_or, set, true, Option, None, Some, is_some, ◌↔◌, Vec, Global, Contains, refl, sym, ap, ◌∙◌, subst, inl, inr, arith}
+use Rattle.std.proofs.Common.{◌≡◌, ◌⊎◌, ℕ, ◌<◌, List, [], ◌∷◌, ◌++◌, length, map, get_or, set, true, Option, None, Some, is_some, ◌↔◌, Vec, Global, Contains, refl, sym, ap, ◌∙◌, subst, inl, inr, arith}
 use Rattle.std.proofs.lemmas.Bool.{cases_order}
-use Rattle.std.proofs.lemmas.List.{length-map}
+use Rattle.std.proofs.lemmas.List.{length-map, map-set}
 use Rattle.std.proofs.lemmas.List.Elements.{Contains-push, Contains-push_cases, Contains-append_left, All-contains}
 use Rattle.std.proofs.lemmas.Option.{same_Some, slice_get-map, slice_get-get_or, slice_get_within}
 use Rattle.std.specs.List.{slice_get, AllZip}
 use Rattle.std.specs.Option.{option_map}
 use Rattle.std.specs.Vec.{with_item}
 use Rattle.krates_cm.specs.Document.{NodeModel}
-use Rattle.krates_search.specs.Links.{LinkAt, HasLink, HasLinks, IsMarked, IsMarkedBy, IsNewLink, AreNewLinks, AreNew, HasMarked, HasWaiter, NotesAsked, TellsMark}
+use Rattle.krates_search.specs.Links.{HasLink, HasLinks, IsMarked, TellsMark, NotesAsked, AreNewLinks, IsMarkedBy, AreNew, IsNewLink, HasMarked, LinkAt, HasWaiter}
 use Rattle.krates_rules.specs.Resolved.{Resolved}
 use Rattle.krates_search.specs.declared.links.Link.{Link}
 use Rattle.krates_search.specs.declared.links.Links.{Links}
 use Rattle.krates_search.specs.declared.links.Waiting.{Waiting}
+use Rattle.krates_rules.proofs.PutElements.{none_there}
 use Rattle.krates_rules.proofs.Readings.{left_of, right_of}
+use Rattle.krates_selection.proofs.Places.{set_here, set_there}
 use Rattle.krates_rules.proofs.Standings.{contains_at}
 
 -- ---- lists with one element changed
-
-set_there : {A : Type 0} (xs : List A) (i : ℕ) (x y : A) → slice_get xs i ≡ Some x → slice_get (set xs i y) i ≡ Some y
-set_there [] i x y h = absurd cc
-set_there (z ∷ xs) zero x y h = refl
-set_there (z ∷ xs) (suc i) x y h = set_there xs i x y h
-
-set_other : {A : Type 0} (xs : List A) (i j : ℕ) (y : A) → (j ≡ i → ⊥) → slice_get (set xs i y) j ≡ slice_get xs j
-set_other [] i j y ne = refl
-set_other (z ∷ xs) zero zero y ne = absurd (ne refl)
-set_other (z ∷ xs) zero (suc j) y ne = refl
-set_other (z ∷ xs) (suc i) zero y ne = refl
-set_other (z ∷ xs) (suc i) (suc j) y ne = set_other xs i j y (λ e. ne (ap suc e))
-
-map_set : {A B : Type 0} (f : A → B) (xs : List A) (i : ℕ) (y : A) → map f (set xs i y) ≡ set (map f xs) i (f y)
-map_set f [] i y = refl
-map_set f (z ∷ xs) zero y = refl
-map_set f (z ∷ xs) (suc i) y = ap (λ ys. f z ∷ ys) (map_set f xs i y)
 
 same_or_not : (j k : ℕ) → (j ≡ k) ⊎ (j ≡ k → ⊥)
 same_or_not j k = elim (cases_order j k) [
@@ -64,10 +49,10 @@ from_set rows place index row is p i l there at h here = elim (same_or_not p pla
   | inl e ↦ elim (same_or_not i index) [
     | inl f ↦ inr (e, f)
     | inr ne ↦ (
-        let now : there ≡ set row index is = same_Some there (set row index is) (sym h ∙ ap (slice_get (set rows place (set row index is))) e ∙ set_there rows place row (set row index is) at) in
-        inl (row, ap (slice_get rows) e ∙ at, sym (set_other row index i is ne) ∙ ap (λ ls. slice_get ls i) (sym now) ∙ here))
+        let now : there ≡ set row index is = same_Some there (set row index is) (sym h ∙ ap (slice_get (set rows place (set row index is))) e ∙ set_here rows place (set row index is) (slice_get_within rows place row at)) in
+        inl (row, ap (slice_get rows) e ∙ at, sym (set_there row index i is ne) ∙ ap (λ ls. slice_get ls i) (sym now) ∙ here))
   ]
-  | inr ne ↦ inl (there, sym (set_other rows place p (set row index is) ne) ∙ h, here)
+  | inr ne ↦ inl (there, sym (set_there rows place p (set row index is) ne) ∙ h, here)
 ]
 
 to_set : (rows : List (List Link)) (place index : ℕ) (row : List Link) (is : Link) (p i : ℕ) (l : Link) (there : List Link) → Row rows place row → Row rows p there → slice_get there i ≡ Some l
@@ -77,9 +62,9 @@ to_set rows place index row is p i l there at h here = elim (same_or_not p place
     | inl f ↦ inr (e, f)
     | inr ne ↦ (
         let now : there ≡ row = same_Some there row (sym h ∙ ap (slice_get rows) e ∙ at) in
-        inl (set row index is, ap (slice_get (set rows place (set row index is))) e ∙ set_there rows place row (set row index is) at, set_other row index i is ne ∙ ap (λ ls. slice_get ls i) (sym now) ∙ here))
+        inl (set row index is, ap (slice_get (set rows place (set row index is))) e ∙ set_here rows place (set row index is) (slice_get_within rows place row at), set_there row index i is ne ∙ ap (λ ls. slice_get ls i) (sym now) ∙ here))
   ]
-  | inr ne ↦ inl (there, set_other rows place p (set row index is) ne ∙ h, here)
+  | inr ne ↦ inl (there, set_there rows place p (set row index is) ne ∙ h, here)
 ]
 
 -- a place has only one link
@@ -115,12 +100,12 @@ replaced x place index row was is has read there =
     let new : Links = record { of_nodes = with_item x.of_nodes place (with_item row index is) } in
     let before = link_read x place index row was has read there in
     let at = row_read x place index row has read in
-    let rows : rows_of new ≡ set (rows_of x) place (set row.items index is) = map_set (λ (v : Vec Link Global). v.items) x.of_nodes.items place (with_item row index is) in
+    let rows : rows_of new ≡ set (rows_of x) place (set row.items index is) = map-set (λ (v : Vec Link Global). v.items) x.of_nodes.items place (with_item row index is) in
     let mine : slice_get row.items index ≡ Some was = subst (λ (ls : List Link). slice_get ls index ≡ Some was) (same_Some before.of_node row.items (sym before.at ∙ at)) before.here in
     let after : LinkAt new place index is = record {
       of_node = set row.items index is;
-      at = ap (λ rs. slice_get rs place) rows ∙ set_there (rows_of x) place row.items (set row.items index is) at;
-      here = set_there row.items index was is mine;
+      at = ap (λ rs. slice_get rs place) rows ∙ set_here (rows_of x) place (set row.items index is) (slice_get_within (rows_of x) place row.items at);
+      here = set_here row.items index is (slice_get_within row.items index was mine);
     } in
     record {
       before = before;
@@ -142,9 +127,6 @@ moved_at : (y : Links) (p i place index : ℕ) (l : Link) → p ≡ place → i 
 moved_at y p i place index l a b h = subst (λ (n : ℕ). LinkAt y n i l) (sym a) (subst (λ (n : ℕ). LinkAt y place n l) (sym b) h)
 
 -- ---- its edges are asked for, it is marked, or one more feature waits
-
-nowhere : {A : Type 0} (x : A) → Contains [] x → ⊥
-nowhere x (k, lt, is) = omega (arith, lt)
 
 -- a mark that isn't changed stays, and no other is new
 marked_forth : (x y : Links) (place index p i n : ℕ) (was is : Link) → IsReplaced x y place index was is → is.kept ≡ was.kept → IsMarkedBy x p i n → IsMarkedBy y p i n
@@ -200,10 +182,10 @@ marked_now x y place index step was is waiters h kept same_asked none taken = re
   ];
   waited = λ p i v w. elim (h.back p i w.link w.at) [
     | inl o ↦ record { link = w.link; at = o; among = w.among }
-    | inr e ↦ absurd (nowhere v (subst (λ (ws : List Waiting). Contains ws v) (ap (λ (l : Link). l.waiting.items) e.2 ∙ none) w.among))
+    | inr e ↦ absurd (none_there v (subst (λ (ws : List Waiting). Contains ws v) (ap (λ (l : Link). l.waiting.items) e.2 ∙ none) w.among))
   ];
   took = λ v c. record { link = was; at = h.before; among = subst (λ (ws : List Waiting). Contains ws v) taken c };
-  none_left = λ v w. nowhere v (subst (λ (ws : List Waiting). Contains ws v) (ap (λ (l : Link). l.waiting.items) (one_link y place index w.link is w.at h.after) ∙ none) w.among);
+  none_left = λ v w. none_there v (subst (λ (ws : List Waiting). Contains ws v) (ap (λ (l : Link). l.waiting.items) (one_link y place index w.link is w.at h.after) ∙ none) w.among);
   asked = λ p i m. elim (h.back p i m.link m.at) [
     | inl o ↦ record { link = m.link; at = o; is_asked = m.is_asked }
     | inr e ↦ record { link = was; at = moved_at x p i place index was e.0 e.1 h.before; is_asked = sym same_asked ∙ ap (λ (l : Link). l.is_asked) (sym e.2) ∙ m.is_asked }
@@ -268,7 +250,7 @@ all_new nodes x z = record {
   unmarked = λ place index m. let new = new_link nodes x place index m.1.link z m.1.at in absurd (cc (new.unmarked, m.1.kept));
   none_waits = λ place index g w.
       let new = new_link nodes x place index w.waits.link z w.waits.at in
-      nowhere w.waiter (subst (λ (ws : List Waiting). Contains ws w.waiter) new.none_waits w.waits.among);
+      none_there w.waiter (subst (λ (ws : List Waiting). Contains ws w.waiter) new.none_waits w.waits.among);
 }
 
 -- ---- marks

@@ -3,8 +3,7 @@ use Rattle.std.specs.Prelude.{◌≡◌, ◌↔◌, List, All, Contains, length,
 use Rattle.std.specs.List.Sorted.{IsStrictlySortedBy}
 use Rattle.krates_ids.specs.Identity.{Identity}
 use Rattle.krates_rules.specs.Facts.{Edge}
-use Rattle.krates_rules.specs.Resolved.{NodeAt, Resolved, id_of}
-use Rattle.krates_rules.specs.Setting.{SettingModel}
+use Rattle.krates_rules.specs.Resolved.{id_of}
 use Rattle.krates_selection.specs.CrateNumbers.{HasEnds}
 use Rattle.krates_search.specs.FoundEdge.{found_view}
 use Rattle.krates_selection.specs.KeptTables.{IsKeptIn}
@@ -12,11 +11,13 @@ use Rattle.krates_selection.specs.Selection.{IsPlaced, edge_view}
 use Rattle.krates_selection.specs.SelectionOrder.{place_cmp}
 use Rattle.krates_search.specs.declared.found_edge.FoundEdge.{FoundEdge}
 use Rattle.krates_selection.specs.declared.selection.KeptEdge.{KeptEdge}
+use Rattle.krates_questions.specs.declared.context.Context.{Context}
+use Rattle.krates_questions.specs.Context.{document_of, IsNodeAt}
 
 -- the nodes of its crates, which are kept, stand where the edge says
-pub record HasKeptNodes (r : Resolved) (kids : List Identity) (e : FoundEdge) : Type 0 where
-  pub parent : NodeAt r (id_of e.parent.now) e.parent_node.index
-  pub child : NodeAt r (id_of e.child.now) e.child_node.index
+pub record HasKeptNodes (b : Context) (kids : List Identity) (e : FoundEdge) : Type 0 where
+  pub parent : IsNodeAt b (id_of e.parent.now) e.parent_node.index
+  pub child : IsNodeAt b (id_of e.child.now) e.child_node.index
   pub parent_kept : IsKeptIn kids (id_of e.parent.now)
   pub child_kept : IsKeptIn kids (id_of e.child.now)
 
@@ -28,8 +29,8 @@ pub record IsCopyOf (kids : List Identity) (e : FoundEdge) (k : KeptEdge) : Type
   pub declared : k.declared ≡ e.declared
 
 -- the kept edges are the found ones, in order, each once
-pub record AreInOrder (r : Resolved) (s : SettingModel) (kids : List Identity) (found : List FoundEdge) (kept : List KeptEdge) : Type 0 where
+pub record AreInOrder (b : Context) (kids : List Identity) (found : List FoundEdge) (kept : List KeptEdge) : Type 0 where
   pub same : (e : Edge) → Contains (map found_view found) e ↔ Contains (map (edge_view kids) kept) e
   pub ascending : IsStrictlySortedBy place_cmp kept
   pub ends : All (HasEnds (length kids)) kept
-  pub placed : All (IsPlaced r s kids) kept
+  pub placed : All (IsPlaced (document_of b) b.setting.now kids) kept

@@ -3,7 +3,7 @@ use Rattle.std.specs.Prelude.{◌≡◌, ◌↔◌, List, All, Contains, length,
 use Rattle.std.specs.List.Sorted.{IsStrictlySortedBy}
 use Rattle.krates_ids.specs.Identity.{Identity}
 use Rattle.krates_rules.specs.Facts.{Fact}
-use Rattle.krates_rules.specs.Resolved.{NodeAt, Resolved, id_of}
+use Rattle.krates_rules.specs.Resolved.{id_of}
 use Rattle.krates_selection.specs.CrateNumbers.{HasCrates}
 use Rattle.krates_search.specs.FoundToggle.{found_toggled}
 use Rattle.krates_selection.specs.KeptTables.{IsKeptIn}
@@ -11,11 +11,13 @@ use Rattle.krates_selection.specs.Selection.{toggled_fact}
 use Rattle.krates_selection.specs.SelectionOrder.{toggled_cmp}
 use Rattle.krates_search.specs.declared.found_toggle.FoundToggle.{FoundToggle}
 use Rattle.krates_selection.specs.declared.selection.ToggledFeature.{ToggledFeature}
+use Rattle.krates_questions.specs.declared.context.Context.{Context}
+use Rattle.krates_questions.specs.Context.{IsNodeAt}
 
 -- the nodes of its crates, which are kept, stand where it says
-pub record HasKeptCrates (r : Resolved) (kids : List Identity) (t : FoundToggle) : Type 0 where
-  pub by : NodeAt r (id_of t.by.now) t.by_node.index
-  pub krate : NodeAt r (id_of t.krate.now) t.krate_node.index
+pub record HasKeptCrates (b : Context) (kids : List Identity) (t : FoundToggle) : Type 0 where
+  pub by : IsNodeAt b (id_of t.by.now) t.by_node.index
+  pub krate : IsNodeAt b (id_of t.krate.now) t.krate_node.index
   pub by_kept : IsKeptIn kids (id_of t.by.now)
   pub krate_kept : IsKeptIn kids (id_of t.krate.now)
 

@@ -4,10 +4,10 @@ use Rattle.std.specs.declared.cmp.Ordering.{Ordering}
 use Rattle.krates_cm.specs.Document.{DepKindInfoModel, text_view}
 use Rattle.krates_questions.specs.NodeEntry.{IsFirstInfo}
 use Rattle.krates_questions.specs.declared.node_entry.EntryEdge.{EntryEdge}
-use Rattle.krates_search.specs.contracts.kinds.KindKeyOrd.TheImpl as key_order
 use Rattle.krates_search.specs.declared.kinds.KindKey.{KindKey}
 use Rattle.krates_rules.specs.DeclaredDependency.{FirstAt}
 use Rattle.krates_rules.specs.Kind.{written_of}
+use Rattle.krates_search.specs.contracts.kinds.KindKeyOrd.TheImpl as key_order
 
 -- the kind and target of a key
 abbrev pub kind_view : KindKey → DepKindInfoModel

@@ -1,10 +1,9 @@
--- What a search is made against, a document and a setting, and what is said of its state.
+-- What the calls of a search ask for and answer, of its state and of the steps in it.
 use Rattle.krates_questions.specs.Context.{document_of, Derives, IsNodeAt, IsFeatureAt, Lists, Wants}
-use Rattle.krates_cm.specs.Document.{DependencyModel, NodeDepModel, Text, dependency_view, node_dep_view}
-use Rattle.krates_cm.specs.declared.dependency.Dependency.{Dependency}
-use Rattle.krates_search.specs.SearchState.{Advances, AreTried, IsEdgeStep, HasFound, HasUsed, IsEnabledBySome, IsExpanded, IsSound, IsToggledIn, IsTried, MayName, MayToggle, MayTry, MayUse}
+use Rattle.krates_cm.specs.Document.{DependencyModel, Text, node_dep_view}
+use Rattle.krates_search.specs.SearchState.{HasTriedEach, HasFound, HasStepOf}
 use Rattle.krates_questions.specs.NodeEntry.{child_of, parent_of}
-use Rattle.krates_selection.specs.Trace.{HasStep, MayFind, Names}
+use Rattle.krates_selection.specs.Trace.{MayFind, Names}
 use Rattle.krates_questions.specs.declared.context.Context.{Context}
 use Rattle.krates_search.specs.declared.enabling.KeptNode.{KeptNode}
 use Rattle.krates_search.specs.declared.search_state.SearchState.{SearchState}
@@ -26,68 +25,12 @@ use Rattle.std.specs.Prelude.{◌≡◌, Contains, ℕ, true}
 abbrev pub crate_of : KeptNode → Id
 crate_of node = id_of node.id.now
 
--- all that has been found is right
-abbrev pub IsRight : Context → SearchState → Type 0
-IsRight b = IsSound (document_of b) b.setting.now
-
--- more has been found, and is right
-abbrev pub Moves : Context → SearchState → SearchState → Type 0
-Moves b = Advances (document_of b) b.setting.now
-
--- the fact has been found
-abbrev pub Has : Context → SearchState → Fact → Type 0
-Has b = HasFound (document_of b)
-
--- the edge may be kept as a dependency that is taken
-abbrev pub MayKeep : Context → Edge → (DependencyModel → Type 0) → Type 0
-MayKeep b = MayTry (document_of b) b.setting.now
-
--- the feature may be enabled
-abbrev pub MayEnable : Context → Id → Text → Type 0
-MayEnable b = MayName (document_of b) b.setting.now
-
--- the feature may be toggled
-abbrev pub MayToggleFor : Context → Id → Id → Text → Type 0
-MayToggleFor b = MayToggle (document_of b) b.setting.now
-
--- what the declared dependency asks for may be enabled
-abbrev pub MayEnableFor : Context → DependencyModel → Id → Type 0
-MayEnableFor b = MayUse (document_of b) b.setting.now
-
--- the feature is enabled
-abbrev pub HasEnabled : Context → SearchState → Id → Text → Type 0
-HasEnabled b = IsEnabledBySome (document_of b)
-
--- the feature is toggled
-abbrev pub HasToggled : Context → SearchState → Id → Id → Text → Type 0
-HasToggled b = IsToggledIn (document_of b)
-
--- what the declared dependency asks for is enabled
-abbrev pub HasEnabledFor : Context → SearchState → Dependency → KeptNode → Type 0
-HasEnabledFor b x dependency node = HasUsed (document_of b) x (dependency_view dependency) (crate_of node)
-
--- the edge has been tried
-abbrev pub HasTried : Context → SearchState → Edge → (DependencyModel → Type 0) → Type 0
-HasTried b = IsTried (document_of b) b.setting.now
-
--- each edge by the dependency has been tried
-abbrev pub HasTriedEach : Context → SearchState → Id → Id → NodeDepModel → (DependencyModel → Type 0) → Type 0
-HasTriedEach b = AreTried (document_of b) b.setting.now
-
--- the crate has been expanded
-abbrev pub HasExpanded : Context → SearchState → Id → Type 0
-HasExpanded b = IsExpanded (document_of b) b.setting.now
-
 -- a feature may be enabled, or is, where the crate lists it
 abbrev pub MayEnableListed : Context → Id → Text → Type 0
 MayEnableListed b i f = Lists b i f → Derives b (Feature i f)
 
 abbrev pub HasListed : Context → SearchState → Id → Text → Type 0
-HasListed b x i f = Lists b i f → Has b x (Feature i f)
-
--- the crate or feature that was taken has been expanded or followed
-abbrev pub HasExpandedTaken : Context → SearchState → ℕ → Type 0
-HasExpandedTaken b x taken = (krate : Id) → IsNodeAt b krate taken → HasExpanded b x krate
+HasListed b x i f = Lists b i f → HasFound b x (Feature i f)
 
 -- each edge of an entry has been tried
 abbrev pub HasTriedEntry : Context → SearchState → NodeEntry → (DependencyModel → Type 0) → Type 0
@@ -106,15 +49,7 @@ pub record IsNodeOf (b : Context) (node : KeptNode) : Type 0 where
   pub at : IsNodeAt b (crate_of node) node.place.index
   pub read : IsRead b node.id.now
 
--- the feature of the node's crate is toggled by that one
-abbrev pub HasToggledBy : Context → SearchState → KeptNode → KeptNode → Text → Type 0
-HasToggledBy b x by node = HasToggled b x (crate_of by) (crate_of node)
-
 -- ---- steps
-
--- the step with this number has the fact
-abbrev pub HasStepOf : Context → SearchState → ℕ → Fact → Type 0
-HasStepOf b x = HasStep (document_of b) x.trace.items
 
 -- for this reason the fact follows from the steps
 abbrev pub Finds : Context → SearchState → Reason → Fact → Type 0
@@ -137,14 +72,6 @@ pub record FindsUsed (b : Context) (x : SearchState) (reason : Reason) (d : Depe
 abbrev pub FindsEdge : Context → SearchState → Reason → Edge → (DependencyModel → Type 0) → Type 0
 FindsEdge b x reason e taken =
     (d : DependencyModel) → Wants b e d → taken d → Stands (document_of b) b.setting.now e.child → Finds b x reason (Kept e)
-
--- the step is that of the crate, or of the feature, that was taken
-abbrev pub HasKrateStep : Context → SearchState → ℕ → ℕ → Type 0
-HasKrateStep b x step taken = (krate : Id) → IsNodeAt b krate taken → HasStepOf b x step (Crate krate)
-
--- the step is that of an edge of the entry
-abbrev pub HasKeptStep : Context → SearchState → ℕ → NodeEntry → Type 0
-HasKeptStep b x step entry = IsEdgeStep (document_of b) x.trace.items (parent_of entry) (child_of entry) step
 
 -- ---- what is put with its step
 
@@ -173,5 +100,5 @@ pub record MayPutFeature (b : Context) (x : SearchState) (number : ℕ) (reason 
   pub krate : Id
   pub name : Text
   pub number_of : IsNumberOf b krate name number
-  pub kept : Has b x (Crate krate)
+  pub kept : HasFound b x (Crate krate)
   pub finds : Finds b x reason (Feature krate name)

@@ -1,14 +1,14 @@
 //! What is enabled and kept: features, toggled features and edges.
 
 ghost use Rattle.krates_questions.specs.Context.{Derives, HasEntry, IsNodeAt, IsWantedAt, Lists, Refuses};
-ghost use Rattle.krates_search.specs.SearchContext.{Finds, FindsListed, FindsToggled, FindsUsed, Has, HasEnabled, HasEnabledFor, HasKeptStep, HasListed, HasToggledBy, IsNodeOf, IsNumberOf, IsRight, MayEnable, MayEnableFor, MayEnableListed, MayToggleFor, Moves, crate_of};
-ghost use Rattle.krates_questions.specs.NodeEntry.{child_of, edge_for, edge_of};
+ghost use Rattle.krates_search.specs.SearchContext.{Finds, FindsListed, FindsToggled, HasListed, IsNumberOf, MayEnableListed, crate_of, FindsUsed, IsNodeOf};
+ghost use Rattle.krates_search.specs.SearchState.{HasFound, IsEdgeStep, HasEnabled, MayEnable, MayToggle, IsSound, Advances, HasEnabledFor, HasToggled, MayEnableFor};
+ghost use Rattle.krates_questions.specs.NodeEntry.{child_of, edge_of, parent_of};
 ghost use Rattle.std.specs.Prelude.{◌≡◌, IfErr, IfOk, OnOk};
-ghost use Rattle.krates_cm.specs.Document.{DepKindInfoModel, dependency_view};
+ghost use Rattle.krates_cm.specs.Document.{dependency_view};
 ghost use Rattle.krates_rules.specs.Facts.{Crate, Feature, Kept};
 ghost use Rattle.krates_search.specs.Kinds.{IsFirstOf};
 ghost use Rattle.krates_search.specs.Links.{IsMarked};
-ghost use Rattle.krates_rules.specs.Resolved.{id_of};
 ghost use Rattle.krates_rules.specs.Rules.{default_name};
 
 use crate::found_edge::found_edge;
@@ -61,17 +61,16 @@ pub fn enable<'a>(
     found: &mut SearchState<'a>,
 ) -> Result<(), Error>
     requires node { IsNodeOf context.now node }
-    requires sound { IsRight context.now found.old }
-    requires kept { Has context.now found.old (Crate (crate_of node)) }
+    requires sound { IsSound context.now found.old }
+    requires kept { HasFound context.now found.old (Crate (crate_of node)) }
     requires may { MayEnable context.now (crate_of node) feature.name.now }
     requires step { FindsListed context.now found.old feature.reason (crate_of node) feature.name.now }
-    ensures advanced { OnOk result (Moves context.now found.old found.new) }
+    ensures advanced { OnOk result (Advances context.now found.old found.new) }
     ensures listed { OnOk result (Lists context.now (crate_of node.entry) feature.entry.name.now) }
     ensures named { OnOk result (HasEnabled context.now found.new (crate_of node.entry) feature.entry.name.now) }
     ensures same_links { OnOk result (found.new.links ≡ found.old.links) }
     ensures refused { IfErr result (Refuses context.now) }
 {
-    context.document.agrees();
     let number = listed_number(context, node, feature.name)?;
     put_feature(context, number, feature.reason, found)?;
     Ok(())
@@ -106,16 +105,15 @@ fn enable_default<'a>(
     found: &mut SearchState<'a>,
 ) -> Result<(), Error>
     requires node { IsNodeOf context.now node }
-    requires sound { IsRight context.now found.old }
-    requires kept { Has context.now found.old (Crate (crate_of node)) }
+    requires sound { IsSound context.now found.old }
+    requires kept { HasFound context.now found.old (Crate (crate_of node)) }
     requires may { MayEnableListed context.now (crate_of node) default_name }
     requires step { FindsListed context.now found.old reason (crate_of node) default_name }
-    ensures advanced { OnOk result (Moves context.now found.old found.new) }
+    ensures advanced { OnOk result (Advances context.now found.old found.new) }
     ensures enabled { OnOk result (HasListed context.now found.new (crate_of node.entry) default_name) }
     ensures same_links { OnOk result (found.new.links ≡ found.old.links) }
     ensures refused { IfErr result (Refuses context.now) }
 {
-    context.document.agrees();
     laws::one_reading();
     let Some(number) = context.document.feature_number(node.place, "default") else {
         return Ok(());
@@ -134,17 +132,17 @@ pub fn toggle<'a>(
 ) -> Result<(), Error>
     requires by { IsNodeOf context.now by }
     requires node { IsNodeOf context.now node }
-    requires sound { IsRight context.now found.old }
-    requires kept { Has context.now found.old (Crate (crate_of node)) }
-    requires may { MayToggleFor context.now (crate_of by) (crate_of node) feature.name.now }
+    requires sound { IsSound context.now found.old }
+    requires kept { HasFound context.now found.old (Crate (crate_of node)) }
+    requires may { MayToggle context.now (crate_of by) (crate_of node) feature.name.now }
     requires step { FindsToggled context.now found.old feature.reason (crate_of by) (crate_of node)
         feature.name.now }
-    ensures advanced { OnOk result (Moves context.now found.old found.new) }
-    ensures toggled { OnOk result (HasToggledBy context.now found.new by.entry node.entry feature.entry.name.now) }
+    ensures advanced { OnOk result (Advances context.now found.old found.new) }
+    ensures toggled { OnOk result (HasToggled context.now found.new (crate_of by.entry) (crate_of node.entry)
+        feature.entry.name.now) }
     ensures same_links { OnOk result (found.new.links ≡ found.old.links) }
     ensures refused { IfErr result (Refuses context.now) }
 {
-    context.document.agrees();
     laws::one_reading();
     let number = listed_number(context, node, feature.name)?;
     let step = NumberedStep {
@@ -175,12 +173,13 @@ fn enable_declared<'a>(
     found: &mut SearchState<'a>,
 ) -> Result<(), Error>
     requires node { IsNodeOf context.now node }
-    requires sound { IsRight context.now found.old }
-    requires kept { Has context.now found.old (Crate (crate_of node)) }
+    requires sound { IsSound context.now found.old }
+    requires kept { HasFound context.now found.old (Crate (crate_of node)) }
     requires may { MayEnableFor context.now (dependency_view dependency.now) (crate_of node) }
     requires step { FindsUsed context.now found.old reason (dependency_view dependency.now) (crate_of node) }
-    ensures advanced { OnOk result (Moves context.now found.old found.new) }
-    ensures used { OnOk result (HasEnabledFor context.now found.new dependency.now node.entry) }
+    ensures advanced { OnOk result (Advances context.now found.old found.new) }
+    ensures used { OnOk result (HasEnabledFor context.now found.new (dependency_view dependency.now)
+        (crate_of node.entry)) }
     ensures same_links { OnOk result (found.new.links ≡ found.old.links) }
     ensures refused { IfErr result (Refuses context.now) }
 {
@@ -208,11 +207,10 @@ fn wake<'a>(
     requires entry { HasEntry context.now entry.now }
     requires node { IsNodeOf context.now node }
     requires of_child { crate_of node ≡ child_of entry.now }
-    requires sound { IsRight context.now found.old }
-    requires kept { Has context.now found.old (Crate (child_of entry.now)) }
-    requires may { (k : DepKindInfoModel) × Derives context.now (Kept (edge_for entry.now k)) }
-    requires step { HasKeptStep context.now found.old step entry.now }
-    ensures advanced { OnOk result (Moves context.now found.old found.new) }
+    requires sound { IsSound context.now found.old }
+    requires kept { HasFound context.now found.old (Crate (child_of entry.now)) }
+    requires step { IsEdgeStep context.now found.old.trace.items (parent_of entry.now) (child_of entry.now) step }
+    ensures advanced { OnOk result (Advances context.now found.old found.new) }
     ensures marked { OnOk result (IsMarked found.new.links entry.now.place.index entry.now.index) }
     ensures refused { IfErr result (Refuses context.now) }
 {
@@ -249,12 +247,12 @@ pub(crate) fn keep<'a>(
     requires entry { HasEntry context.now edge.now.entry.now }
     requires first { IsFirstOf edge.now keeping.kind }
     requires node { IsNodeAt context.now (child_of edge.now.entry.now) keeping.node.index }
-    requires sound { IsRight context.now found.old }
+    requires sound { IsSound context.now found.old }
     requires wanted { IsWantedAt context.now edge.now keeping.declared }
     requires may { Derives context.now (Kept (edge_of edge.now)) }
     requires step { Finds context.now found.old keeping.reason (Kept (edge_of edge.now)) }
-    ensures advanced { OnOk result (Moves context.now found.old found.new) }
-    ensures kept { OnOk result (Has context.now found.new (Kept (edge_of edge.now))) }
+    ensures advanced { OnOk result (Advances context.now found.old found.new) }
+    ensures kept { OnOk result (HasFound context.now found.new (Kept (edge_of edge.now))) }
     ensures refused { IfErr result (Refuses context.now) }
 {
     context.document.agrees();

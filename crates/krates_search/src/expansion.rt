@@ -1,11 +1,12 @@
 //! What the rules give from each kept crate.
 
-ghost use Rattle.krates_questions.specs.Context.{HasEntry, Refuses};
-ghost use Rattle.krates_search.specs.SearchContext.{FindsEdge, HasAvailability, HasExpandedTaken, HasKrateStep, HasTried, HasTriedEntry, IsRight, MayKeep, Moves};
+ghost use Rattle.krates_rules.specs.Facts.{Id};
+ghost use Rattle.krates_questions.specs.Context.{HasEntry, Refuses, IsNodeAt};
+ghost use Rattle.krates_search.specs.SearchContext.{FindsEdge, HasAvailability, HasTriedEntry};
 ghost use Rattle.krates_questions.specs.NodeEntry.{HasItsPlaces, IsListedEdge, edge_for, edge_of};
 ghost use Rattle.std.specs.Prelude.{◌≡◌, ◌<◌, IfErr, IfOk, OnOk, Some, Contains, true};
 ghost use Rattle.krates_cm.specs.Document.{DepKindInfoModel};
-ghost use Rattle.krates_search.specs.SearchState.{IsAny, TakenWhen};
+ghost use Rattle.krates_search.specs.SearchState.{IsAny, TakenWhen, HasExpanded, IsKrateStep, IsSound, Advances, MayTry, HasTried};
 ghost use Rattle.krates_search.specs.Kinds.{IsFirstOf};
 
 use crate::enabling::{Keeping, keep};
@@ -27,12 +28,12 @@ pub fn expand<'a>(
     step: usize,
     found: &mut SearchState<'a>,
 ) -> Result<(), Error>
-    requires sound { IsRight context.now found.old }
+    requires sound { IsSound context.now found.old }
     requires put { Contains found.old.krates.put taken }
     requires within { taken < found.old.krates.size }
-    requires step { HasKrateStep context.now found.old step taken }
-    ensures advanced { OnOk result (Moves context.now found.old found.new) }
-    ensures expanded { OnOk result (HasExpandedTaken context.now found.new taken) }
+    requires step { IsKrateStep context.now found.old.trace.items taken step }
+    ensures advanced { OnOk result (Advances context.now found.old found.new) }
+    ensures expanded { OnOk result ((krate : Id) → IsNodeAt context.now krate taken → HasExpanded context.now found.new krate) }
     ensures refused { IfErr result (Refuses context.now) }
 {
     context.document.agrees();
@@ -73,11 +74,11 @@ pub fn expand_entry<'a>(
     found: &mut SearchState<'a>,
 ) -> Result<(), Error>
     requires entry { HasEntry context.now entry.now }
-    requires sound { IsRight context.now found.old }
-    requires may { (k : DepKindInfoModel) → MayKeep context.now (edge_for entry.now k) (TakenWhen asked) }
+    requires sound { IsSound context.now found.old }
+    requires may { (k : DepKindInfoModel) → MayTry context.now (edge_for entry.now k) (TakenWhen asked) }
     requires step { (k : DepKindInfoModel)
         → FindsEdge context.now found.old reason (edge_for entry.now k) (TakenWhen asked) }
-    ensures advanced { OnOk result (Moves context.now found.old found.new) }
+    ensures advanced { OnOk result (Advances context.now found.old found.new) }
     ensures tried { OnOk result (HasTriedEntry context.now found.new entry.now (TakenWhen asked)) }
     ensures refused { IfErr result (Refuses context.now) }
 {
@@ -126,11 +127,11 @@ fn expand_edge<'a>(
     requires listed { IsListedEdge edge.now }
     requires first { IsFirstOf edge.now trial.now.kind }
     requires availability { HasAvailability context.now edge.now.entry.now trial.now.availability }
-    requires sound { IsRight context.now found.old }
-    requires may { MayKeep context.now (edge_of edge.now) (TakenWhen trial.now.asked) }
+    requires sound { IsSound context.now found.old }
+    requires may { MayTry context.now (edge_of edge.now) (TakenWhen trial.now.asked) }
     requires step { FindsEdge context.now found.old trial.now.reason (edge_of edge.now)
         (TakenWhen trial.now.asked) }
-    ensures advanced { OnOk result (Moves context.now found.old found.new) }
+    ensures advanced { OnOk result (Advances context.now found.old found.new) }
     ensures tried { OnOk result (HasTried context.now found.new (edge_of edge.now) (TakenWhen trial.now.asked)) }
     ensures whole { IfOk result (λ whole. whole ≡ true → HasTried context.now found.new (edge_of edge.now) IsAny) }
     ensures refused { IfErr result (Refuses context.now) }

@@ -2,9 +2,9 @@
 
 ghost use Rattle.std.specs.Prelude.{All, IfOk};
 ghost use Rattle.std.specs.List.{AllZip};
+ghost use Rattle.krates_selection.specs.KeptTables.{kids_in};
 ghost use Rattle.krates_search.specs.FoundEdge.{IsFoundEdge};
-ghost use Rattle.krates_search.specs.KeptEdges.{AreInOrder, HasKeptNodes, IsCopyOf};
-ghost use Rattle.krates_selection.specs.KeptTables.{document_in, kids_in};
+ghost use Rattle.krates_search.specs.KeptEdges.{HasKeptNodes, IsCopyOf, AreInOrder};
 
 use crate::found_edge::FoundEdge;
 use krates_document::sorted::in_order;
@@ -20,9 +20,9 @@ pub fn kept_edges(
     tables: &KeptTables<'_, '_>,
     found: &[FoundEdge<'_>],
 ) -> Result<Vec<KeptEdge>, AllocError>
-    requires found { All (IsFoundEdge (document_in tables.now) tables.now.context.setting.now) found.now }
-    requires kept { All (HasKeptNodes (document_in tables.now) (kids_in tables.now)) found.now }
-    ensures { IfOk result (λ kept. AreInOrder (document_in tables.now) tables.now.context.setting.now
+    requires found { All (IsFoundEdge tables.now.context) found.now }
+    requires kept { All (HasKeptNodes tables.now.context (kids_in tables.now)) found.now }
+    ensures { IfOk result (λ kept. AreInOrder tables.now.context
         (kids_in tables.now) found.now kept.items) }
 {
     tables.context.document.agrees();
@@ -37,7 +37,7 @@ fn edge_copies(
     tables: &KeptTables<'_, '_>,
     edges: &[FoundEdge<'_>],
 ) -> Result<Vec<KeptEdge>, AllocError>
-    requires kept { All (HasKeptNodes (document_in tables.now) (kids_in tables.now)) edges.now }
+    requires kept { All (HasKeptNodes tables.now.context (kids_in tables.now)) edges.now }
     ensures { IfOk result (λ kept. AllZip (IsCopyOf (kids_in tables.now)) edges.now kept.items) }
 {
     let mut kept = Vec::with_capacity(tables.context.alloc, edges.len())?;
@@ -49,7 +49,7 @@ fn edge_copies(
 
 /// A copy of what an edge says, with the numbers of its crates.
 fn edge_copy(tables: &KeptTables<'_, '_>, edge: &FoundEdge<'_>) -> Result<KeptEdge, AllocError>
-    requires kept { HasKeptNodes (document_in tables.now) (kids_in tables.now) edge.now }
+    requires kept { HasKeptNodes tables.now.context (kids_in tables.now) edge.now }
     ensures { IfOk result (IsCopyOf (kids_in tables.now) edge.now) }
 {
     let parent = tables.crate_at(edge.parent_node);

@@ -3,8 +3,8 @@
 ghost use Rattle.std.specs.Prelude.{◌<◌, All, IfOk, length};
 ghost use Rattle.std.specs.List.{AllZip};
 ghost use Rattle.krates_questions.specs.ListedFeatures.{listed_features};
-ghost use Rattle.krates_search.specs.KeptFeatures.{AreSorted, HasKeptHome, IsFeatureOf};
 ghost use Rattle.krates_selection.specs.KeptTables.{document_in, kids_in};
+ghost use Rattle.krates_search.specs.KeptFeatures.{AreSorted, HasKeptHome, IsFeatureOf};
 
 use krates_document::sorted::in_order;
 use krates_ids::laws;
@@ -20,9 +20,9 @@ pub fn kept_features(
     found: &[usize],
 ) -> Result<Vec<EnabledFeature>, AllocError>
     requires within { All (λ n. n < length (listed_features (document_in tables.now))) found.now }
-    requires kept { All (HasKeptHome (document_in tables.now) (kids_in tables.now)) found.now }
+    requires kept { All (HasKeptHome tables.now.context (kids_in tables.now)) found.now }
     ensures { IfOk result
-        (λ kept. AreSorted (document_in tables.now) (kids_in tables.now) found.now kept.items) }
+        (λ kept. AreSorted tables.now.context (kids_in tables.now) found.now kept.items) }
 {
     laws::comparison();
     laws::one_reading();
@@ -37,9 +37,9 @@ fn features_at(
     found: &[usize],
 ) -> Result<Vec<EnabledFeature>, AllocError>
     requires within { All (λ n. n < length (listed_features (document_in tables.now))) found.now }
-    requires kept { All (HasKeptHome (document_in tables.now) (kids_in tables.now)) found.now }
+    requires kept { All (HasKeptHome tables.now.context (kids_in tables.now)) found.now }
     ensures { IfOk result
-        (λ kept. AllZip (IsFeatureOf (document_in tables.now) (kids_in tables.now)) found.now kept.items) }
+        (λ kept. AllZip (IsFeatureOf tables.now.context (kids_in tables.now)) found.now kept.items) }
 {
     let alloc = tables.context.alloc;
     let mut features = Vec::with_capacity(alloc, found.len())?;

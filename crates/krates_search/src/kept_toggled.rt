@@ -2,8 +2,8 @@
 
 ghost use Rattle.std.specs.Prelude.{All, IfOk};
 ghost use Rattle.std.specs.List.{AllZip};
-ghost use Rattle.krates_selection.specs.KeptTables.{document_in, kids_in};
-ghost use Rattle.krates_search.specs.KeptToggled.{AreToggled, HasKeptCrates, IsToggleCopy};
+ghost use Rattle.krates_selection.specs.KeptTables.{kids_in};
+ghost use Rattle.krates_search.specs.KeptToggled.{AreToggled, IsToggleCopy, HasKeptCrates};
 
 use crate::found_toggle::FoundToggle;
 use krates_document::sorted::in_order;
@@ -19,7 +19,7 @@ pub fn kept_toggled(
     tables: &KeptTables<'_, '_>,
     found: &[FoundToggle<'_>],
 ) -> Result<Vec<ToggledFeature>, AllocError>
-    requires kept { All (HasKeptCrates (document_in tables.now) (kids_in tables.now)) found.now }
+    requires kept { All (HasKeptCrates tables.now.context (kids_in tables.now)) found.now }
     ensures { IfOk result (λ kept. AreToggled (kids_in tables.now) found.now kept.items) }
 {
     laws::comparison();
@@ -33,7 +33,7 @@ fn toggle_copies(
     tables: &KeptTables<'_, '_>,
     toggled: &[FoundToggle<'_>],
 ) -> Result<Vec<ToggledFeature>, AllocError>
-    requires kept { All (HasKeptCrates (document_in tables.now) (kids_in tables.now)) toggled.now }
+    requires kept { All (HasKeptCrates tables.now.context (kids_in tables.now)) toggled.now }
     ensures { IfOk result (λ kept. AllZip (IsToggleCopy (kids_in tables.now)) toggled.now kept.items) }
 {
     let mut kept = Vec::with_capacity(tables.context.alloc, toggled.len())?;
@@ -48,7 +48,7 @@ fn toggle_copy(
     tables: &KeptTables<'_, '_>,
     toggle: &FoundToggle<'_>,
 ) -> Result<ToggledFeature, AllocError>
-    requires kept { HasKeptCrates (document_in tables.now) (kids_in tables.now) toggle.now }
+    requires kept { HasKeptCrates tables.now.context (kids_in tables.now) toggle.now }
     ensures { IfOk result (IsToggleCopy (kids_in tables.now) toggle.now) }
 {
     let by = tables.crate_at(toggle.by_node);

@@ -1,7 +1,7 @@
 //! The kinds and targets of a dependency, each once.
 
 ghost use Rattle.krates_cm.specs.Document.{dep_kind_info_view};
-ghost use Rattle.krates_search.specs.Kinds.{AreFirstKinds, kind_view};
+ghost use Rattle.krates_search.specs.Kinds.{kind_view, AreFirstKinds};
 ghost use Rattle.std.specs.Prelude.{◌≡◌, ◌<◌, IfOk, Some, length, map, slice_get};
 
 use krates_cm::DepKindInfo;

@@ -2,7 +2,7 @@
 
 ghost use Rattle.std.specs.Prelude.{◌↔◌, IfOk, IsTrue, OnOk};
 ghost use Rattle.krates_cm.specs.Document.{node_view};
-ghost use Rattle.krates_search.specs.Links.{AreNew, AreNewLinks, HasLink, HasLinks, HasMarked, HasWaiter, IsMarked, NotesAsked, TellsMark, WasAsked};
+ghost use Rattle.krates_search.specs.Links.{HasLink, HasLinks, IsMarked, TellsMark, NotesAsked, AreNewLinks, AreNew, HasMarked, WasAsked, HasWaiter};
 ghost use Rattle.krates_questions.specs.Lookup.{resolved_view};
 
 use krates_cm::Node;

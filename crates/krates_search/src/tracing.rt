@@ -1,7 +1,8 @@
 //! What is found is put with the step by which it is found.
 
-ghost use Rattle.krates_search.specs.SearchContext.{HasPutStep, IsRight, MayPutFeature, MayPutKrate, MayPutStep, Moves};
+ghost use Rattle.krates_search.specs.SearchContext.{HasPutStep, MayPutStep, MayPutFeature, MayPutKrate};
 ghost use Rattle.std.specs.Prelude.{◌≡◌, Contains, IfOk, OnOk};
+ghost use Rattle.krates_search.specs.SearchState.{IsSound, Advances};
 
 use crate::search_state::SearchState;
 use krates_ids::laws;
@@ -16,9 +17,9 @@ pub(crate) fn put_step<'a>(
     step: NumberedStep,
     found: &mut SearchState<'a>,
 ) -> Result<usize, AllocError>
-    requires sound { IsRight context.now found.old }
+    requires sound { IsSound context.now found.old }
     requires may { MayPutStep context.now found.old step }
-    ensures advanced { OnOk result (Moves context.now found.old found.new) }
+    ensures advanced { OnOk result (Advances context.now found.old found.new) }
     ensures put { IfOk result (HasPutStep context.now found.new step) }
     ensures same_links { OnOk result (found.new.links ≡ found.old.links) }
 {
@@ -35,9 +36,9 @@ pub fn put_krate<'a>(
     reason: Reason,
     found: &mut SearchState<'a>,
 ) -> Result<(), AllocError>
-    requires sound { IsRight context.now found.old }
+    requires sound { IsSound context.now found.old }
     requires may { MayPutKrate context.now found.old place.index reason }
-    ensures advanced { OnOk result (Moves context.now found.old found.new) }
+    ensures advanced { OnOk result (Advances context.now found.old found.new) }
     ensures put { OnOk result (Contains found.new.krates.put place.index) }
     ensures same_links { OnOk result (found.new.links ≡ found.old.links) }
 {
@@ -60,9 +61,9 @@ pub(crate) fn put_feature<'a>(
     reason: Reason,
     found: &mut SearchState<'a>,
 ) -> Result<(), AllocError>
-    requires sound { IsRight context.now found.old }
+    requires sound { IsSound context.now found.old }
     requires may { MayPutFeature context.now found.old number reason }
-    ensures advanced { OnOk result (Moves context.now found.old found.new) }
+    ensures advanced { OnOk result (Advances context.now found.old found.new) }
     ensures put { OnOk result (Contains found.new.features.put number) }
     ensures same_links { OnOk result (found.new.links ≡ found.old.links) }
 {

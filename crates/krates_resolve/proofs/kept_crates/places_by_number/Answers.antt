@@ -6,10 +6,10 @@ use Rattle.krates_rules.specs.Facts.{Id}
 use Rattle.krates_rules.specs.Resolved.{NodeAt}
 use Rattle.krates_questions.specs.Lookup.{IsNumberIn, resolved_view}
 use Rattle.krates_questions.specs.declared.node_place.NodePlace.{NodePlace}
-use Rattle.krates_resolve.specs.KeptCrates.{AreNodePlaces}
 use Rattle.krates_resolve.proofs.KeptCrates.{no_places, node_there, number_low, put_place, some_number}
-use Rattle.krates_resolve.proofs.kept_crates.places_by_number.Goals as goal
 use Rattle.krates_resolve.proofs.kept_crates.places_by_number.Goals.{in-Some, in_default}
+use Rattle.krates_resolve.specs.KeptCrates.{AreNodePlaces}
+use Rattle.krates_resolve.proofs.kept_crates.places_by_number.Goals as goal
 
 pub loop-index-init : goal.loop-index-init
 loop-index-init c =

@@ -31,9 +31,8 @@ returns-clause-explained c =
     let sound = c.in_ok-found.ensures.sound in
     let chosen = c.in_ok-numbered.ensures.selected in
     let r = resolved_view c.args.document.now in
-    let s = c.args.setting.now in
     let same = sym c.trace_of.ensures in
     record {
-      trace = subst (λ (steps : List NumberedStep). IsTrace r s steps) same sound.trace;
+      trace = subst (λ (steps : List NumberedStep). IsTrace r c.args.setting.now steps) same sound.trace;
       stepped = λ f among. subst (λ (steps : List NumberedStep). HasSomeStep r steps f) same (sound.stepped f ((exact f).0 ((chosen.facts f).1 among)));
     }

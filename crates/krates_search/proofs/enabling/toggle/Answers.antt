@@ -1,21 +1,19 @@
-use Rattle.std.proofs.Common.{◌≡◌, ◌∙◌, refl}
+use Rattle.std.proofs.Common.{◌∙◌, refl}
 use Rattle.krates_rules.specs.Facts.{Crate, Feature, Toggled}
-use Rattle.krates_questions.specs.Lookup.{resolved_view}
 use Rattle.krates_rules.specs.Resolved.{id_of}
-use Rattle.krates_search.specs.SearchState.{HasFound}
 use Rattle.krates_search.specs.FoundToggle.{found_toggled}
 use Rattle.krates_selection.specs.Trace.{HasSomeStep}
 use Rattle.krates_search.specs.declared.found_toggle.FoundToggle.{FoundToggle}
 use Rattle.krates_questions.proofs.FeatureNumbers.{listed_at}
-use Rattle.krates_search.proofs.Enabled.{toggled_here}
 use Rattle.krates_search.proofs.Finding.{finds_toggled, for_reason}
 use Rattle.krates_search.proofs.Growing.{advances_trans}
-use Rattle.krates_search.proofs.Growth.{toggled_advances}
+use Rattle.krates_search.proofs.Growth.{seen_there, toggled_advances}
 use Rattle.krates_search.proofs.Waking.{may_name}
+use Rattle.krates_questions.specs.Context.{document_of}
 use Rattle.krates_search.proofs.enabling.toggle.Goals as goal
 
 pub listed_number-requires-clause-may : goal.listed_number-requires-clause-may
-listed_number-requires-clause-may c = may_name (resolved_view c.args.context.now.document.now) c.args.context.now.setting.now (id_of c.args.by.id.now) (id_of c.args.node.id.now) c.args.feature.name.now c.requires.may
+listed_number-requires-clause-may c = may_name c.args.context.now (id_of c.args.by.id.now) (id_of c.args.node.id.now) c.args.feature.name.now c.requires.may
 
 pub put_step-requires-clause-may : goal.put_step-requires-clause-may
 put_step-requires-clause-may c =
@@ -26,13 +24,12 @@ put_step-requires-clause-may c =
     record {
       fact = Toggled p i g;
       names = record { by = p; krate = i; name = g; node = c.requires.by.at; at = at; is = refl };
-      finds = c.requires.step (listed_at (resolved_view c.args.context.now.document.now) i g c.in_ok-number.number at);
+      finds = c.requires.step (listed_at (document_of c.args.context.now) i g c.in_ok-number.number at);
     }
 
 pub put_feature-requires-clause-may : goal.put_feature-requires-clause-may
 put_feature-requires-clause-may c =
-    let r = resolved_view c.args.context.now.document.now in
-    let s = c.args.context.now.setting.now in
+    let b = c.args.context.now in
     let p = id_of c.args.by.id.now in
     let i = id_of c.args.node.id.now in
     let g = c.args.feature.name.now in
@@ -44,13 +41,12 @@ put_feature-requires-clause-may c =
       name = g;
       number_of = at;
       kept = c.in_ok-toggled.ensures.advanced.grows.found (Crate i) c.requires.kept;
-      finds = for_reason r s y.trace.items _ _ (Feature i g) c.by_one.ensures (finds_toggled r s y.trace.items c.in_ok-toggled.toggled p i g has);
+      finds = for_reason b y _ _ (Feature i g) c.by_one.ensures (finds_toggled b y c.in_ok-toggled.toggled p i g has);
     }
 
 pub returns-clause-advanced : goal.returns-clause-advanced
 returns-clause-advanced c =
-    let r = resolved_view c.args.context.now.document.now in
-    let s = c.args.context.now.setting.now in
+    let b = c.args.context.now in
     let p = id_of c.args.by.id.now in
     let i = id_of c.args.node.id.now in
     let g = c.args.feature.name.now in
@@ -61,34 +57,18 @@ returns-clause-advanced c =
     let noted = c.in_ok-toggled.ensures in
     let step = c.in_ok-put_feature.ensures in
     let has = noted.put (Toggled p i g) (record { by = p; krate = i; name = g; node = c.requires.by.at; at = at; is = refl }) in
-    let some : HasSomeStep r z.trace.items (Toggled p i g) = (c.in_ok-toggled.toggled, step.advanced.grows.steps c.in_ok-toggled.toggled (Toggled p i g) has) in
-    let enabled : HasFound r z (Feature i g) = record { number = number; among = step.put; at = at } in
+    let some : HasSomeStep (document_of b) z.trace.items (Toggled p i g) = (c.in_ok-toggled.toggled, step.advanced.grows.steps c.in_ok-toggled.toggled (Toggled p i g) has) in
     let t : FoundToggle = record { by = c.args.by.id; krate = c.args.node.id; name = c.args.feature.name; by_node = c.args.by.place; krate_node = c.args.node.place } in
-    let is : found_toggled t ≡ Toggled p i g = refl in
-    let lists = listed_at r i g number at in
-    advances_trans r s c.args.found.now z _ (advances_trans r s c.args.found.now y z noted.advanced step.advanced)
-    (toggled_advances r s z c.push.new.self t p i g step.advanced.sound c.in_ok-push.ensures.items is (record { by = c.requires.by.at; krate = c.requires.node.at }) enabled (c.requires.may.toggled lists) some).0
+    let d = c.requires.may.toggled (listed_at (document_of b) i g number at) in
+    advances_trans b c.args.found.now z _ (advances_trans b c.args.found.now y z noted.advanced step.advanced)
+    (toggled_advances b z c.push.new.self t step.advanced.sound c.in_ok-push.ensures.items (record { by = c.requires.by.at; krate = c.requires.node.at }) (record { number = number; among = step.put; at = at }) d some)
 
 pub returns-clause-toggled : goal.returns-clause-toggled
 returns-clause-toggled c =
-    let r = resolved_view c.args.context.now.document.now in
-    let s = c.args.context.now.setting.now in
-    let p = id_of c.args.by.id.now in
-    let i = id_of c.args.node.id.now in
-    let g = c.args.feature.name.now in
-    let number = c.in_ok-number.number in
-    let at = c.in_ok-number.ensures.number.0 in
-    let z = c.put_feature.new.found in
-    let noted = c.in_ok-toggled.ensures in
-    let step = c.in_ok-put_feature.ensures in
-    let has = noted.put (Toggled p i g) (record { by = p; krate = i; name = g; node = c.requires.by.at; at = at; is = refl }) in
-    let some : HasSomeStep r z.trace.items (Toggled p i g) = (c.in_ok-toggled.toggled, step.advanced.grows.steps c.in_ok-toggled.toggled (Toggled p i g) has) in
-    let enabled : HasFound r z (Feature i g) = record { number = number; among = step.put; at = at } in
-    let t : FoundToggle = record { by = c.args.by.id; krate = c.args.node.id; name = c.args.feature.name; by_node = c.args.by.place; krate_node = c.args.node.place } in
-    let is : found_toggled t ≡ Toggled p i g = refl in
-    let lists = listed_at r i g number at in
-    toggled_here r _ p i g c.agrees.ensures.distinct lists
-    (toggled_advances r s z c.push.new.self t p i g step.advanced.sound c.in_ok-push.ensures.items is (record { by = c.requires.by.at; krate = c.requires.node.at }) enabled (c.requires.may.toggled lists) some).1
+    let t : FoundToggle = record { by = c.args.by.id; krate = c.args.node.id; name = c.args.feature.name; by_node = c.args.by.place; krate_node = c.args.node.place } in record {
+      toggled = λ h. seen_there found_toggled c.put_feature.new.found.toggled.items c.push.new.self.items t c.in_ok-push.ensures.items;
+      listed = λ lacks. lacks (listed_at (document_of c.args.context.now) (id_of c.args.node.id.now) c.args.feature.name.now c.in_ok-number.number c.in_ok-number.ensures.number.0);
+    }
 
 pub returns-clause-same_links : goal.returns-clause-same_links
 returns-clause-same_links c = c.in_ok-put_feature.ensures.same_links ∙ c.in_ok-toggled.ensures.same_links

@@ -5,20 +5,19 @@ use Rattle.krates_cm.specs.declared.resolve.DepKindInfo.{DepKindInfo}
 use Rattle.krates_rules.specs.Facts.{Kept}
 use Rattle.krates_rules.proofs.Standings.{contains_at}
 use Rattle.krates_search.specs.SearchState.{IsAny, TakenWhen}
-use Rattle.krates_search.specs.Kinds.{AreFirstKinds}
-use Rattle.krates_questions.specs.Lookup.{resolved_view}
 use Rattle.krates_questions.specs.NodeEntry.{child_of, declared_in, edge_for, parent_of}
 use Rattle.krates_search.proofs.FirstKinds.{first_info, first_within, info_there}
 use Rattle.krates_search.proofs.Growing.{advances_refl, advances_trans}
 use Rattle.krates_search.proofs.Growth.{asked_advances, with_links}
 use Rattle.krates_search.proofs.EntriesTried.{noted_tried}
 use Rattle.krates_rules.proofs.Elements.{both, contains_or}
-use Rattle.krates_selection.proofs.Steps.{finds_more}
+use Rattle.krates_search.proofs.Finding.{finds_grow}
 use Rattle.krates_search.proofs.TriedKinds.{kinds_in, kinds_more, kinds_whole}
+use Rattle.krates_search.specs.Kinds.{AreFirstKinds}
 use Rattle.krates_search.proofs.expansion.expand_entry.Goals as goal
 
 pub loop-kind-init : goal.loop-kind-init
-loop-kind-init c = (advances_refl (resolved_view c.args.context.now.document.now) c.args.context.now.setting.now c.args.found.now c.requires.sound, λ k d lt. absurd (omega (arith, lt)), λ so k d lt. absurd (omega (arith, lt)))
+loop-kind-init c = (advances_refl c.args.context.now c.args.found.now c.requires.sound, λ k d lt. absurd (omega (arith, lt)), λ so k d lt. absurd (omega (arith, lt)))
 
 -- the place that was taken
 kinds_there : (kinds items : List ℕ) (i : ℕ) → items ≡ kinds → i < length items → Contains kinds (get_or items i 0)
@@ -79,13 +78,12 @@ expand_edge-requires-clause-may c = c.requires.may (dep_kind_info_view c.info_at
 pub expand_edge-requires-clause-step : goal.expand_edge-requires-clause-step
 expand_edge-requires-clause-step c d wanted taken stands =
     let k = dep_kind_info_view c.info_at.result.now in
-    finds_more (resolved_view c.args.context.now.document.now) c.args.context.now.setting.now c.args.found.now.trace.items c.loop-kind.found.trace.items c.args.reason (Kept (edge_for c.args.entry.now k)) c.loop-kind.invariant.0.grows.steps
+    finds_grow c.args.context.now c.args.found.now c.loop-kind.found c.args.reason (Kept (edge_for c.args.entry.now k)) c.loop-kind.invariant.0.grows
     (c.requires.step k d wanted taken stands)
 
 pub loop-kind-preserved : goal.loop-kind-preserved
 loop-kind-preserved c =
-    let r = resolved_view c.args.context.now.document.now in
-    let s = c.args.context.now.setting.now in
+    let b = c.args.context.now in
     let entry = c.args.entry.now in
     let x = c.loop-kind.found in
     let y = c.expand_edge.new.found in
@@ -100,11 +98,11 @@ loop-kind-preserved c =
     let info = c.info_at.result.now in
     let is = get_or_default list at 0 kind c.loop-kind-test.true in
     let here = info_there infos items kind info c.as_slice-infos.ensures.value c.info_at.ensures in (
-      advances_trans r s c.args.found.now x y inv.0 step.advanced,
-      kinds_more r s x y entry (TakenWhen c.args.asked) list at kind (dep_kind_info_view info) step.advanced.grows c.loop-kind-test.true is here inv.1 step.tried,
+      advances_trans b c.args.found.now x y inv.0 step.advanced,
+      kinds_more b x y entry (TakenWhen c.args.asked) list at kind (dep_kind_info_view info) step.advanced.grows c.loop-kind-test.true is here inv.1 step.tried,
       λ so. (
           let parts = both c.loop-kind.whole c.in_ok-tried.tried so in
-          kinds_more r s x y entry IsAny list at kind (dep_kind_info_view info) step.advanced.grows c.loop-kind-test.true is here (inv.2 parts.0) (step.whole parts.1)),
+          kinds_more b x y entry IsAny list at kind (dep_kind_info_view info) step.advanced.grows c.loop-kind-test.true is here (inv.2 parts.0) (step.whole parts.1)),
     )
 
 pub returns-then-not-whole-clause-advanced : goal.returns-then-not-whole-clause-advanced
@@ -112,12 +110,11 @@ returns-then-not-whole-clause-advanced c = c.loop-kind.invariant.0
 
 pub returns-then-not-whole-clause-tried : goal.returns-then-not-whole-clause-tried
 returns-then-not-whole-clause-tried c =
-    let r = resolved_view c.args.context.now.document.now in
-    let s = c.args.context.now.setting.now in
+    let b = c.args.context.now in
     let entry = c.args.entry.now in
     let kinds = c.in_ok-kinds.kinds.items in
     let first = same_infos c.as_slice-infos.result.now entry.dep.now.dep_kinds.items kinds c.as_slice-infos.ensures.value c.in_ok-kinds.ensures in
-    kinds_whole r s c.loop-kind.found entry (TakenWhen c.args.asked) c.as_slice-kind-items.result.now kinds c.loop-kind.kind-index first c.as_slice-kind-items.ensures.value (omega arith) c.loop-kind.invariant.1
+    kinds_whole b c.loop-kind.found entry (TakenWhen c.args.asked) c.as_slice-kind-items.result.now kinds c.loop-kind.kind-index first c.as_slice-kind-items.ensures.value (omega arith) c.loop-kind.invariant.1
 
 pub note_asked-requires : goal.note_asked-requires
 note_asked-requires c =
@@ -126,25 +123,23 @@ note_asked-requires c =
 
 pub returns-clause-advanced : goal.returns-clause-advanced
 returns-clause-advanced c =
-    let r = resolved_view c.args.context.now.document.now in
-    let s = c.args.context.now.setting.now in
+    let b = c.args.context.now in
     let entry = c.args.entry.now in
     let x = c.loop-kind.found in
     let l = c.note_asked.new.self in
     let inv = c.loop-kind.invariant in
     let kinds = c.in_ok-kinds.kinds.items in
     let first = same_infos c.as_slice-infos.result.now entry.dep.now.dep_kinds.items kinds c.as_slice-infos.ensures.value c.in_ok-kinds.ensures in
-    let tried = kinds_whole r s x entry IsAny c.as_slice-kind-items.result.now kinds c.loop-kind.kind-index first c.as_slice-kind-items.ensures.value (omega arith) (inv.2 c.if-not-whole.false) in
-    advances_trans r s c.args.found.now x (with_links x l) inv.0
-    (asked_advances r s x l entry.place.index entry.index inv.0.sound c.note_asked.ensures (noted_tried c.one_reading.ensures.once r s x entry c.agrees.ensures.distinct c.requires.entry tried))
+    let tried = kinds_whole b x entry IsAny c.as_slice-kind-items.result.now kinds c.loop-kind.kind-index first c.as_slice-kind-items.ensures.value (omega arith) (inv.2 c.if-not-whole.false) in
+    advances_trans b c.args.found.now x (with_links x l) inv.0
+    (asked_advances b x l entry.place.index entry.index inv.0.sound c.note_asked.ensures (noted_tried c.one_reading.ensures.once b x entry c.agrees.ensures.distinct c.requires.entry tried))
 
 pub returns-clause-tried : goal.returns-clause-tried
 returns-clause-tried c k among =
-    let r = resolved_view c.args.context.now.document.now in
-    let s = c.args.context.now.setting.now in
+    let b = c.args.context.now in
     let entry = c.args.entry.now in
     let kinds = c.in_ok-kinds.kinds.items in
     let first = same_infos c.as_slice-infos.result.now entry.dep.now.dep_kinds.items kinds c.as_slice-infos.ensures.value c.in_ok-kinds.ensures in
     let tried =
-    kinds_whole r s c.loop-kind.found entry (TakenWhen c.args.asked) c.as_slice-kind-items.result.now kinds c.loop-kind.kind-index first c.as_slice-kind-items.ensures.value (omega arith) c.loop-kind.invariant.1 k among in
+    kinds_whole b c.loop-kind.found entry (TakenWhen c.args.asked) c.as_slice-kind-items.result.now kinds c.loop-kind.kind-index first c.as_slice-kind-items.ensures.value (omega arith) c.loop-kind.invariant.1 k among in
     record { kept = tried.kept; has_package = tried.has_package; has_node = tried.has_node; declared = tried.declared }

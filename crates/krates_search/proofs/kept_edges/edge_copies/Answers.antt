@@ -1,12 +1,12 @@
 use Rattle.std.proofs.Common.{◌+◌, sym, subst, take, arith}
 use Rattle.std.specs.List.{AllZip}
-use Rattle.krates_search.specs.KeptEdges.{HasKeptNodes, IsCopyOf}
-use Rattle.krates_selection.specs.KeptTables.{document_in, kids_in}
+use Rattle.krates_selection.specs.KeptTables.{kids_in}
 use Rattle.krates_selection.proofs.ByNumber.{all_item, zip_more, zip_whole}
+use Rattle.krates_search.specs.KeptEdges.{HasKeptNodes, IsCopyOf}
 use Rattle.krates_search.proofs.kept_edges.edge_copies.Goals as goal
 
 pub edge_copy-requires : goal.edge_copy-requires
-edge_copy-requires c = record { kept = all_item (HasKeptNodes (document_in c.args.tables.now) (kids_in c.args.tables.now)) c.args.edges.now c.loop-edge.edge-index c.edge-item.result c.requires.kept c.loop-edge-test.true c.edge-item.is }
+edge_copy-requires c = record { kept = all_item (HasKeptNodes c.args.tables.now.context (kids_in c.args.tables.now)) c.args.edges.now c.loop-edge.edge-index c.edge-item.result c.requires.kept c.loop-edge-test.true c.edge-item.is }
 
 pub loop-edge-preserved : goal.loop-edge-preserved
 loop-edge-preserved c =

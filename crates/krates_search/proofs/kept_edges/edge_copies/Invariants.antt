@@ -1,7 +1,7 @@
 use Rattle.std.proofs.Common.{take}
 use Rattle.std.specs.List.{AllZip}
-use Rattle.krates_search.specs.KeptEdges.{IsCopyOf}
 use Rattle.krates_selection.specs.KeptTables.{kids_in}
+use Rattle.krates_search.specs.KeptEdges.{IsCopyOf}
 use Rattle.krates_search.proofs.kept_edges.edge_copies.Given as goal
 
 -- the edges so far have their edge_copies

@@ -1,9 +1,9 @@
-use Rattle.krates_selection.specs.KeptTables.{document_in, kids_in}
+use Rattle.krates_selection.specs.KeptTables.{kids_in}
 use Rattle.krates_search.proofs.KeptEdges.{kept_in_order}
 use Rattle.krates_search.proofs.kept_edges.kept_edges.Goals as goal
 
 pub returns : goal.returns
-returns c = kept_in_order (document_in c.args.tables.now) c.args.tables.now.context.setting.now (kids_in c.args.tables.now) c.args.found.now c.in_ok-kept.kept.items c.in_ok-sorted.sorted.items record {
+returns c = kept_in_order c.args.tables.now.context (kids_in c.args.tables.now) c.args.found.now c.in_ok-kept.kept.items c.in_ok-sorted.sorted.items record {
   none_doubled = c.agrees.ensures.distinct;
   right = c.requires.found;
   copied = c.in_ok-kept.ensures;

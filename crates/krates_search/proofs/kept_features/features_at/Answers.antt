@@ -2,11 +2,11 @@ use Rattle.std.proofs.Common.{◌≡◌, ◌+◌, ◌∷◌, [], ◌++◌, get_o
 use Rattle.std.proofs.lemmas.List.{get_or_default}
 use Rattle.std.specs.List.{AllZip}
 use Rattle.krates_cm.specs.Document.{text_view}
-use Rattle.krates_search.specs.KeptFeatures.{IsFeatureOf}
-use Rattle.krates_selection.specs.KeptTables.{document_in, kids_in}
+use Rattle.krates_selection.specs.KeptTables.{kids_in}
 use Rattle.krates_selection.specs.declared.selection.EnabledFeature.{EnabledFeature}
 use Rattle.krates_selection.proofs.ByNumber.{zip_more, zip_whole}
 use Rattle.krates_search.proofs.FeaturesAt.{feature_here, home_kept}
+use Rattle.krates_search.specs.KeptFeatures.{IsFeatureOf}
 use Rattle.krates_search.proofs.kept_features.features_at.Goals as goal
 
 pub listed_feature-feature-requires : goal.listed_feature-feature-requires
@@ -31,8 +31,8 @@ loop-number-preserved c =
     let name : text_view y.name ≡ x.name.now = search rules in
     let here = feature_here t number x y there home c.crate_at.ensures name in
     let pushed : c.push.new.self.items ≡ old ++ y ∷ [] = search rules in
-    let features = IsFeatureOf (document_in t) (kids_in t) in
+    let features = IsFeatureOf t.context (kids_in t) in
     subst (AllZip features (take (i + 1) found)) (sym pushed) (zip_more features found i number old y c.loop-number-test.true (sym (get_or_default found i number 0 c.loop-number-test.true)) here c.loop-number.invariant)
 
 pub returns : goal.returns
-returns c = zip_whole (IsFeatureOf (document_in c.args.tables.now) (kids_in c.args.tables.now)) c.args.found.now c.loop-number.number-index c.loop-number.features.items (omega arith) c.loop-number.invariant
+returns c = zip_whole (IsFeatureOf c.args.tables.now.context (kids_in c.args.tables.now)) c.args.found.now c.loop-number.number-index c.loop-number.features.items (omega arith) c.loop-number.invariant

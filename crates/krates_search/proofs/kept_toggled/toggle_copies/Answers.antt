@@ -1,12 +1,12 @@
 use Rattle.std.proofs.Common.{◌+◌, sym, subst, take, arith}
 use Rattle.std.specs.List.{AllZip}
-use Rattle.krates_selection.specs.KeptTables.{document_in, kids_in}
-use Rattle.krates_search.specs.KeptToggled.{HasKeptCrates, IsToggleCopy}
+use Rattle.krates_selection.specs.KeptTables.{kids_in}
 use Rattle.krates_selection.proofs.ByNumber.{all_item, zip_more, zip_whole}
+use Rattle.krates_search.specs.KeptToggled.{IsToggleCopy, HasKeptCrates}
 use Rattle.krates_search.proofs.kept_toggled.toggle_copies.Goals as goal
 
 pub toggle_copy-requires : goal.toggle_copy-requires
-toggle_copy-requires c = record { kept = all_item (HasKeptCrates (document_in c.args.tables.now) (kids_in c.args.tables.now)) c.args.toggled.now c.loop-toggle.toggle-index c.toggle-item.result c.requires.kept c.loop-toggle-test.true c.toggle-item.is }
+toggle_copy-requires c = record { kept = all_item (HasKeptCrates c.args.tables.now.context (kids_in c.args.tables.now)) c.args.toggled.now c.loop-toggle.toggle-index c.toggle-item.result c.requires.kept c.loop-toggle-test.true c.toggle-item.is }
 
 pub loop-toggle-preserved : goal.loop-toggle-preserved
 loop-toggle-preserved c =

@@ -1,12 +1,11 @@
-use Rattle.std.proofs.Common.{◌≡◌, Bool, true, false, not, map, rules, sym, ◌∙◌, subst, arith}
+use Rattle.std.proofs.Common.{◌≡◌, Bool, true, false, not, map, rules, sym, ◌∙◌, subst, arith, Some}
 use Rattle.std.specs.BTreeSet.{contains}
 use Rattle.krates_cm.specs.Document.{DepKindInfoModel, dep_kind_info_view}
 use Rattle.krates_search.specs.Kinds.{kind_cmp, kind_view}
 use Rattle.krates_search.proofs.FirstKinds.{all_first, first_put, first_stays, infos_long, info_here, none_first, none_seen, one_first, seen_more}
 use Rattle.krates_search.proofs.kinds.first_kinds.Goals.{then-branch+in_ok-push, else-branch}
-use Rattle.krates_search.proofs.kinds.first_kinds.Goals as goal
 use Rattle.std.specs.List.{slice_get}
-use Rattle.std.proofs.Common.{Some}
+use Rattle.krates_search.proofs.kinds.first_kinds.Goals as goal
 
 pub returns-then-infos-eq1 : goal.returns-then-infos-eq1
 returns-then-infos-eq1 c =

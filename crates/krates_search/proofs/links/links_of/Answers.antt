@@ -4,11 +4,11 @@ use Rattle.std.specs.Global.{Vec}
 use Rattle.std.specs.List.{AllZip}
 use Rattle.krates_cm.specs.Document.{node_view}
 use Rattle.krates_cm.specs.declared.resolve.Node.{Node}
-use Rattle.krates_search.specs.Links.{AreNewLinks}
 use Rattle.krates_questions.specs.Lookup.{resolved_view}
 use Rattle.krates_search.specs.declared.links.Link.{Link}
 use Rattle.krates_search.proofs.LinkLemmas.{links_for_all, all_new}
 use Rattle.krates_rules.proofs.Zips.{zip_next, zip_all}
+use Rattle.krates_search.specs.Links.{AreNewLinks}
 use Rattle.krates_search.proofs.links.links_of.Goals as goal
 
 pub loop-node-preserved : goal.loop-node-preserved

@@ -1,7 +1,7 @@
-use Rattle.std.proofs.Common.{◌≡◌, take}
-use Rattle.krates_resolve.specs.KeptCrates.{AreAt, ranks_from, there_in}
+use Rattle.std.proofs.Common.{take}
+use Rattle.krates_resolve.proofs.KeptCrates.{AreRanked}
 use Rattle.krates_resolve.proofs.kept_crates.KeptCrates.new.Given as goal
 
 -- the ids and the ranks are those of the places so far
 abbrev pub invariant-loop-place : goal.invariant-loop-place
-invariant-loop-place l = AreAt l.ids (there_in (take l.place-index l.place-items)) l.krates.items × (l.numbers.items ≡ ranks_from 0 (take l.place-index l.place-items))
+invariant-loop-place l = AreRanked l.ids (take l.place-index l.place-items) l.krates.items l.numbers.items

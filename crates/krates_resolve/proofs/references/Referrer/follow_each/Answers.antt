@@ -1,6 +1,5 @@
 use Rattle.std.proofs.Common.{get_or, rules}
 use Rattle.krates_questions.specs.declared.referent.Referent.{Referent}
-use Rattle.krates_questions.specs.Context.{document_of}
 use Rattle.krates_text.specs.FeatureReference.{reference_of}
 use Rattle.krates_rules.proofs.Seen.{seen_more}
 use Rattle.krates_search.proofs.Growing.{advances_trans}
@@ -37,7 +36,7 @@ loop-referent-preserved c =
     let y = c.follow_at.new.found in
     let inv = c.loop-referent.invariant in
     let step = c.in_ok-follow_at.ensures in (
-      advances_trans (document_of by.context) by.context.setting.now c.args.found.now x y inv.0 step.advanced,
+      advances_trans by.context c.args.found.now x y inv.0 step.advanced,
       seen_more (λ (z : Referent). HasFollowedAt by y reference z.place) c.deref-referent-items.result.now c.loop-referent.referent-index c.referent-item.result c.loop-referent-test.true c.referent-item.is
           (λ k d lt. followed_at_grows by x y reference (get_or c.deref-referent-items.result.now k d).place step.advanced.grows (inv.1 k d lt)) step.followed,
     )
