@@ -15,7 +15,7 @@ use Rattle.krates_derive.specs.declared.fact_ref.FactRef.TheVariants as keys
 use Rattle.krates_derive.specs.declared.fact_set.Pair.{Pair}
 use Rattle.krates_rules.proofs.DistinctIds.{OrderTellsSame}
 use Rattle.krates_rules.proofs.PutElements.{equal_is, is_equal, none_there, put_step}
-use Rattle.krates_derive.proofs.FactRefOrder.{key_from, key_to, order_of_pair, pair_from, pair_to}
+use Rattle.krates_derive.proofs.FactRefOrder.{key_tells, order_of_pair, pair_from, pair_to}
 use Rattle.krates_ids.specs.Identity.{Identity}
 use Rattle.krates_rules.specs.Facts.{Id, Edge, Fact, Kept}
 use Rattle.krates_rules.specs.Resolved.{id_of}
@@ -28,7 +28,7 @@ keys_put : OrderTellsSame → (old new : BTreeSet FactRef) (fs : List Fact) (k :
     → HasKeys new (fs ++ fact_of_ref k ∷ [])
 keys_put tells old new fs k grown h q =
     subst (λ (b : Bool). IsTrue b ↔ Contains (fs ++ fact_of_ref k ∷ []) (fact_of_ref q)) (sym (grown q))
-    (put_step (is_eq (fact_cmp k q)) (contains fact_cmp old q) fs (fact_of_ref k) (fact_of_ref q) (λ t. key_to tells k q (is_equal (fact_cmp k q) t)) (λ e. equal_is (fact_cmp k q) (key_from tells k q e)) (h q))
+    (put_step (is_eq (fact_cmp k q)) (contains fact_cmp old q) fs (fact_of_ref k) (fact_of_ref q) (λ t. (key_tells tells k q).0 (is_equal (fact_cmp k q) t)) (λ e. equal_is (fact_cmp k q) ((key_tells tells k q).1 e)) (h q))
 
 -- one more fact of the list
 seen_step : (xs : List ToldFact) (i : ℕ) (x : ToldFact) → i < length xs → x ≡ get_or xs i x → facts_view (take i xs) ++ fact_view x ∷ [] ≡ facts_view (take (i + 1) xs)

@@ -1,15 +1,15 @@
 -- The nodes of enabled features: how they are ordered, and what a search for one finds.
-use Rattle.std.proofs.Common.{◌≡◌, ◌↔◌, ℕ, zero, suc, ◌<◌, ◌≤◌, List, [], ◌∷◌, length, get_or, Option, Some, None, option_map, true, Ordering, Less, Equal, Greater, HoldsAt, rules, refl, sym, ap, ◌∙◌, subst, inl, inr, arith}
-use Rattle.std.proofs.lemmas.Map.Text.{is_eq-slice_cmp}
+use Rattle.std.proofs.Common.{◌≡◌, ◌↔◌, ℕ, zero, suc, ◌<◌, ◌≤◌, List, [], ◌∷◌, length, get_or, Option, Some, None, option_map, Less, Equal, Greater, HoldsAt, rules, refl, sym, ap, ◌∙◌, subst, inl, inr, arith}
+use Rattle.std.proofs.lemmas.Map.Lookups.{exact_unsigned}
 use Rattle.std.proofs.lemmas.Option.{slice_get-get_or, get_or_from_slice_get, slice_get_within, slice_get_cases}
 use Rattle.std.specs.BTreeSet.{BTreeSet}
-use Rattle.std.specs.Cmp.{IsTotalOrder, ranks}
-use Rattle.std.specs.Cmp.Lexicographic.{slice_cmp, bytes_decides}
+use Rattle.std.specs.Cmp.{IsTotalOrder}
+use Rattle.std.specs.Cmp.Lexicographic.{slice_cmp}
 use Rattle.std.specs.Cmp.Rules.{comparing}
 use Rattle.std.specs.Global.{Vec}
 use Rattle.std.specs.List.{AllByRecursion}
 use Rattle.std.specs.List.Sorted.{IsNonDecreasingBy, IsPartitionPoint, IsStrictlySortedBy}
-use Rattle.std.specs.Ordering.{MatchOrdering, is_eq, nat_cmp, ordering_index, ordering_reverse, ordering_then}
+use Rattle.std.specs.Ordering.{nat_cmp, ordering_index}
 use Rattle.std.specs.Prelude.{String, MatchOption, IsSome, ⊤}
 use Rattle.std.specs.declared.alloc.Global.{Global}
 use Rattle.krates_cm.specs.Document.{Text, text_view}
@@ -24,41 +24,14 @@ use Rattle.krates_drawing.specs.declared.node.Node.{Node}
 use Rattle.krates_drawing.specs.declared.node.Node.TheVariants.{Krate, Feature}
 use Rattle.krates_rules.proofs.Members.{Member, contains_of, member_of}
 use Rattle.krates_queries.proofs.NodeLemmas.{Rises, rising, none_first, stands_among}
+use Rattle.krates_rules.proofs.KeyOrder.{text_tells, then_equal}
 use Rattle.krates_rules.proofs.OrderedIds.{none_equal}
+use Rattle.krates_rules.proofs.SeenInOrder.{equal_self}
 
 -- ---- the order
 
 pub feature_total : IsTotalOrder feature_order
 feature_total = search (comparing, rules) depth 9
-
-own_reverse : (r : Ordering) → r ≡ ordering_reverse r → r ≡ Equal
-own_reverse Less e = absurd cc
-own_reverse Equal e = refl
-own_reverse Greater e = absurd cc
-
-pub same_equal : (x : ℕ × Text) → feature_order x x ≡ Equal
-same_equal x = own_reverse (feature_order x x) (feature_total.antisymm x x)
-
-is_equal : (r : Ordering) → is_eq r ≡ true → r ≡ Equal
-is_equal Less e = absurd cc
-is_equal Equal e = refl
-is_equal Greater e = absurd cc
-
-equal_number : (m n : ℕ) (r : Ordering) → MatchOrdering r (m < n) (m ≡ n) (n < m) → r ≡ Equal → m ≡ n
-equal_number m n Less h e = absurd cc
-equal_number m n Equal h e = h
-equal_number m n Greater h e = absurd cc
-
-pub numbers_equal : (m n : ℕ) → nat_cmp m n ≡ Equal → m ≡ n
-numbers_equal m n e = equal_number m n (nat_cmp m n) (ranks m n) e
-
-pub texts_equal : (s t : Text) → slice_cmp nat_cmp s t ≡ Equal → s ≡ t
-texts_equal s t e = (bytes_decides s t).0 (sym (is_eq-slice_cmp s t) ∙ ap is_eq e)
-
-both_equal : (a b : Ordering) → ordering_then a b ≡ Equal → (a ≡ Equal) × (b ≡ Equal)
-both_equal Less b e = absurd cc
-both_equal Equal b e = (refl, e)
-both_equal Greater b e = absurd cc
 
 -- ---- where a feature stands
 
@@ -106,7 +79,7 @@ each P (x ∷ xs) z h (inr m) = each P xs z h.1 m
 not_again : (x y : ℕ × Text) (names : List (ℕ × Text)) → AllByRecursion (λ z. feature_order x z ≡ Less) names → x ≡ y → Member names y → ⊥
 not_again x y names h e m =
     let less : feature_order x y ≡ Less = each (λ z. feature_order x z ≡ Less) names y h m in
-    let equal : feature_order x y ≡ Equal = ap (λ z. feature_order x z) (sym e) ∙ same_equal x in
+    let equal : feature_order x y ≡ Equal = ap (λ z. feature_order x z) (sym e) ∙ equal_self feature_total x in
     cc (less, equal)
 
 -- each feature has one node
@@ -149,13 +122,13 @@ rise (Feature k t ∷ nodes) number name first s = (features_later nodes (k, tex
 feature_equal : {N : Type 0} (node : Node N) (number : ℕ) (name : Text) → feature_cmp node number name ≡ Equal → IsFeature number name node
 feature_equal (Krate i k f m) number name e = cc e
 feature_equal (Feature k t) number name e =
-    let parts = both_equal (nat_cmp k number) (slice_cmp nat_cmp (text_view t) name) e in
-    (numbers_equal k number parts.0, texts_equal (text_view t) name parts.1)
+    let parts = then_equal (nat_cmp k number) (slice_cmp nat_cmp (text_view t) name) e in
+    (exact_unsigned k number parts.0, (text_tells (text_view t) name).0 parts.1)
 
 equal_feature : {N : Type 0} (node : Node N) (number : ℕ) (name : Text) → IsFeature number name node → feature_cmp node number name ≡ Equal
 equal_feature (Krate i k f m) number name is = absurd is
 equal_feature (Feature k t) number name is =
-    ap (λ (j : ℕ). feature_order (j, text_view t) (number, name)) is.0 ∙ ap (λ (u : Text). feature_order (number, u) (number, name)) is.1 ∙ same_equal (number, name)
+    ap (λ (j : ℕ). feature_order (j, text_view t) (number, name)) is.0 ∙ ap (λ (u : Text). feature_order (number, u) (number, name)) is.1 ∙ equal_self feature_total (number, name)
 
 -- the place that the search found
 pub feature_found : {N : Type 0} (nodes : List (Node N)) (number : ℕ) (name : Text) (place : ℕ) → AreNodes nodes → place < length nodes

@@ -3,19 +3,15 @@ use Rattle.std.proofs.Common.{◌≡◌, ◌≢◌, false, Ordering, Less, Equal
 use Rattle.std.proofs.lemmas.Cmp.{nat_list_cmp_total, on_total, then_total}
 use Rattle.std.proofs.lemmas.Map.Lookups.{exact_bytes}
 use Rattle.std.specs.Cmp.{IsTotalOrder}
-use Rattle.std.specs.Ordering.{ordering_then, ordering_reverse}
+use Rattle.std.specs.Ordering.{ordering_reverse}
 use Rattle.krates_cm.specs.Document.{Text}
+use Rattle.krates_rules.proofs.KeyOrder.{then_equal}
 use Rattle.krates_rules.specs.Facts.{Id}
 use Rattle.krates_rules.specs.Resolved.{Resolved}
 use Rattle.krates_rules.specs.Referent.{IsReferent, id_order}
 
 id_order_total : IsTotalOrder id_order
 id_order_total = then_total (on_total (λ (i : Id). i.name) nat_list_cmp_total) (then_total (on_total (λ (i : Id). i.version) nat_list_cmp_total) (on_total (λ (i : Id). i.source) nat_list_cmp_total))
-
-both_equal : (a b : Ordering) → ordering_then a b ≡ Equal → (a ≡ Equal) × (b ≡ Equal)
-both_equal Less b h = absurd cc
-both_equal Equal b h = (refl, h)
-both_equal Greater b h = absurd cc
 
 neither_greater : (a b : Ordering) → a ≡ ordering_reverse b → a ≢ Greater → b ≢ Greater → a ≡ Equal
 neither_greater a Less is not_a not_b = absurd (not_a is)
@@ -24,8 +20,8 @@ neither_greater a Greater is not_a not_b = absurd (not_b refl)
 
 equal_id : (a b : Id) → id_order a b ≡ Equal → a ≡ b
 equal_id a b h =
-    let w = both_equal _ _ h in
-    let v = both_equal _ _ w.1 in
+    let w = then_equal _ _ h in
+    let v = then_equal _ _ w.1 in
     rw (exact_bytes a.name b.name w.0, exact_bytes a.version b.version v.0, exact_bytes a.source b.source v.1) refl
 
 pub one_referent : (r : Resolved) (i : Id) (name : Text) (a b : Id) → IsReferent r false i name a → IsReferent r false i name b → a ≡ b

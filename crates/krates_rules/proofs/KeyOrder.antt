@@ -39,30 +39,16 @@ option_tells (Some x) (Some y) = (
   λ h. (text_tells (text_view x) (text_view y)).1 (same_Some (text_view x) (text_view y) h),
 )
 
-kind_to : (a b : DepKind) → (kind_order.ghosts).cmp a b ≡ Equal → written_of a ≡ written_of b
-kind_to kinds.Normal kinds.Normal h = refl
-kind_to kinds.Normal kinds.Build h = absurd cc
-kind_to kinds.Normal kinds.Dev h = absurd cc
-kind_to kinds.Build kinds.Normal h = absurd cc
-kind_to kinds.Build kinds.Build h = refl
-kind_to kinds.Build kinds.Dev h = absurd cc
-kind_to kinds.Dev kinds.Normal h = absurd cc
-kind_to kinds.Dev kinds.Build h = absurd cc
-kind_to kinds.Dev kinds.Dev h = refl
-
-kind_from : (a b : DepKind) → written_of a ≡ written_of b → (kind_order.ghosts).cmp a b ≡ Equal
-kind_from kinds.Normal kinds.Normal e = refl
-kind_from kinds.Normal kinds.Build e = absurd cc
-kind_from kinds.Normal kinds.Dev e = absurd cc
-kind_from kinds.Build kinds.Normal e = absurd cc
-kind_from kinds.Build kinds.Build e = refl
-kind_from kinds.Build kinds.Dev e = absurd cc
-kind_from kinds.Dev kinds.Normal e = absurd cc
-kind_from kinds.Dev kinds.Build e = absurd cc
-kind_from kinds.Dev kinds.Dev e = refl
-
 pub kind_tells : (a b : DepKind) → ((kind_order.ghosts).cmp a b ≡ Equal) ↔ (written_of a ≡ written_of b)
-kind_tells a b = (kind_to a b, kind_from a b)
+kind_tells kinds.Normal kinds.Normal = (λ h. refl, λ e. refl)
+kind_tells kinds.Normal kinds.Build = (λ h. absurd cc, λ e. absurd cc)
+kind_tells kinds.Normal kinds.Dev = (λ h. absurd cc, λ e. absurd cc)
+kind_tells kinds.Build kinds.Normal = (λ h. absurd cc, λ e. absurd cc)
+kind_tells kinds.Build kinds.Build = (λ h. refl, λ e. refl)
+kind_tells kinds.Build kinds.Dev = (λ h. absurd cc, λ e. absurd cc)
+kind_tells kinds.Dev kinds.Normal = (λ h. absurd cc, λ e. absurd cc)
+kind_tells kinds.Dev kinds.Build = (λ h. absurd cc, λ e. absurd cc)
+kind_tells kinds.Dev kinds.Dev = (λ h. refl, λ e. refl)
 
 -- the kind that is read of a document is written as it was
 pub written_back : (k : DependencyKind) → written_of (kind_of k) ≡ k

@@ -1,25 +1,18 @@
 -- The last places of facts among keys, filled place by place, and the numbers that they give on the way.
-use Rattle.std.proofs.Common.{◌≡◌, ◌↔◌, ⊎_elim, ℕ, zero, suc, ◌+◌, ◌<◌, ◌≤◌, List, [], ◌∷◌, ◌++◌, All, length, get_or, set, length-append, map, Bool, true, false, cond, Option, Some, None, IfSome, MatchOption, option_map, Ordering, Less, Equal, Greater, refl, sym, ap, ◌∙◌, subst, inl, inr, arith}
+use Rattle.std.proofs.Common.{◌≡◌, ◌↔◌, ⊎_elim, ℕ, zero, suc, ◌+◌, ◌<◌, ◌≤◌, List, [], ◌∷◌, ◌++◌, All, length, get_or, set, length-append, map, Bool, true, false, cond, Option, Some, None, IfSome, MatchOption, option_map, refl, sym, ap, ◌∙◌, subst, inl, inr, arith}
 use Rattle.std.proofs.lemmas.Bool.{cases_eq, cases_order}
 use Rattle.std.proofs.lemmas.List.{get_or-map, get_or-set_other, get_or-set_same, length-map, length-set}
 use Rattle.std.proofs.lemmas.Option.{slice_get-map, slice_get_read, slice_get_within, slice_get-get_or, same_Some}
 use Rattle.std.specs.BTreeMap.{BTreeMap, get}
 use Rattle.std.specs.List.{AllZip, slice_get}
 use Rattle.std.specs.Ordering.{is_eq}
+use Rattle.krates_rules.proofs.PutElements.{equal_is, is_equal}
 use Rattle.krates_selection.specs.Keys.{AreFactNumbers, AreNoPlaces, home, key_cmp, key_view}
 use Rattle.krates_selection.specs.KeptFacts.{KeptModel}
 use Rattle.krates_selection.specs.declared.key.KeptFactKey.{KeptFactKey}
-use Rattle.krates_selection.proofs.KeptKeyOrder.{key_from, key_to}
+use Rattle.krates_selection.proofs.KeptKeyOrder.{key_tells}
 use Rattle.krates_selection.proofs.PickedSteps.{pushed_at}
 use Rattle.krates_selection.specs.PartOfSteps.{SameFact}
-
-is_equal : (o : Ordering) → is_eq o ≡ true → o ≡ Equal
-is_equal Less h = absurd cc
-is_equal Equal h = refl
-is_equal Greater h = absurd cc
-
-equal_is : (o : Ordering) → o ≡ Equal → is_eq o ≡ true
-equal_is o e = rw e refl
 
 -- ---- the map, filled place by place
 
@@ -81,7 +74,7 @@ places_more xs i at k old was is lt read here low there grown h q d within =
     (λ e. (
     let now : get_or (set old at is) own d ≡ is = ap (λ n. get_or (set old at is) n d) e ∙ get_or-set_same old at is d low in
     let before : get_or old own was ≡ was = ap (λ n. get_or old n was) e ∙ sym there in
-    let answered = place_step all i (key_view k) (key_view q) (get key_cmp was q) (is_eq (key_cmp k q)) known (λ t. key_to k q (is_equal (key_cmp k q) t)) (λ s. equal_is (key_cmp k q) (key_from k q s)) (subst (IsHome all i q) before (h q was within_old)) in
+    let answered = place_step all i (key_view k) (key_view q) (get key_cmp was q) (is_eq (key_cmp k q)) known (λ t. (key_tells k q).0 (is_equal (key_cmp k q) t)) (λ s. equal_is (key_cmp k q) ((key_tells k q).1 s)) (subst (IsHome all i q) before (h q was within_old)) in
     subst (IsHome all (i + 1) q) (sym now) (subst (IsPlaceBelow all (key_view q) (i + 1)) (sym (grown q)) answered)))
     (λ apart. (
     let now : get_or (set old at is) own d ≡ get_or old own d = get_or-set_other old at own is d apart in
