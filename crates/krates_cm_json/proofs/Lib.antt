@@ -1,3 +1,5 @@
+pub mod ByItemLemmas
+pub mod ByItemTables
 pub mod DocumentAgain
 pub mod EntryLemmas
 pub mod ExactFaults

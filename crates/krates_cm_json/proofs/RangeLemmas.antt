@@ -28,7 +28,7 @@ is_some-of_members json.no_members before others = refl
 is_some-of_members (json.member k j ms) before others =
     after (of_json j) (λ d. of_members ms (put k d before)) (λ d. of_members ms (put k d others)) (λ d. is_some-of_members ms (put k d before) (put k d others))
 
-member_in_range : (k : List ℕ) (j : Json) (ms : json.Members) → AreMembersInRange (json.member k j ms) ↔ (IsInRange j × AreMembersInRange ms)
+pub member_in_range : (k : List ℕ) (j : Json) (ms : json.Members) → AreMembersInRange (json.member k j ms) ↔ (IsInRange j × AreMembersInRange ms)
 member_in_range k j ms =
     both (of_json j) (λ d. of_members ms (put k d serde.no_members)) (is_some (of_members ms serde.no_members)) (λ d. is_some-of_members ms (put k d serde.no_members) serde.no_members)
 

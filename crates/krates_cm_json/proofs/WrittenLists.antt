@@ -1,11 +1,10 @@
 -- A list that is written item by item.
-use Rattle.std.proofs.Common.{◌≡◌, ℕ, ◌+◌, ◌<◌, ◌≤◌, List, [], ◌∷◌, ◌++◌, length, get_or, take, map, String, Global, string_bytes, refl, sym, ap, ◌∙◌, subst}
+use Rattle.std.proofs.Common.{◌≡◌, ℕ, ◌+◌, ◌<◌, ◌≤◌, List, [], ◌∷◌, ◌++◌, length, get_or, take, map, String, Global, string_bytes, sym, ap, ◌∙◌, subst}
 use Rattle.std.proofs.lemmas.List.{map-append, take_more, take_all}
-use Rattle.serde_json.specs.Data.{Data, Members}
+use Rattle.serde_json.specs.Data.{Data}
 use Rattle.serde_json.specs.View.{view, items_view, members_view}
 use Rattle.serde_json.proofs.Views.{Entry}
 use Rattle.serde_json.specs.declared.value.Value.{Value}
-use Rattle.krates_cm.specs.Document.{Text}
 use Rattle.krates_cm_json.specs.Objects.{EachWritten, EntriesWritten}
 use Rattle.krates_cm_json.proofs.MapReading.{entry_seen}
 

@@ -1,3 +1,4 @@
+pub mod ByItem
 pub mod Entries
 pub mod Faults
 pub mod Fields

@@ -6,7 +6,7 @@ ghost use Rattle.krates_cm_json.specs.Parsing.{IsDocument, IsNoDocument, IsRefus
 ghost use Rattle.krates_cm_json.specs.Tables.{metadata};
 
 use crate::read::from_value::FromValue;
-use crate::{JsonRef, Parsed};
+use crate::{JsonRef, Parsed, by_item};
 use json::Scratch;
 use krates_cm::{Error, Metadata, ReadError};
 use serde_json::Value;
@@ -51,6 +51,9 @@ pub fn parse(alloc: Global, text: &str) -> Result<Metadata, Error>
     ensures document { IfOk result (λ m. IsDocument text.now (metadata_view m)) }
     ensures refused { IfErr result (IsRefusal text.now) }
 {
+    if let Some(metadata) = by_item::document(alloc, text) {
+        return Ok(metadata);
+    }
     if let Some(metadata) = parse_in_place(alloc, text)? {
         return Ok(metadata);
     }

@@ -3,6 +3,7 @@
 #![tactic(auto)]
 
 pub mod borrowed;
+mod by_item;
 pub mod document;
 pub mod json_ref;
 pub mod laws;
