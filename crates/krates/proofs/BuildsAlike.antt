@@ -29,7 +29,6 @@ use Rattle.krates_drawing.proofs.DivisionLemmas.{ReadsOnce}
 use Rattle.krates.proofs.ListedAlike.{same_there, list_alike}
 use Rattle.krates_rules.proofs.Members.{Member}
 use Rattle.krates.proofs.SeenLemmas.{resolvable_seen}
-use Rattle.krates.proofs.SelectionFacts.{Selects, derived_of, none_lost}
 
 -- ---- the names that an index is asked for
 
@@ -77,31 +76,19 @@ names_same m n w names =
 pub outline_for_there : IsOutlineThere → (p q : MetadataModel) (s : SettingModel) (t : Outline) → Reorders p q → IsResolvable q → IsOutlineFor p s t → IsOutlineFor q s t
 outline_for_there law p q s t w r h =
     let a = r.admitted in
-    let there = law p q w h.graph a.graph h.has_graph a.has_graph a.none_doubled s h.holds.selection h.holds.selected t h.holds.is_outline in
-    record { graph = a.graph; has_graph = a.has_graph; holds = record { selection = h.holds.selection; selected = there.0; is_outline = there.1 } }
+    record { graph = a.graph; has_graph = a.has_graph; holds = law p q w h.graph a.graph h.has_graph a.has_graph a.none_doubled s t h.holds }
 
 -- and both are drawn the same
 drawn_same : IsDrawnAlike → (p q : MetadataModel) (s : SettingModel) (t v : Outline) → Reorders p q → IsResolvable q → IsOutlineFor p s t → IsOutlineFor q s v → DrawAlike t v
 drawn_same law p q s t v w r h k =
     let a = r.admitted in
     let none : NoneDoubled q k.graph = subst (NoneDoubled q) (same_Some a.graph k.graph (sym a.has_graph ∙ k.has_graph)) a.none_doubled in
-    law p q w h.graph k.graph h.has_graph k.has_graph none s h.holds.selection k.holds.selection h.holds.selected k.holds.selected t v h.holds.is_outline k.holds.is_outline
+    law p q w h.graph k.graph h.has_graph k.has_graph none s t v h.holds k.holds
 
 too_many_there : IsOutlineThere → (p q : MetadataModel) (s : SettingModel) → Reorders p q → IsResolvable q → GraphRefusal p s errors.TooMany → GraphRefusal q s errors.TooMany
 too_many_there law p q s w r h =
     let there = outline_for_there law p q s h.holds.outline w r (record { graph = h.graph; has_graph = h.has_graph; holds = h.holds.is_outline }) in
-    let sel : Selects q s there.holds.selection = record { graph = there.graph; has_graph = there.has_graph; holds = there.holds.selected } in
-    record {
-      graph = there.graph;
-      has_graph = there.has_graph;
-      holds = record {
-        none_lost = λ c d. none_lost q s there.holds.selection sel c (derived_of q s there.graph (Lost c) there.has_graph d);
-        some = there.holds.selected.some;
-        outline = h.holds.outline;
-        is_outline = there.holds;
-        many = h.holds.many;
-      };
-    }
+    record { graph = there.graph; has_graph = there.has_graph; holds = record { outline = h.holds.outline; is_outline = there.holds; many = h.holds.many } }
 
 unbuilt_there : IsOutlineThere → (p q : MetadataModel) (s : SettingModel) → ResolveAlike p q → Reorders p q → IsResolvable q → (e : Error) → GraphRefusal p s e → GraphRefusal q s e
 unbuilt_there law p q s w moved r (errors.Lost what) h = (w.unselected s (errors.Lost what)).0 h

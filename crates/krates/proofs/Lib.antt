@@ -16,5 +16,5 @@ pub mod NamesIn
 pub mod NarrowedAlike
 pub mod NarrowedBuilds
 pub mod Numbered
+pub mod OutlineFacts
 pub mod SeenLemmas
-pub mod SelectionFacts

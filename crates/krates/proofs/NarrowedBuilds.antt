@@ -7,7 +7,7 @@ use Rattle.krates_cm.specs.declared.metadata.Metadata.{Metadata}
 use Rattle.krates_cm.specs.declared.package.Package.{Package}
 use Rattle.krates_drawing.specs.Drawing.{planned_edges, planned_nodes}
 use Rattle.krates_drawing.specs.Narrower.{DrawsNoMore, NarrowerDrawsNoMore}
-use Rattle.krates_drawing.specs.Outline.{Outline}
+use Rattle.krates_drawing.specs.Outline.{IsOutline, Outline}
 use Rattle.krates_ids.specs.Identity.{Identity, Reads}
 use Rattle.krates_ids.specs.declared.error.Error.{Error}
 use Rattle.krates_ids.specs.declared.error.Error.TheVariants as errors
@@ -20,10 +20,10 @@ use Rattle.krates_rules.specs.Setting.{SettingModel}
 use Rattle.krates.specs.Build.{IsResolvable, IsDerived, KeepsCrate, GraphRefusal, IsRefusedSeeing}
 use Rattle.krates_drawing.specs.Listed.{AreThosePackages}
 use Rattle.krates.specs.BuildLaws.{Succeeds}
-use Rattle.krates_queries.specs.Drawn.{CanBeNumbered, HasOutline, IsOutlineFor}
+use Rattle.krates_queries.specs.Drawn.{CanBeNumbered, IsOutlineFor}
 use Rattle.krates_drawing.proofs.DivisionLemmas.{ReadsOnce}
 use Rattle.krates_rules.proofs.Members.{Member, member_of}
-use Rattle.krates.proofs.SelectionFacts.{derived_of}
+use Rattle.krates.proofs.OutlineFacts.{derived_of}
 
 -- ---- an admitted document has no other refusal
 
@@ -83,9 +83,9 @@ outlines_part law p wide narrow step r t v a b =
     let g = r.admitted.graph in
     let here : a.graph ≡ g = cc (a.has_graph, r.admitted.has_graph) in
     let there : b.graph ≡ g = cc (b.has_graph, r.admitted.has_graph) in
-    let first = subst (λ z. HasOutline (resolved p z) narrow t) here a.holds in
-    let second = subst (λ z. HasOutline (resolved p z) wide v) there b.holds in
-    law (resolved p g) r.admitted.none_doubled wide narrow step first.selection second.selection first.selected second.selected t v first.is_outline second.is_outline
+    let first = subst (λ z. IsOutline (resolved p z) narrow t) here a.holds in
+    let second = subst (λ z. IsOutline (resolved p z) wide v) there b.holds in
+    law (resolved p g) r.admitted.none_doubled wide narrow step t v first second
 
 too_few : (n k : ℕ) → n ≤ k → k < 2 ^ 32 → 2 ^ 32 ≤ n → ⊥
 too_few n k le lt many = absurd (omega (arith, le, lt, many))

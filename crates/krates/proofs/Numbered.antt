@@ -31,7 +31,6 @@ use Rattle.krates.proofs.DrawnLemmas.{counted, graph_nodes}
 use Rattle.krates.proofs.BuildLemmas.{Builds}
 use Rattle.krates_rules.proofs.OrderedIds.{Compares}
 use Rattle.krates.proofs.MadeLemmas.{count_of}
-use Rattle.krates.proofs.SelectionFacts.{derived_of, none_lost}
 
 -- the limits of numbers
 abbrev pub numbers : Limits
@@ -40,28 +39,8 @@ numbers = record { nodes = 2 ^ 32 - 1; edges = 2 ^ 32 - 1 }
 -- ---- beyond them
 
 too_many : (m : MetadataModel) (s : SettingModel) (t : Outline) → IsOutlineFor m s t → IsBeyond numbers t → GraphRefusal m s errors.TooMany
-too_many m s t h (inl nodes) = record {
-  graph = h.graph;
-  has_graph = h.has_graph;
-  holds = record {
-    none_lost = λ c d. none_lost m s h.holds.selection (record { graph = h.graph; has_graph = h.has_graph; holds = h.holds.selected }) c (derived_of m s h.graph (Lost c) h.has_graph d);
-    some = h.holds.selected.some;
-    outline = t;
-    is_outline = h.holds;
-    many = inl (omega (arith, nodes));
-  };
-}
-too_many m s t h (inr edges) = record {
-  graph = h.graph;
-  has_graph = h.has_graph;
-  holds = record {
-    none_lost = λ c d. none_lost m s h.holds.selection (record { graph = h.graph; has_graph = h.has_graph; holds = h.holds.selected }) c (derived_of m s h.graph (Lost c) h.has_graph d);
-    some = h.holds.selected.some;
-    outline = t;
-    is_outline = h.holds;
-    many = inr (omega (arith, edges));
-  };
-}
+too_many m s t h (inl nodes) = record { graph = h.graph; has_graph = h.has_graph; holds = record { outline = t; is_outline = h.holds; many = inl (omega (arith, nodes)) } }
+too_many m s t h (inr edges) = record { graph = h.graph; has_graph = h.has_graph; holds = record { outline = t; is_outline = h.holds; many = inr (omega (arith, edges)) } }
 
 pub undrawn : (m : MetadataModel) (s : SettingModel) (t : Outline) → IsOutlineFor m s t → (e : Error) → DrawingRefusal numbers t e → GraphRefusal m s e
 undrawn m s t h errors.NoResolveGraph d = absurd d

@@ -9,7 +9,8 @@ use Rattle.krates_cm.specs.declared.metadata.Metadata.{Metadata}
 use Rattle.krates_cm.specs.declared.package.Package.{Package}
 use Rattle.krates_drawing.specs.Agreement.{DependsOn, OneEach}
 use Rattle.krates_drawing.specs.Drawing.{planned_edges, planned_nodes}
-use Rattle.krates_drawing.specs.Outline.{Outline}
+use Rattle.krates_drawing.specs.Outline.{IsOutline, Outline}
+use Rattle.krates_drawing.specs.WorkOfOutline.{work_of}
 use Rattle.krates_drawing.specs.declared.edge.Edge.{Edge}
 use Rattle.krates_ids.specs.Identity.{Identity}
 use Rattle.krates_ids.specs.declared.error.Error.{Error}
@@ -23,13 +24,11 @@ use Rattle.krates_rules.specs.Resolved.{HasGraphWith, IsMember, Resolved, Stands
 use Rattle.krates_rules.specs.Rules.{Questions}
 use Rattle.krates_rules.specs.SelectionRefusals.{SelectionRefusal}
 use Rattle.krates_rules.specs.Setting.{SettingModel}
-use Rattle.krates_selection.specs.Selection.{IsSelectionOf}
-use Rattle.krates_selection.specs.declared.selection.Selection.{Selection}
 use Rattle.krates.specs.Indexed.{Answering, Sees}
 use Rattle.krates_drawing.specs.Listed.{AreThosePackages}
 use Rattle.krates_queries.specs.DirectDependents.{IsDependent}
 use Rattle.krates_queries.specs.KeptSteps.{IsExplainedBy, steps_of}
-use Rattle.krates_queries.specs.Drawn.{HasOutline, IsDrawn, IsNumbered, planned_node}
+use Rattle.krates_queries.specs.Drawn.{IsDrawn, IsNumbered, planned_node}
 use Rattle.krates_queries.specs.Kept.{KeptCrates, HasEnabled, ids_of, values_of}
 
 -- ---- the document
@@ -121,20 +120,18 @@ pub record IsBuilt {F N E : Type 0} (filters : F → Package → F → Type 0) (
   -- each node and each edge has a number, and the graph's limits are the numbers that there are
   pub numbered : IsNumbered k.graph
   pub root : k.workspace_root ≡ text_view m.workspace_root
-  -- the work is that of the document's selection, in which each crate, each feature and each reference is counted once
-  pub work : (x : Selection) × IsSelectionOf (metadata_view m) s x × (k.work ≡ x.work)
+  -- each kept crate, each enabled feature and each of its references was counted
+  pub work : k.work ≡ work_of drawn.outline
   pub reported : IsReported filters m s before after
   -- the kept steps follow, and have exactly the derivable facts
   pub explained : IsExplainedBy (metadata_view m) s (steps_of k)
 
 -- ---- refusals
 
--- nothing is lost and some crate is kept, and more nodes or more edges are drawn than can be numbered
+-- More nodes or more edges are drawn than can be numbered. Since there is an outline, nothing is lost and some crate is kept.
 pub record HasTooMany (r : Resolved) (s : SettingModel) : Type 0 where
-  pub none_lost : (c : Cause) → Derivable (questions r s) (Lost c) → ⊥
-  pub some : (i : Id) × Derivable (questions r s) (Crate i)
   pub outline : Outline
-  pub is_outline : HasOutline r s outline
+  pub is_outline : IsOutline r s outline
   pub many : (2 ^ 32 ≤ length (planned_nodes outline)) ⊎ (2 ^ 32 ≤ length (planned_edges outline))
 
 -- why nothing is built of a document that can be resolved; memory may always run out
