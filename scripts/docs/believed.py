@@ -21,7 +21,7 @@ What has to be read, to know what is proved, are the contract and the {count} de
 - {meaning} lines say what a document, its ids, its references and a setting mean, and what is kept, reported and refused. The mark
   that this page keeps to is 900; what is more came with a caller's own types, whose values are made of the kept packages.
 - {drawn} lines are beyond that mark, since the headline speaks of the drawn graph too: which nodes, mappings and edges there are, by
-  number, over a selection whose work is counted and whose steps are kept.
+  number, how much work it was, and by which steps all of it is kept.
 - {fields} lines are beyond it, and say nothing new: they list the fields of a document, of what an index answers, of a setting and of
   a document's ids, as clauses see them. Every other definition names such fields, so they stand here too.
 

@@ -8,11 +8,9 @@ use Rattle.krates_ids.specs.Identity.{Identity, Reads}
 use Rattle.krates_rules.specs.Admission.{IsAdmitted, package_texts, doubled_package, IdsModel}
 use Rattle.krates_document.proofs.AdmissionLemmas.{twice_texts}
 use Rattle.krates_rules.specs.DistinctIds.{AreDistinct}
-use Rattle.krates_rules.specs.Facts.{Id, Cause, Fact, Feature}
+use Rattle.krates_rules.specs.Facts.{Id, Cause, Feature}
 use Rattle.krates_rules.specs.Questions.{Stands, questions}
 use Rattle.krates_rules.specs.Resolved.{ReadsAs, resolved, id_of}
-use Rattle.krates_selection.specs.Selection.{feature_fact}
-use Rattle.krates_selection.specs.declared.selection.Selection.{Selection}
 use Rattle.krates_rules.specs.Setting.{SettingModel}
 use Rattle.krates.specs.Build.{KeepsCrate, DropsCrate, IsLost, IsDerived}
 use Rattle.krates_drawing.specs.Listed.{AreThosePackages}
@@ -21,7 +19,11 @@ use Rattle.krates_drawing.specs.Krate.{krate_ids, krate_packages}
 use Rattle.krates_drawing.specs.declared.division.Division.{Division}
 use Rattle.krates_drawing.proofs.DivisionLemmas.{ReadsOnce}
 use Rattle.krates_rules.proofs.Members.{Member, member_of, contains_of, mapped_of, member_map}
-use Rattle.krates.proofs.SelectionFacts.{Selects, kept_among, enabled_among, none_lost}
+use Rattle.krates_drawing.specs.Outline.{Outline}
+use Rattle.krates_queries.specs.Drawn.{IsOutlineFor}
+use Rattle.krates.specs.KeptGraph.{named_fact}
+use Rattle.krates_drawing.proofs.Derivations.{crate_of_feature}
+use Rattle.krates.proofs.OutlineFacts.{enabled_among, kept_among, none_lost, outlined_ids, some_kept}
 use Rattle.krates_questions.proofs.StandingLaws.{derivable_stands}
 
 -- ---- an admitted document
@@ -113,33 +115,28 @@ pub record Builds (m : Metadata) (s : SettingModel) (d : Division) : Type 0 wher
 not_iff : (P Q : Type 0) → P ↔ Q → (P → ⊥) ↔ (Q → ⊥)
 not_iff P Q h = (λ n q. n (h.1 q), λ n p. n (h.0 p))
 
-among_same : (is js : List Identity) → map id_of is ≡ map id_of js → (i : Id) → IsAmong is i ↔ IsAmong js i
-among_same is js e i = (λ h. subst (λ ids. Contains ids i) e h, λ h. subst (λ ids. Contains ids i) (sym e) h)
-
-both_iff : (P Q R : Type 0) → P ↔ Q → R ↔ Q → P ↔ R
-both_iff P Q R a b = (λ p. b.1 (a.0 p), λ r. a.1 (b.0 r))
-
-pub builds : ReadsOnce → (m : Metadata) (s : SettingModel) (x : Selection) (selected : List Identity) (d : Division) → map id_of selected ≡ map id_of x.krates.items → Selects (metadata_view m) s x
+pub builds : ReadsOnce → (m : Metadata) (s : SettingModel) (t : Outline) (selected : List Identity) (d : Division) → map id_of selected ≡ outlined_ids t → IsOutlineFor (metadata_view m) s t
     → IsDivision m.packages.items selected d → Builds m s d
-builds once m s x selected d those sel div =
+builds once m s t selected d those h div =
     let iff : (i : Id) → IsAmong selected i ↔ KeepsCrate (metadata_view m) s i = λ i.
-    both_iff _ _ _ (among_same selected x.krates.items those i) (kept_among (metadata_view m) s x sel i) in
+    subst (λ (ids : List Id). Contains ids i ↔ KeepsCrate (metadata_view m) s i) (sym those) ((kept_among (metadata_view m) s t h i).1, (kept_among (metadata_view m) s t h i).0) in
     let packages = those_same m.packages.items (IsAmong selected) (KeepsCrate (metadata_view m) s) (krate_ids d.kept.items) (krate_packages d.kept.items) iff div.kept in
     record {
       kept = exactly_those once m.packages.items (KeepsCrate (metadata_view m) s) (krate_ids d.kept.items) (krate_packages d.kept.items) packages (has_package m s);
-      some = (sel.holds.some.0, record { graph = sel.graph; has_graph = sel.has_graph; holds = sel.holds.some.1 });
-      none_lost = none_lost (metadata_view m) s x sel;
+      some = some_kept (metadata_view m) s t h;
+      none_lost = none_lost (metadata_view m) s t h;
       packages = packages;
       others = those_same m.packages.items (λ i. IsAmong selected i → ⊥) (DropsCrate (metadata_view m) s) (krate_ids d.others.items) (krate_packages d.others.items) (λ i. not_iff _ _ (iff i)) div.others;
     }
 
--- the features of the selection are the enabled ones
-pub enabled : (m : Metadata) (s : SettingModel) (x : Selection) (d : Division) (P : Id → Text → Type 0) (facts : List Fact) → Selects (metadata_view m) s x → Builds m s d
-    → map (feature_fact x.krates.items) x.features.items ≡ facts → ((i : Id) (f : Text) → P i f ↔ (IsAmong (krate_ids d.kept.items) i × Contains facts (Feature i f)))
+-- the features of the outline are the enabled ones
+pub enabled : (m : Metadata) (s : SettingModel) (t : Outline) (d : Division) (P : Id → Text → Type 0) → IsOutlineFor (metadata_view m) s t → Builds m s d
+    → ((i : Id) (f : Text) → P i f ↔ (IsAmong (krate_ids d.kept.items) i × Contains (map named_fact t.features) (Feature i f)))
     → (i : Id) (f : Text) → IsDerived (metadata_view m) s (Feature i f) ↔ P i f
-enabled m s x d P facts sel b same so i f =
-    let told = enabled_among (metadata_view m) s x sel i f in
-    let fact : Fact = Feature i f in (
-      λ h. (let both = told.0 h in (so i f).1 ((b.kept i).0 both.0, subst (λ fs. Contains fs fact) same both.1)),
-      λ h. (let both = (so i f).0 h in told.1 ((b.kept i).1 both.0, subst (λ fs. Contains fs fact) (sym same) both.1)),
+enabled m s t d P h b so i f =
+    let told = enabled_among (metadata_view m) s t h i f in (
+      λ x.
+          (let krate : KeepsCrate (metadata_view m) s i = record { graph = x.graph; has_graph = x.has_graph; holds = crate_of_feature (questions (resolved (metadata_view m) x.graph) s) i f x.holds } in
+          (so i f).1 ((b.kept i).0 krate, told.0 x)),
+      λ p. told.1 ((so i f).0 p).1,
     )

@@ -75,14 +75,13 @@ names_same m n w names =
 -- an outline for the first document is one for the second, if no id is doubled in that
 pub outline_for_there : IsOutlineThere → (p q : MetadataModel) (s : SettingModel) (t : Outline) → Reorders p q → IsResolvable q → IsOutlineFor p s t → IsOutlineFor q s t
 outline_for_there law p q s t w r h =
-    let there = law p q w h.graph r.graph h.has_graph r.has_graph r.none_doubled s h.holds.selection h.holds.selected t h.holds.is_outline in
-    record { graph = r.graph; has_graph = r.has_graph; holds = record { selection = h.holds.selection; selected = there.0; is_outline = there.1 } }
+    record { graph = r.graph; has_graph = r.has_graph; holds = law p q w h.graph r.graph h.has_graph r.has_graph r.none_doubled s t h.holds }
 
 -- and both are drawn the same
 drawn_same : IsDrawnAlike → (p q : MetadataModel) (s : SettingModel) (t v : Outline) → Reorders p q → IsResolvable q → IsOutlineFor p s t → IsOutlineFor q s v → DrawAlike t v
 drawn_same law p q s t v w r h k =
     let none : NoneDoubled q k.graph = subst (NoneDoubled q) (same_Some r.graph k.graph (sym r.has_graph ∙ k.has_graph)) r.none_doubled in
-    law p q w h.graph k.graph h.has_graph k.has_graph none s h.holds.selection k.holds.selection h.holds.selected k.holds.selected t v h.holds.is_outline k.holds.is_outline
+    law p q w h.graph k.graph h.has_graph k.has_graph none s t v h.holds k.holds
 
 too_many_there : IsOutlineThere → (p q : MetadataModel) (s : SettingModel) → Reorders p q → IsResolvable q → GraphRefusal p s errors.TooMany → GraphRefusal q s errors.TooMany
 too_many_there law p q s w r h = record { outline = h.outline; is_outline = outline_for_there law p q s h.outline w r h.is_outline; many = h.many }

@@ -43,7 +43,7 @@ value_there (Some (Feature krate_index name)) id m e = absurd cc
 pub connects : {N E : Type 0} (made : Edge → E → Type 0) (m : MetadataModel) (s : SettingModel) (t : Outline) (g : StoredGraph (Node N) E) → drawn.AreConnected → IsOutlineFor m s t → IsDrawing made t g → length g.nodes < 2 ^ 32
     → AreConnected g.nodes g.edges
 connects made m s t g law h d few =
-    let c = law (resolved m h.graph) s h.holds.selection h.holds.selected t h.holds.is_outline in
+    let c = law (resolved m h.graph) s t h.holds in
     record {
       mappings = λ p k w.
           (let led = c.mappings p k (subst (λ ns. DependsOn ns p k) d.nodes w) in
@@ -80,7 +80,7 @@ pub agrees : {N E : Type 0} (made : Edge → E → Type 0) (m : MetadataModel) (
     → DependsOn (map planned_node g.nodes) p d ↔ IsDependent g.nodes g.edges d p
 agrees made m s t g ids law agree a h z first i o p d at lt =
     let r = resolved m h.graph in
-    let c = law r s h.holds.selection h.holds.selected t h.holds.is_outline in
+    let c = law r s t h.holds in
     let one : OneEach r s i = subst (λ x. OneEach (resolved m x) s i) (same_Some o.graph h.graph (sym o.has_graph ∙ h.has_graph)) o.holds in
     let none : NoneDoubled m h.graph = subst (NoneDoubled m) (same_Some a.graph h.graph (sym a.has_graph ∙ h.has_graph)) a.none_doubled in
     let here = planned_crate_at g.nodes p at.there first at.at in
@@ -88,7 +88,7 @@ agrees made m s t g ids law agree a h z first i o p d at lt =
     let other = got (crate_ids g.nodes) d lt in
     let there = planned_crate_at g.nodes d other.0 first other.1 in
     let to = c.crates d (id_of other.0) there.mapping (ap (λ ns. slice_get ns d) (sym z.nodes) ∙ there.at) in
-    let both = agree r s none h.holds.selection h.holds.selected t h.holds.is_outline (id_of at.there) (id_of other.0) from.kept to.kept (subst (OneEach r s) (sym at.same) one) in
+    let both = agree r s none t h.holds (id_of at.there) (id_of other.0) from.kept to.kept (subst (OneEach r s) (sym at.same) one) in
     let numbered : DependsOn (planned_nodes t) p d ↔ LeadsTo (planned_nodes t) (planned_edges t) p d =
     subst (λ n. DependsOn (planned_nodes t) p n ↔ LeadsTo (planned_nodes t) (planned_edges t) p n) to.number
     (subst (λ n. DependsOn (planned_nodes t) n (crate_number t (id_of other.0)) ↔ LeadsTo (planned_nodes t) (planned_edges t) n (crate_number t (id_of other.0))) from.number both) in

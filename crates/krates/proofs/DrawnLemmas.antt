@@ -1,5 +1,5 @@
 -- The graph of what is kept, assembled.
-use Rattle.std.proofs.Common.{◌≡◌, ◌↔◌, ◌∙◌, ℕ, Bool, ◌<◌, ◌^◌, List, [], ◌∷◌, All, Contains, Result, Ok, Err, IfOk, get_or, length, map, refl, sym, ap, subst}
+use Rattle.std.proofs.Common.{◌≡◌, ◌↔◌, ◌∙◌, ℕ, ◌<◌, ◌^◌, List, [], ◌∷◌, All, Contains, Result, Ok, Err, IfOk, get_or, length, map, refl, sym, ap, subst}
 use Rattle.std.proofs.lemmas.List.{length-map}
 use Rattle.std.proofs.lemmas.Option.{slice_get_within}
 use Rattle.std.specs.BTreeSet.{BTreeSet}
@@ -14,7 +14,9 @@ use Rattle.krates_drawing.specs.Agreement.{DependsOn}
 use Rattle.krates_drawing.specs.Drawing.{PlannedEdge, planned_edges, planned_nodes}
 use Rattle.krates_drawing.specs.Ends.{EndsStand, HasEnds}
 use Rattle.krates_drawing.specs.Outline as model
-use Rattle.krates_drawing.specs.Outline.{IsCrateRow, IsFeatureRow, IsOutline}
+use Rattle.krates_drawing.specs.Outline.{IsOutline}
+use Rattle.krates_drawing.specs.WorkOfOutline.{work_of}
+use Rattle.krates_selection.specs.declared.work.Work.{Work}
 use Rattle.krates_drawing.specs.Stored.{IsStoredAs}
 use Rattle.krates_drawing.specs.Views.{crate_row_view, feature_row_view, outline_view}
 use Rattle.krates_drawing.specs.declared.edge.Edge.{Edge}
@@ -26,7 +28,6 @@ use Rattle.krates_ids.specs.Identity.{Identity, id_cmp}
 use Rattle.krates_selection.specs.CrateNumbers.{id_at, no_id}
 use Rattle.krates_selection.specs.Selection.{feature_fact}
 use Rattle.krates_selection.specs.declared.selection.EnabledFeature.{EnabledFeature}
-use Rattle.krates_selection.specs.declared.selection.Selection.{Selection}
 use Rattle.krates_rules.specs.Facts.{Id, Feature}
 use Rattle.krates_rules.specs.Resolved.{HasGraphWith, Resolved, StandsAt, id_of, resolved}
 use Rattle.krates_rules.specs.Setting.{SettingModel}
@@ -49,30 +50,17 @@ use Rattle.krates_drawing.specs.declared.krate.Krate.{Krate}
 use Rattle.krates_drawing.specs.declared.node.Node.{Node}
 use Rattle.krates.proofs.BuildLemmas.{Builds, builds, enabled}
 use Rattle.krates.proofs.MadeLemmas.{AreDrawnNodes, alike, first_alike, mapped_length}
-use Rattle.krates_drawing.proofs.DocumentOutlines.{selected_in}
 use Rattle.krates_rules.proofs.Members.{Member, member_of, contains_of, mapped_of, member_map}
 use Rattle.krates.proofs.EnabledLemmas.{listed_at}
 use Rattle.krates.proofs.FeaturesDrawn.{are_features, id_here, stands_here, viewed_ids}
 use Rattle.krates_drawing.proofs.DivisionLemmas.{ReadsOnce}
 use Rattle.krates_rules.proofs.OrderedIds.{Compares, HasLike, one_order}
-use Rattle.krates.proofs.SelectionFacts.{Selects, kept_among}
+use Rattle.krates.proofs.OutlineFacts.{kept_among}
 
 -- ---- the outline
 
-pub outline_told : (m : MetadataModel) (s : SettingModel) (x : Selection) (r : Resolved) (t : model.Outline) → Selects m s x → HasGraphWith m (λ g. r ≡ resolved m g)
-    → IsOutline r s x t → IsOutlineFor m s t
-outline_told m s x r t sel h is = record {
-  graph = h.graph;
-  has_graph = h.has_graph;
-  holds = record { selection = x; selected = rw (← h.holds) (selected_in m s x r sel h); is_outline = rw (← h.holds) is };
-}
-
--- the ids of the outline are those of the selection
-ids_same : (r : Resolved) (is : List Identity) (ks : List model.CrateRow) → AllZip (IsCrateRow r) is ks → map id_of is ≡ map (λ (k : model.CrateRow). k.id) ks
-ids_same r [] [] h = refl
-ids_same r [] (k ∷ ks) h = absurd h
-ids_same r (i ∷ is) [] h = absurd h
-ids_same r (i ∷ is) (k ∷ ks) h = ap (λ js. id_of i ∷ js) (ids_same r is ks h.1) ∙ ap (λ j. j ∷ map (λ (x : model.CrateRow). x.id) ks) (sym h.0.id)
+pub outline_told : (m : MetadataModel) (s : SettingModel) (r : Resolved) (t : model.Outline) → HasGraphWith m (λ g. r ≡ resolved m g) → IsOutline r s t → IsOutlineFor m s t
+outline_told m s r t h is = record { graph = h.graph; has_graph = h.has_graph; holds = rw (← h.holds) is }
 
 -- ---- the features of the outline
 
@@ -81,18 +69,6 @@ pub facts_in : (ids kids : List Identity) (ns : List FeatureRow) → map id_of i
 facts_in ids kids [] e = refl
 facts_in ids kids (n ∷ ns) e =
     ap (λ fs. feature_fact ids n.feature ∷ fs) (facts_in ids kids ns e) ∙ ap (λ (is : List Id). Feature (get_or is n.feature.krate no_id) (text_view n.feature.name) ∷ map named_fact (map (feature_row_view kids) ns)) e
-
-facts_same : (r : Resolved) (all : Bool) (kids : List Identity) (fs : List EnabledFeature) (ns : List model.FeatureRow) → AllZip (IsFeatureRow r all kids) fs ns → map (feature_fact kids) fs ≡ map named_fact ns
-facts_same r all kids [] [] h = refl
-facts_same r all kids [] (n ∷ ns) h = absurd h
-facts_same r all kids (f ∷ fs) [] h = absurd h
-facts_same r all kids (f ∷ fs) (n ∷ ns) h =
-    ap (λ gs. feature_fact kids f ∷ gs) (facts_same r all kids fs ns h.1) ∙ ap (λ i. Feature i (text_view f.name) ∷ map named_fact ns) (sym h.0.krate) ∙ ap (λ t. Feature n.krate t ∷ map named_fact ns) (sym h.0.name)
-
--- the features of the selection are those of the outline
-pub facts_named : (m : MetadataModel) (s : SettingModel) (t : Outline) → (h : IsOutlineFor m s (outline_view t))
-    → map (feature_fact h.holds.selection.krates.items) h.holds.selection.features.items ≡ map named_fact (outline_view t).features
-facts_named m s t h = facts_same (resolved m h.graph) s.all_named h.holds.selection.krates.items h.holds.selection.features.items (outline_view t).features h.holds.is_outline.features
 
 -- the crates of an outline are as many as those with the same ids
 pub as_many_crates : (krates : List Krate) (ks : List CrateRow) → map id_of (krate_ids krates) ≡ map (λ (k : model.CrateRow). k.id) (map crate_row_view ks) → length ks ≡ length krates
@@ -170,34 +146,26 @@ stand_there n m ls ks h e f = subst (λ xs. All (HasEnds m) xs) f (subst (λ x. 
 
 -- ---- the parts of a build
 
--- the ids of the outline are those of the selection
-selected_ids : (m : MetadataModel) (s : SettingModel) (t : Outline) → (h : IsOutlineFor m s (outline_view t)) → map id_of (outline_ids t.krates.items) ≡ map id_of h.holds.selection.krates.items
-selected_ids m s t h = viewed_ids t.krates.items ∙ sym (ids_same (resolved m h.graph) h.holds.selection.krates.items (map crate_row_view t.krates.items) h.holds.is_outline.krates)
-
-selects : (m : MetadataModel) (s : SettingModel) (t : model.Outline) → (h : IsOutlineFor m s t) → Selects m s h.holds.selection
-selects m s t h = record { graph = h.graph; has_graph = h.has_graph; holds = h.holds.selected }
-
 -- dividing by an outline gives what has to be kept and the rest
 pub builds_outline : ReadsOnce → (m : Metadata) (s : SettingModel) (t : Outline) (d : Division) → IsOutlineFor (metadata_view m) s (outline_view t)
     → IsDivision m.packages.items (outline_ids t.krates.items) d → Builds m s d
-builds_outline once m s t d h div = builds once m s h.holds.selection (outline_ids t.krates.items) d (selected_ids (metadata_view m) s t h) (selects (metadata_view m) s (outline_view t) h) div
+builds_outline once m s t d h div = builds once m s (outline_view t) (outline_ids t.krates.items) d (viewed_ids t.krates.items) h div
 
 -- the ids of the kept packages are those of the outline, place by place
 pub kept_ids : Compares → (m : Metadata) (s : SettingModel) (t : Outline) (d : Division) → IsOutlineFor (metadata_view m) s (outline_view t) → Builds m s d
     → map id_of (krate_ids d.kept.items) ≡ map (λ (k : model.CrateRow). k.id) (outline_view t).krates
 kept_ids o m s t d h b =
-    let x = h.holds.selection in
     let ids : List Identity = krate_ids d.kept.items in
     let drawn : List Identity = outline_ids t.krates.items in
-    let same = selected_ids (metadata_view m) s t h in
-    let sel = selects (metadata_view m) s (outline_view t) h in
+    let same = viewed_ids t.krates.items in
+    let among = kept_among (metadata_view m) s (outline_view t) h in
     let there : HasLike ids drawn = λ i z.
-    (let k = (kept_among (metadata_view m) s x sel i).0 ((b.kept i).1 (contains_of (map id_of ids) i z)) in
+    (let k = (among i).0 ((b.kept i).1 (contains_of (map id_of ids) i z)) in
     member_of (map id_of drawn) i (subst (λ js. Contains js i) (sym same) k)) in
     let back : HasLike drawn ids = λ i z.
     (let k = subst (λ js. Contains js i) same (contains_of (map id_of drawn) i z) in
-    member_of (map id_of ids) i ((b.kept i).0 ((kept_among (metadata_view m) s x sel i).1 k))) in
-    one_order o.total ids drawn b.packages.ascending t.ordered.krates there back ∙ viewed_ids t.krates.items
+    member_of (map id_of ids) i ((b.kept i).0 ((among i).1 k))) in
+    one_order o.total ids drawn b.packages.ascending t.ordered.krates there back ∙ same
 
 -- the nodes of the graph are sorted
 pub graph_nodes : Compares → {N E : Type 0} (made : Package → N → Type 0) (made_edge : Edge → E → Type 0) (m : Metadata) (s : SettingModel) (t : Outline) (d : Division) (g : StoredGraph (Node N) E)
@@ -211,19 +179,17 @@ graph_nodes o made made_edge m s t d g h b w few numbered =
 
 -- both ends of each edge of an outline are nodes
 pub outline_stands : EndsStand → (m : MetadataModel) (s : SettingModel) (t : model.Outline) → IsOutlineFor m s t → All (HasEnds (length (planned_nodes t))) (planned_edges t)
-outline_stands stand m s t h = stand (resolved m h.graph) s h.holds.selection h.holds.selected t h.holds.is_outline
+outline_stands stand m s t h = stand (resolved m h.graph) s t h.holds
 
 -- all that a build says about what it keeps and reports
 pub is_built : {F N E : Type 0} (filters : F → Package → F → Type 0) (made : Package → N → Type 0) (made_edge : Edge → E → Type 0) (m : Metadata) (s : SettingModel) (t : Outline) (d : Division)
-    (g : StoredGraph (Node N) E) (members : List ℕ) (before after : F) (found : Selection) → IsOutlineFor (metadata_view m) s (outline_view t) → Builds m s d → IsGraphOf made made_edge (outline_view t) d.kept.items g
-    → FoldsTo filters before (krate_packages d.others.items) after → Selects (metadata_view m) s found → IsResolvable (metadata_view m) → IsNumbered g
+    (g : StoredGraph (Node N) E) (members : List ℕ) (before after : F) (work : Work) → IsOutlineFor (metadata_view m) s (outline_view t) → Builds m s d → IsGraphOf made made_edge (outline_view t) d.kept.items g
+    → FoldsTo filters before (krate_packages d.others.items) after → work ≡ work_of (outline_view t) → IsResolvable (metadata_view m) → IsNumbered g
     → AreKeptMembers (metadata_view m) (crate_ids g.nodes) members
     → ((i : Id) → HasOneEach (metadata_view m) s i → (p q : ℕ) → StandsAt (crate_ids g.nodes) i p → q < length (crate_ids g.nodes) → DependsOn (map planned_node g.nodes) p q ↔ IsDependent g.nodes g.edges q p)
     → (steps : List KeptStep) → IsExplainedBy (metadata_view m) s (steps_in (crate_ids g.nodes) steps)
-    → IsBuilt filters made made_edge m s before after (record { graph = g; members = members; workspace_root = text_view m.workspace_root; work = found.work; steps = steps })
-is_built filters made made_edge m s t d g members before after found h b w run selected resolvable numbered listed agree steps explained =
-    let x = h.holds.selection in
-    let facts = facts_same (resolved (metadata_view m) h.graph) s.all_named x.krates.items x.features.items (outline_view t).features h.holds.is_outline.features in
+    → IsBuilt filters made made_edge m s before after (record { graph = g; members = members; workspace_root = text_view m.workspace_root; work = work; steps = steps })
+is_built filters made made_edge m s t d g members before after work h b w run worked resolvable numbered listed agree steps explained =
     record {
       resolvable = resolvable;
       kept = λ i. subst (λ ids. KeepsCrate (metadata_view m) s i ↔ Contains (map id_of ids) i) (sym w.ids) (b.kept i);
@@ -234,13 +200,13 @@ is_built filters made made_edge m s t d g members before after found h b w run s
         those = subst (λ ids. AreThosePackages m.packages.items (KeepsCrate (metadata_view m) s) ids (krate_packages d.kept.items)) (sym w.ids) b.packages;
         made_of = w.values;
       };
-      enabled = enabled m s x d (λ i f. IsEnabledIn (crate_ids g.nodes) (crate_features g.nodes) i f) (map named_fact (outline_view t).features) (selects (metadata_view m) s (outline_view t) h) b facts w.enabled;
+      enabled = enabled m s (outline_view t) d (λ i f. IsEnabledIn (crate_ids g.nodes) (crate_features g.nodes) i f) h b w.enabled;
       drawn = record { outline = outline_view t; is_outline = h; drawing = w.drawing };
       agree = agree;
       numbered = numbered;
       members = listed;
       root = refl;
-      work = (found, selected, refl);
+      work = worked;
       reported = record { ids = krate_ids d.others.items; others = krate_packages d.others.items; not_kept = b.others; run = run };
       explained = explained;
     }

@@ -1,5 +1,5 @@
 -- The steps of a selection explain what a build keeps.
-use Rattle.std.proofs.Common.{◌≡◌, ◌<◌, ℕ, List, [], ◌∷◌, map, length, get_or, Option, Some, option_map, Contains, refl, sym, ap, ◌∙◌, subst, arith}
+use Rattle.std.proofs.Common.{◌≡◌, ◌<◌, ℕ, List, [], ◌∷◌, map, length, get_or, Option, Some, option_map, Contains, inl, inr, refl, sym, ap, ◌∙◌, subst, arith}
 use Rattle.std.proofs.lemmas.List.{length-map}
 use Rattle.std.proofs.lemmas.Option.{get_or_from_slice_get, slice_get-get_or, slice_get-map, slice_get_within}
 use Rattle.std.specs.List.{slice_get}
@@ -7,8 +7,8 @@ use Rattle.std.specs.List.Sorted.{IsStrictlySortedBy}
 use Rattle.krates_cm.specs.Document.{MetadataModel, Text, metadata_view, text_view}
 use Rattle.krates_cm.specs.declared.metadata.Metadata.{Metadata}
 use Rattle.krates_cm.specs.declared.package.Package.{Package}
-use Rattle.krates_rules.proofs.Members.{contains_of, member_of}
-use Rattle.krates_drawing.specs.Views.{outline_view}
+use Rattle.krates_rules.proofs.Members.{Member, contains_of, mapped_of, member_append, member_map, member_of}
+use Rattle.krates_drawing.specs.Views.{kids_in, outline_view}
 use Rattle.krates_drawing.specs.declared.edge.Edge.{Edge}
 use Rattle.krates_drawing.specs.declared.outline.Outline.{Outline}
 use Rattle.krates_selection.proofs.KeptFactLemmas.{same_in}
@@ -21,7 +21,7 @@ use Rattle.krates_selection.specs.declared.kept.KeptStep.{KeptStep}
 use Rattle.krates_graph.specs.Graph.{StoredGraph}
 use Rattle.krates_ids.specs.Identity.{Identity, empty_identity, id_cmp}
 use Rattle.krates_selection.specs.Explained.{IsExplained, IsExplainedOf}
-use Rattle.krates_selection.specs.Selection.{IsSelection}
+use Rattle.krates_selection.specs.Selection.{IsSelection, crate_fact, edge_fact, facts_of, feature_fact, toggled_fact}
 use Rattle.krates_selection.specs.declared.selection.Selection.{Selection}
 use Rattle.krates_rules.proofs.ListsOfSteps.{contained_derived}
 use Rattle.krates_rules.proofs.OnlyOne.{place_in}
@@ -35,17 +35,16 @@ use Rattle.krates_rules.specs.StepParts.{HaveOwnFacts}
 use Rattle.krates_rules.specs.Steps.{EachFollows, StepModel}
 use Rattle.krates_queries.proofs.CrateIds.{crate_id}
 use Rattle.krates.proofs.BuildLemmas.{Builds, enabled}
-use Rattle.krates.proofs.DrawnLemmas.{facts_named}
+use Rattle.krates.proofs.DrawnLemmas.{kept_ids}
 use Rattle.krates.proofs.EnabledLemmas.{stands_at_some}
 use Rattle.krates_queries.proofs.FeatureNodes.{feature_member}
 use Rattle.krates_queries.proofs.NodeLemmas.{as_many_features, place_at}
-use Rattle.krates_rules.proofs.OrderedIds.{Compares, HasLike, one_order}
-use Rattle.krates.proofs.SelectionFacts.{Selects, crate_among, kept_among}
+use Rattle.krates_rules.proofs.OrderedIds.{Compares}
+use Rattle.krates.proofs.FeaturesDrawn.{viewed_ids}
 use Rattle.krates_queries.specs.Drawn.{IsOutlineFor}
 use Rattle.krates_queries.specs.KeptSteps.{AreExplained, AreStepsFor, HasStepOf, IsExplainedBy, node_says}
 use Rattle.krates_queries.specs.Kept.{AreNodes, IsEnabledIn}
-use Rattle.krates.specs.KeptGraph.{IsGraphOf, named_fact}
-use Rattle.krates_drawing.specs.Krate.{krate_ids}
+use Rattle.krates.specs.KeptGraph.{IsGraphOf}
 use Rattle.krates_drawing.specs.Node.{crate_features, crate_ids}
 use Rattle.krates_drawing.specs.declared.division.Division.{Division}
 use Rattle.krates_drawing.specs.declared.node.Node.{Node}
@@ -59,9 +58,29 @@ explained_in m s x r e h =
     let same : e.graph ≡ h.graph = cc (e.has_graph, h.has_graph) in
     rw h.holds (subst (λ g. IsExplained (resolved m g) s x) same e.holds)
 
+-- no fact of these is that a crate is kept
+no_crate : {X : Type 0} (fact : X → Fact) (xs : List X) (i : Id) → ((x : X) → fact x ≡ Crate i → ⊥) → Member (map fact xs) (Crate i) → ⊥
+no_crate fact xs i none m = let w = mapped_of fact xs (Crate i) m in none w.from w.is
+
+-- a crate among a selection's facts is one of its crates
+crate_among : (x : Selection) (i : Id) → Member (facts_of x) (Crate i) → Member (map id_of x.krates.items) i
+crate_among x i m = elim (member_append (map crate_fact x.krates.items) _ (Crate i) m) [
+  | inl here ↦
+      (let w = mapped_of crate_fact x.krates.items (Crate i) here in
+      let same : id_of w.from ≡ i = cc (w.is) in
+      subst (Member (map id_of x.krates.items)) same (member_map id_of x.krates.items w.from w.member))
+  | inr more ↦ elim (member_append (map (edge_fact x.krates.items) x.edges.items) _ (Crate i) more) [
+    | inl edge ↦ absurd (no_crate (edge_fact x.krates.items) x.edges.items i (λ e h. cc h) edge)
+    | inr rest ↦ elim (member_append (map (feature_fact x.krates.items) x.features.items) _ (Crate i) rest) [
+      | inl feature ↦ absurd (no_crate (feature_fact x.krates.items) x.features.items i (λ e h. cc h) feature)
+      | inr toggled ↦ absurd (no_crate (toggled_fact x.krates.items) x.toggled.items i (λ t h. cc h) toggled)
+    ]
+  ]
+]
+
 -- the derivable crates are those of the selection
 pub crates_in : (r : Resolved) (s : SettingModel) (x : Selection) → IsSelection r s x → (i : Id) → Derivable (questions r s) (Crate i) → IsKeptIn x.krates.items i
-crates_in r s x sel i d = stands_at_some x.krates.items i (member_of (map id_of x.krates.items) i (crate_among x i ((sel.facts (Crate i)).0 d)))
+crates_in r s x sel i d = stands_at_some x.krates.items i (crate_among x i (member_of (facts_of x) (Crate i) ((sel.facts (Crate i)).0 d)))
 
 -- a fact of a list of steps belongs to one of the steps
 step_with : (steps : List StepModel) (f : Fact) → Contains (facts_in steps) f → (x : StepModel) × Contains steps x × (x.fact ≡ f)
@@ -70,7 +89,7 @@ step_with steps f c =
     let w = seen_back (λ (x : StepModel). x.fact) steps at.0 f at.1 in
     (w.0, contains_at steps at.0 w.0 w.1, w.2)
 
-pub steps_for : (m : MetadataModel) (s : SettingModel) (x : Selection) (r : Resolved) (steps : List KeptStep) → Selects m s x → IsExplainedOf m s x → HasGraphWith m (λ g. r ≡ resolved m g)
+pub steps_for : (m : MetadataModel) (s : SettingModel) (x : Selection) (r : Resolved) (steps : List KeptStep) → HasGraphWith m (λ g. IsSelection (resolved m g) s x) → IsExplainedOf m s x → HasGraphWith m (λ g. r ≡ resolved m g)
     → AreStepsOf r s x.krates.items x.steps.items steps → AreStepsFor m s x.krates.items steps
 steps_for m s x r steps sel e h a =
     let told = steps_in x.krates.items steps in
@@ -125,24 +144,12 @@ moved m s is js steps e a =
       explained = subst (IsExplainedBy m s) (sym same) a.explained;
     }
 
--- the ids of the kept packages are those of the selection, in the same order
-kept_same : Compares → (m : Metadata) (s : SettingModel) (d : Division) (x : Selection) → Builds m s d → Selects (metadata_view m) s x → map id_of (krate_ids d.kept.items) ≡ map id_of x.krates.items
-kept_same o m s d x b sel =
-    let ids : List Identity = krate_ids d.kept.items in
-    let chosen : List Identity = x.krates.items in
-    let there : HasLike ids chosen = λ i z.
-    (let k = (kept_among (metadata_view m) s x sel i).0 ((b.kept i).1 (contains_of (map id_of ids) i z)) in
-    member_of (map id_of chosen) i k) in
-    let back : HasLike chosen ids = λ i z.
-    member_of (map id_of ids) i ((b.kept i).0 ((kept_among (metadata_view m) s x sel i).1 (contains_of (map id_of chosen) i z))) in
-    one_order o.total ids chosen b.packages.ascending sel.holds.krates there back
-
 -- the steps, for the ids of the graph's crates
-pub kept_steps : Compares → {N E : Type 0} (made : Package → N → Type 0) (made_edge : Edge → E → Type 0) (m : Metadata) (s : SettingModel) (t : Outline) (d : Division) (g : StoredGraph (Node N) E) (x : Selection) (steps : List KeptStep)
-    → Builds m s d → IsGraphOf made made_edge (outline_view t) d.kept.items g → Selects (metadata_view m) s x → AreStepsFor (metadata_view m) s x.krates.items steps → AreStepsFor (metadata_view m) s (crate_ids g.nodes) steps
-kept_steps o made made_edge m s t d g x steps b w sel a =
-    let ids : map id_of (crate_ids g.nodes) ≡ map id_of x.krates.items = ap (λ (is : List Identity). map id_of is) w.ids ∙ kept_same o m s d x b sel in
-    moved (metadata_view m) s (crate_ids g.nodes) x.krates.items steps ids a
+pub kept_steps : Compares → {N E : Type 0} (made : Package → N → Type 0) (made_edge : Edge → E → Type 0) (m : Metadata) (s : SettingModel) (t : Outline) (d : Division) (g : StoredGraph (Node N) E) (steps : List KeptStep)
+    → IsOutlineFor (metadata_view m) s (outline_view t) → Builds m s d → IsGraphOf made made_edge (outline_view t) d.kept.items g → AreStepsFor (metadata_view m) s (kids_in t) steps → AreStepsFor (metadata_view m) s (crate_ids g.nodes) steps
+kept_steps o made made_edge m s t d g steps h b w a =
+    let ids : map id_of (crate_ids g.nodes) ≡ map id_of (kids_in t) = ap (λ (is : List Identity). map id_of is) w.ids ∙ kept_ids o m s t d h b ∙ sym (viewed_ids t.krates.items) in
+    moved (metadata_view m) s (crate_ids g.nodes) (kids_in t) steps ids a
 
 -- ---- each node has a step
 
@@ -173,13 +180,12 @@ module _ {N : Type 0} (o : Compares) (nodes : List (Node N)) (steps : List KeptS
       let enabled_in : IsEnabledIn (crate_ids nodes) (crate_features nodes) (id_at (crate_ids nodes) k) (text_view name) = record { names = named.names; theirs = record { place = k; stands = stands; at = named.at }; among = named.among } in
       has_step o (crate_ids nodes) steps (Enables k (text_view name)) are.ordered.ascending all low (features (id_at (crate_ids nodes) k) (text_view name) enabled_in)
 
-pub explains : Compares → {N E : Type 0} (made : Package → N → Type 0) (made_edge : Edge → E → Type 0) (m : Metadata) (s : SettingModel) (t : Outline) (d : Division) (g : StoredGraph (Node N) E) (x : Selection) (steps : List KeptStep)
-    → IsOutlineFor (metadata_view m) s (outline_view t) → Builds m s d → IsGraphOf made made_edge (outline_view t) d.kept.items g → AreNodes g.nodes → Selects (metadata_view m) s x
-    → AreStepsFor (metadata_view m) s x.krates.items steps → AreExplained g.nodes steps
-explains o made made_edge m s t d g x steps h b w are sel a =
-    let z = kept_steps o made made_edge m s t d g x steps b w sel a in
-    let facts = facts_named (metadata_view m) s t h in
-    let enabled_is = enabled m s h.holds.selection d (λ i f. IsEnabledIn (crate_ids g.nodes) (crate_features g.nodes) i f) (map named_fact (outline_view t).features) (record { graph = h.graph; has_graph = h.has_graph; holds = h.holds.selected }) b facts w.enabled in
+pub explains : Compares → {N E : Type 0} (made : Package → N → Type 0) (made_edge : Edge → E → Type 0) (m : Metadata) (s : SettingModel) (t : Outline) (d : Division) (g : StoredGraph (Node N) E) (steps : List KeptStep)
+    → IsOutlineFor (metadata_view m) s (outline_view t) → Builds m s d → IsGraphOf made made_edge (outline_view t) d.kept.items g → AreNodes g.nodes
+    → AreStepsFor (metadata_view m) s (kids_in t) steps → AreExplained g.nodes steps
+explains o made made_edge m s t d g steps h b w are a =
+    let z = kept_steps o made made_edge m s t d g steps h b w a in
+    let enabled_is = enabled m s (outline_view t) d (λ i f. IsEnabledIn (crate_ids g.nodes) (crate_features g.nodes) i f) h b w.enabled in
     let crates : (i : Id) → Contains (map id_of (crate_ids g.nodes)) i → Contains (facts_in (steps_in (crate_ids g.nodes) steps)) (Crate i) = λ i c. (z.explained.facts (Crate i)).0 ((b.kept i).1 (subst (λ (is : List Identity). Contains (map id_of is) i) w.ids c)) in
     let features : (i : Id) (f : Text) → IsEnabledIn (crate_ids g.nodes) (crate_features g.nodes) i f → Contains (facts_in (steps_in (crate_ids g.nodes) steps)) (Feature i f) = λ i f c. (z.explained.facts (Feature i f)).0 ((enabled_is i f).1 c) in
     record {

@@ -16,6 +16,6 @@ pub mod NamesIn
 pub mod NarrowedAlike
 pub mod NarrowedBuilds
 pub mod Numbered
+pub mod OutlineFacts
 pub mod ResolvableLemmas
 pub mod SeenLemmas
-pub mod SelectionFacts

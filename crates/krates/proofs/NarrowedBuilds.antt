@@ -5,7 +5,7 @@ use Rattle.krates_cm.specs.declared.metadata.Metadata.{Metadata}
 use Rattle.krates_cm.specs.declared.package.Package.{Package}
 use Rattle.krates_drawing.specs.Drawing.{planned_edges, planned_nodes}
 use Rattle.krates_drawing.specs.Narrower.{DrawsNoMore, NarrowerDrawsNoMore}
-use Rattle.krates_drawing.specs.Outline.{Outline}
+use Rattle.krates_drawing.specs.Outline.{IsOutline, Outline}
 use Rattle.krates_ids.specs.Identity.{Identity}
 use Rattle.krates_ids.specs.declared.error.Error.{Error}
 use Rattle.krates_ids.specs.declared.error.Error.TheVariants as errors
@@ -18,11 +18,11 @@ use Rattle.krates_rules.specs.Setting.{SettingModel}
 use Rattle.krates.specs.Build.{IsResolvable, KeepsCrate, GraphRefusal, IsRefusedSeeing, IsDerived}
 use Rattle.krates_drawing.specs.Listed.{AreThosePackages}
 use Rattle.krates.specs.BuildLaws.{Succeeds}
-use Rattle.krates_queries.specs.Drawn.{CanBeNumbered, HasOutline, IsOutlineFor}
+use Rattle.krates_queries.specs.Drawn.{CanBeNumbered, IsOutlineFor}
 use Rattle.krates_drawing.proofs.DivisionLemmas.{ReadsOnce}
 use Rattle.krates_rules.proofs.AdmittedTexts.{none_invalid}
+use Rattle.krates.proofs.OutlineFacts.{derived_of}
 use Rattle.krates.proofs.ResolvableLemmas.{admitted_of}
-use Rattle.krates.proofs.SelectionFacts.{derived_of}
 
 -- ---- the law
 
@@ -43,9 +43,9 @@ outlines_part law p wide narrow step r t v a b =
     let g = r.graph in
     let here : a.graph ≡ g = cc (a.has_graph, r.has_graph) in
     let there : b.graph ≡ g = cc (b.has_graph, r.has_graph) in
-    let first = subst (λ z. HasOutline (resolved p z) narrow t) here a.holds in
-    let second = subst (λ z. HasOutline (resolved p z) wide v) there b.holds in
-    law (resolved p g) r.none_doubled wide narrow step first.selection second.selection first.selected second.selected t v first.is_outline second.is_outline
+    let first = subst (λ z. IsOutline (resolved p z) narrow t) here a.holds in
+    let second = subst (λ z. IsOutline (resolved p z) wide v) there b.holds in
+    law (resolved p g) r.none_doubled wide narrow step t v first second
 
 too_few : (n k : ℕ) → n ≤ k → k < 2 ^ 32 → 2 ^ 32 ≤ n → ⊥
 too_few n k le lt many = absurd (omega (arith, le, lt, many))

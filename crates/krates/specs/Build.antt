@@ -11,6 +11,7 @@ use Rattle.krates_cm.specs.declared.package.Package.{Package}
 use Rattle.krates_drawing.specs.Agreement.{DependsOn, OneEach}
 use Rattle.krates_drawing.specs.Drawing.{planned_edges, planned_nodes}
 use Rattle.krates_drawing.specs.Outline.{Outline}
+use Rattle.krates_drawing.specs.WorkOfOutline.{work_of}
 use Rattle.krates_drawing.specs.declared.edge.Edge.{Edge}
 use Rattle.krates_ids.specs.Identity.{Identity, Reads}
 use Rattle.krates_ids.specs.declared.error.Error.{Error}
@@ -23,8 +24,7 @@ use Rattle.krates_rules.specs.Questions.{questions}
 use Rattle.krates_rules.specs.Resolved.{HasGraphWith, IsMember, StandsAt, id_of, resolved}
 use Rattle.krates_rules.specs.Rules.{Questions}
 use Rattle.krates_rules.specs.Setting.{SettingModel}
-use Rattle.krates_selection.specs.Selection.{IsSelectionOf, RefusesSelection}
-use Rattle.krates_selection.specs.declared.selection.Selection.{Selection}
+use Rattle.krates_selection.specs.Selection.{RefusesSelection}
 use Rattle.krates.specs.Indexed.{Answering, Sees}
 use Rattle.krates_drawing.specs.Listed.{AreThosePackages}
 use Rattle.krates_queries.specs.DirectDependents.{IsDependent}
@@ -125,15 +125,15 @@ pub record IsBuilt {F N E : Type 0} (filters : F → Package → F → Type 0) (
   -- each node and each edge has a number, and the graph's limits are the numbers that there are
   pub numbered : IsNumbered k.graph
   pub root : k.workspace_root ≡ text_view m.workspace_root
-  -- the work is that of the document's selection, in which each crate, each feature and each reference is counted once
-  pub work : (x : Selection) × IsSelectionOf (metadata_view m) s x × (k.work ≡ x.work)
+  -- each kept crate, each enabled feature and each of its references was counted
+  pub work : k.work ≡ work_of drawn.outline
   pub reported : IsReported filters m s before after
   -- the kept steps follow, and have exactly the derivable facts
   pub explained : IsExplainedBy (metadata_view m) s (steps_of k)
 
 -- ---- refusals
 
--- something is selected, so nothing is lost, and more nodes or more edges are drawn of it than can be numbered
+-- More nodes or more edges are drawn than can be numbered. Since there is an outline, nothing is lost and some crate is kept.
 pub record HasTooMany (m : MetadataModel) (s : SettingModel) : Type 0 where
   pub outline : Outline
   pub is_outline : IsOutlineFor m s outline

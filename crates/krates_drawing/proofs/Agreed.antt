@@ -170,7 +170,7 @@ line_between r s t p d h at_p at_d w =
 kept_at : (r : Resolved) (s : SettingModel) (t : Outline) (p q : Id) (k : ℕ) → Holds r s t → (w : Claim t p q k) → KeptAt r s p k w.between.link.edge
 kept_at r s t p q k h w =
     let l = w.between.link in
-    let e = (h.edge_of l w.between.member).is_link in
+    let e = (h.edge_of l w.between.member).placed in
     record { parent = w.between.parent; kept = h.link_of l w.between.member; dependency = e.dependency; declared = subst (λ n. IsDeclaredAt r s l.edge n e.dependency) w.at e.declared }
 
 -- a declared dependency stands in the list of its package
@@ -180,10 +180,10 @@ declared_here declared place d P Q A B (inr x) = slice_get_within declared place
 
 place_below : (r : Resolved) (s : SettingModel) (t : Outline) (k : CrateRow) (l : EdgeRow) → NoneDoubled r.metadata r.graph → Holds r s t → Member t.krates k → Member t.links l → l.edge.parent ≡ k.id → l.place < k.declared
 place_below r s t k l none h at among e =
-    let w = (h.edge_of l among).is_link.declared.declares in
+    let w = (h.edge_of l among).placed.declared.declares in
     let c = h.count_of k at in
     let same : w.pkg ≡ c.pkg = one_package r k.id w.pkg c.pkg none (subst (λ i. HasPackage r i w.pkg) e w.has_package) c.has_package in
-    let below = declared_here w.pkg.dependencies l.place (h.edge_of l among).is_link.dependency _ _ _ _ w.declared in
+    let below = declared_here w.pkg.dependencies l.place (h.edge_of l among).placed.dependency _ _ _ _ w.declared in
     subst (λ n. l.place < n) (ap (λ (z : PackageModel). length z.dependencies) same ∙ sym c.declared) below
 
 -- only one crate claims a declared dependency
@@ -216,8 +216,8 @@ depends r s t p d none h at_p at_d one w =
 -- ---- the law
 
 pub agreed : DependenciesAgree
-agreed r s none x selected t outline p d at_p at_d one =
-    let h = holds r s x t selected outline in
+agreed r s none t outline p d at_p at_d one =
+    let h = holds r s t outline in
     let p_kept = has_drawn t p at_p in
     let d_kept = has_drawn t d at_d in
     (λ w. leads r s t p d h p_kept d_kept w, λ w. depends r s t p d none h p_kept d_kept one w)

@@ -4,7 +4,7 @@ use Rattle.std.specs.List.{AllZip, list_any}
 use Rattle.std.specs.Str.{bytes_eq}
 use Rattle.krates_cm.specs.Document.{Text, DependencyModel, PackageModel}
 use Rattle.krates_ids.specs.Correction.{named}
-use Rattle.krates_text.specs.FeatureReference.{Reference, IsReference}
+use Rattle.krates_text.specs.FeatureReference.{Reference}
 use Rattle.krates_text.specs.FeatureReference as references
 use Rattle.krates_rules.specs.Derivation.{Derivable, follows}
 use Rattle.krates_rules.specs.Facts.{Id, Edge, LostFeature, Feature, Kept, Toggled, Lost}
@@ -59,14 +59,14 @@ unfolding questions
 given_enabled r s t l g h at m =
     let q = questions r s in
     let kept = h.link_of l at in
-    let w = (h.edge_of l at).is_link in
-    let k = kept_of (has_text w.node.features) (asked_by w.dependency) g (subst (λ fs. Member fs g) w.given m) in
+    let w = h.edge_of l at in
+    let k = kept_of (has_text w.node.features) (asked_by w.placed.dependency) g (subst (λ fs. Member fs g) w.given m) in
     let lists : ListsFeature r l.edge.child g = record { node = w.node; has_node = w.has_node; among = contains_of w.node.features g (text_there w.node.features g k.1) } in
-    let declared : IsDeclaredAs r l.edge w.dependency = (l.place, w.declared.declares) in
-    elim (asked_for w.dependency g k.0) [
-      | by_name here ↦ follows (rules.declared {e = l.edge} {d = w.dependency} {g = g} declared (contains_of w.dependency.features g here) lists) (one q (Kept l.edge) kept)
+    let declared : IsDeclaredAs r l.edge w.placed.dependency = (l.place, w.placed.declared.declares) in
+    elim (asked_for w.placed.dependency g k.0) [
+      | by_name here ↦ follows (rules.declared {e = l.edge} {d = w.placed.dependency} {g = g} declared (contains_of w.placed.dependency.features g here) lists) (one q (Kept l.edge) kept)
       | by_use on is ↦ (
-          let plain : Derivable q (Feature l.edge.child default_name) = follows (rules.by_default {e = l.edge} {d = w.dependency} declared on (subst (λ x. ListsFeature r l.edge.child x) is lists)) (one q (Kept l.edge) kept) in
+          let plain : Derivable q (Feature l.edge.child default_name) = follows (rules.by_default {e = l.edge} {d = w.placed.dependency} declared on (subst (λ x. ListsFeature r l.edge.child x) is lists)) (one q (Kept l.edge) kept) in
           subst (λ x. Derivable q (Feature l.edge.child x)) (sym is) plain)
     ]
 
@@ -108,7 +108,7 @@ naming_in r s n m p (Some values) e h z at =
     }
 
 naming : (r : Resolved) (s : SettingModel) (t : Outline) (n : FeatureRow) (m : Meaning) → Holds r s t → Member t.features n → Member n.meanings m → IsNaming r s n m
-naming r s t n m h at among = let w = (h.named_of n at).is_named in naming_in r s n m w.pkg (named w.pkg.features n.name) refl w.has_package w.meanings among
+naming r s t n m h at among = let w = h.named_of n at in naming_in r s n m w.pkg (named w.pkg.features n.name) refl w.has_package w.meanings among
 
 -- ---- what a reference names is enabled
 

@@ -17,9 +17,9 @@ use Rattle.krates_rules.specs.Facts.{Id}
 use Rattle.krates_rules.specs.Referent.{id_order}
 use Rattle.krates_rules.specs.Resolved.{id_of}
 use Rattle.krates_drawing.specs.Drawing.{id_eq, is_crate, is_from, is_to, place_of}
-use Rattle.krates_drawing.specs.Outline.{Toggle, toggle_of}
+use Rattle.krates_drawing.specs.Outline.{Toggle}
 use Rattle.krates_drawing.specs.OutlineOrder.{has_child, has_krate, is_by}
-use Rattle.krates_drawing.specs.Views.{kids_of, crate_row_view, edge_row_view, no_krate}
+use Rattle.krates_drawing.specs.Views.{kids_of, crate_row_view, edge_row_view, no_krate, toggle_of}
 use Rattle.krates_drawing.specs.declared.outline.CrateRow.{CrateRow}
 use Rattle.krates_drawing.specs.declared.outline.EdgeRow.{EdgeRow}
 use Rattle.krates_drawing.proofs.EqualRanges.{searched}

@@ -1,10 +1,10 @@
 -- What is gathered from a selection is its outline.
-use Rattle.std.proofs.Common.{◌≡◌, Bool, inl, inr, ℕ, zero, suc, ◌<◌, List, [], ◌∷◌, All, length, map, option_map, Option, Some, None, slice_get, refl, sym, ap, ◌∙◌, subst, arith}
+use Rattle.std.proofs.Common.{◌≡◌, ◌↔◌, Bool, inl, inr, ℕ, Contains, ◌++◌, zero, suc, ◌<◌, List, [], ◌∷◌, All, length, map, option_map, Option, Some, None, slice_get, refl, sym, ap, ◌∙◌, subst, arith}
 use Rattle.std.proofs.lemmas.List.{get_or-map, length-map}
 use Rattle.std.proofs.lemmas.Simd.{map-map}
-use Rattle.std.proofs.lemmas.List.Elements.{All-contains}
+use Rattle.std.proofs.lemmas.List.Elements.{All-contains, All-from_recursion}
 use Rattle.std.specs.Global.{Vec}
-use Rattle.std.specs.List.{AllZip}
+use Rattle.std.specs.List.{AllByRecursion, AllZip, sum}
 use Rattle.std.specs.List.Sorted.{IsStrictlySortedBy}
 use Rattle.krates_cm.specs.Document.{NodeModel, PackageModel, node_view, text_view}
 use Rattle.krates_ids.specs.Identity.{Identity, id_cmp}
@@ -13,30 +13,35 @@ use Rattle.krates_questions.specs.Contents.{IsNodeOf}
 use Rattle.krates_rules.specs.Admission.{NoneDoubled}
 use Rattle.krates_rules.specs.DeclaredDependency.{dependency_entry}
 use Rattle.krates_rules.specs.Derivation.{Derivable}
-use Rattle.krates_rules.specs.Facts.{Id, Crate}
-use Rattle.krates_rules.specs.Questions.{IsDeclaredAt, kind_info_of, questions}
+use Rattle.krates_rules.specs.Facts.{Id, Fact, Crate, Feature, Kept, Toggled}
+use Rattle.krates_rules.specs.Questions.{kind_info_of, questions}
 use Rattle.krates_rules.specs.Resolved.{Resolved, id_of, HasNode, HasPackage, NoPackage, NoNode}
 use Rattle.krates_selection.specs.CrateNumbers.{HasCrates, HasEnds, HasHome, id_at}
-use Rattle.krates_selection.specs.Selection.{edge_view, IsPlaced, IsSelection, crate_fact, edge_fact, feature_fact}
+use Rattle.krates_selection.specs.Selection.{edge_view, IsPlaced, IsSelection, crate_fact, edge_fact, facts_of, feature_fact}
 use Rattle.krates_rules.specs.Setting.{SettingModel}
 use Rattle.krates_selection.specs.SelectionOrder.{place_cmp, feature_cmp}
 use Rattle.krates_selection.specs.declared.selection.EnabledFeature.{EnabledFeature}
 use Rattle.krates_selection.specs.declared.selection.KeptEdge.{KeptEdge}
 use Rattle.krates_selection.specs.declared.selection.Selection.{Selection}
 use Rattle.krates_drawing.specs.Gathered.{AreMeant, IsEdgeWith, IsFeatureWith, declared_in, row_in, dependency_in, listed_of, values_in}
-use Rattle.krates_drawing.specs.Outline.{IsCrateRow, IsEdgeRow, IsMeaning, IsFeatureRow, IsOutline, toggle_of}
+use Rattle.krates_drawing.specs.Outline as model
+use Rattle.krates_drawing.specs.Outline.{IsCrateRow, IsEdgeRow, IsMeaning, IsFeatureRow, IsOutline, enabled_order, link_order, outlined_facts, toggle_order}
+use Rattle.krates_drawing.specs.WorkOfOutline.{work_of}
+use Rattle.krates_selection.specs.Work.{HasReferences, counted}
 use Rattle.krates_drawing.specs.InOrder.{AreInOrder}
 use Rattle.krates_drawing.specs.CrateRecord.{IsRecordOf, node_at, node_in, of_crate, package_at, package_in}
-use Rattle.krates_drawing.specs.Views.{kids_of, crate_row_view, edge_row_view, meaning_view, feature_row_view}
+use Rattle.krates_drawing.specs.Views.{kids_of, crate_row_view, edge_row_view, meaning_view, feature_row_view, toggle_of}
 use Rattle.krates_drawing.specs.declared.outline.CrateRow.{CrateRow}
 use Rattle.krates_drawing.specs.declared.outline.EdgeRow.{EdgeRow}
 use Rattle.krates_drawing.specs.declared.outline.FeatureRow.{FeatureRow}
 use Rattle.krates_drawing.specs.declared.crate_record.CrateRecord.{CrateRecord}
 use Rattle.krates_document.proofs.DeclaredOnce.{declared_stands}
 use Rattle.krates_drawing.proofs.Derivations.{child_kept, crate_of_feature, kept_stands}
-use Rattle.krates_drawing.proofs.Holding.{crate_there, edge_there, feature_there}
+use Rattle.krates_drawing.proofs.ById.{crates_sorted, features_sorted, links_sorted, toggles_sorted}
+use Rattle.krates_drawing.proofs.Holding.{crate_kept, feature_enabled, link_kept}
+use Rattle.krates_drawing.proofs.OneOutline.{ReadsOneReference}
+use Rattle.krates_drawing.proofs.WorkOfOutline.{features_times, same_work}
 use Rattle.krates_rules.proofs.Members.{Member, contains_of}
-use Rattle.krates_drawing.proofs.Standing.{each}
 use Rattle.krates_rules.proofs.OnlyOne.{one_package}
 
 -- ---- what is gathered
@@ -87,10 +92,10 @@ some_node r i (Some n) h some = (n, refl, h)
 
 -- ---- one element
 
-krate_recorded : (r : Resolved) (i : Identity) (t : CrateRecord) → (NoPackage r (id_of i) → ⊥) → IsRecordOf r i t → IsCrateRow r i (crate_row_view (row_in t))
+krate_recorded : (r : Resolved) (i : Identity) (t : CrateRecord) → (NoPackage r (id_of i) → ⊥) → IsRecordOf r i t → IsCrateRow r (crate_row_view (row_in t))
 krate_recorded r i t some w =
     let p = some_package r (id_of i) (package_in t) w.pkg some in
-    record { id = ap id_of w.krate; pkg = p.0; has_package = subst (λ (k : Identity). HasPackage r (id_of k) p.0) (sym w.krate) p.2; declared = ap declared_in p.1 }
+    record { pkg = p.0; has_package = subst (λ (k : Identity). HasPackage r (id_of k) p.0) (sym w.krate) p.2; declared = ap declared_in p.1 }
 
 -- the declared dependency of an edge stands at its place in the list of the parent's package
 at_place : (r : Resolved) (s : SettingModel) (kids : List Identity) (e : KeptEdge) (w : IsPlaced r s kids e) (p : PackageModel) → NoneDoubled r.metadata r.graph → HasPackage r (id_at kids e.parent) p
@@ -102,7 +107,7 @@ at_place r s kids e w p none h =
     (declared_stands a.pkg.dependencies (dependency_entry (id_at kids e.child) a.dep) (kind_info_of (edge_view kids e)) e.declared w.dependency a.declared)
 
 link_recorded : (r : Resolved) (s : SettingModel) (kids : List Identity) (records : List CrateRecord) (e : KeptEdge) (l : EdgeRow) → NoneDoubled r.metadata r.graph → AllZip (IsRecordOf r) kids records → HasEnds (length kids) e → IsPlaced r s kids e
-    → (NoNode r (id_at kids e.child) → ⊥) → IsEdgeWith records e l → IsEdgeRow r s kids e (edge_row_view kids l)
+    → (NoNode r (id_at kids e.child) → ⊥) → IsEdgeWith records e l → IsEdgeRow r s (edge_row_view kids l)
 link_recorded r s kids records e l none z ends w some is =
     let a = w.declared.declares in
     let parent = record_at r kids records e.parent z ends.parent in
@@ -112,18 +117,17 @@ link_recorded r s kids records e l none z ends w some is =
     let declared : dependency_in (package_at records e.parent) e.declared ≡ Some w.dependency =
     ap (λ o. dependency_in (of_crate package_in o) e.declared) parent.at ∙ (ap (λ o. dependency_in o e.declared) p.1 ∙ at_place r s kids e w p.0 none p.2) in
     let node : node_at records e.child ≡ Some n.0 = ap (of_crate node_in) child.at ∙ n.1 in
-    record {
-      edge = ap (edge_view kids) is.edge;
-      place = ap (λ (z : KeptEdge). z.declared) is.edge;
-      dependency = w.dependency;
-      declared = subst (λ (z : KeptEdge). IsDeclaredAt r s (edge_view kids z) z.declared w.dependency) (sym is.edge) w.declared;
+    let row : KeptEdge → model.EdgeRow = λ z. record { edge = edge_view kids z; place = z.declared; first = z.place; given = map text_view l.given.items } in
+    let here : IsEdgeRow r s (row e) = record {
+      placed = w;
       node = n.0;
-      has_node = subst (λ (z : KeptEdge). HasNode r (id_at kids z.child) n.0) (sym is.edge) n.2;
+      has_node = n.2;
       given = is.given ∙ (ap (λ o. listed_of o (node_at records e.child)) declared ∙ ap (listed_of (Some w.dependency)) node);
-    }
+    } in
+    subst (λ (z : KeptEdge). IsEdgeRow r s (row z)) (sym is.edge) here
 
 named_recorded : (r : Resolved) (all : Bool) (kids : List Identity) (records : List CrateRecord) (f : EnabledFeature) (n : FeatureRow) → AllZip (IsRecordOf r) kids records → HasHome (length kids) f → (NoPackage r (id_at kids f.krate) → ⊥)
-    → IsFeatureWith r all records f n → IsFeatureRow r all kids f (feature_row_view kids n)
+    → IsFeatureWith r all records f n → IsFeatureRow r all (feature_row_view kids n)
 named_recorded r all kids records f n z home some h =
     let here = record_at r kids records f.krate z home in
     let i = id_at kids f.krate in
@@ -132,24 +136,18 @@ named_recorded r all kids records f n z home some h =
     let told = map meaning_view n.meanings.items in
     let meant : AreMeant r all (Some here.here) name told = subst (λ o. AreMeant r all o name told) here.at h.meanings in
     let of_it : AllZip (IsMeaning r all i) (values_in (package_in here.here) name) told = subst (λ j. AllZip (IsMeaning r all j) (values_in (package_in here.here) name) told) here.krate meant in
-    let krate : id_at kids n.feature.krate ≡ i = ap (λ (x : EnabledFeature). id_at kids x.krate) h.feature in
-    let named : text_view n.feature.name ≡ name = ap (λ (x : EnabledFeature). text_view x.name) h.feature in
-    record {
-      krate = krate;
-      name = named;
-      pkg = p.0;
-      has_package = subst (λ (z : EnabledFeature). HasPackage r (id_at kids z.krate) p.0) (sym h.feature) p.2;
-      meanings = rw (krate, named) (subst (λ o. AllZip (IsMeaning r all i) (values_in o name) told) p.1 of_it);
-    }
+    let row : EnabledFeature → model.FeatureRow = λ z. record { krate = id_at kids z.krate; name = text_view z.name; meanings = told } in
+    let row_here : IsFeatureRow r all (row f) = record { pkg = p.0; has_package = p.2; meanings = subst (λ o. AllZip (IsMeaning r all i) (values_in o name) told) p.1 of_it } in
+    subst (λ (z : EnabledFeature). IsFeatureRow r all (row z)) (sym h.feature) row_here
 
 -- ---- whole lists
 
--- what is related to its row in one way is related to what is seen of it in another
-seen_rows : {A B D : Type 0} (R : A → B → Type 0) (Q : A → D → Type 0) (view : B → D) (xs : List A) (ys : List B) → ((x : A) (y : B) → Member xs x → R x y → Q x (view y)) → AllZip R xs ys → AllZip Q xs (map view ys)
+-- what is seen of the rows of a list
+seen_rows : {A B D : Type 0} (R : A → B → Type 0) (Q : D → Type 0) (view : B → D) (xs : List A) (ys : List B) → ((x : A) (y : B) → Member xs x → Member (map view ys) (view y) → R x y → Q (view y)) → AllZip R xs ys → AllByRecursion Q (map view ys)
 seen_rows R Q view [] [] h z = tt
 seen_rows R Q view [] (y ∷ ys) h z = absurd z
 seen_rows R Q view (x ∷ xs) [] h z = absurd z
-seen_rows R Q view (x ∷ xs) (y ∷ ys) h z = (h x y (inl refl) z.0, seen_rows R Q view xs ys (λ a b m. h a b (inr m)) z.1)
+seen_rows R Q view (x ∷ xs) (y ∷ ys) h z = (h x y (inl refl) (inl refl) z.0, seen_rows R Q view xs ys (λ a b m n. h a b (inr m) (inr n)) z.1)
 
 -- rows of these items are rows of the list
 rows_of : {A B : Type 0} (R : A → B → Type 0) (back : B → A) (xs : List A) (ys : List B) → ((x : A) (y : B) → R x y → back y ≡ x) → AllZip R xs ys → map back ys ≡ xs
@@ -174,8 +172,11 @@ has_node r s i d none = let w = kept_stands (questions r s) i d in none w.node w
 all_under : {A B : Type 0} (f : A → B) (P : B → Type 0) (xs : List A) → All P (map f xs) → All (λ x. P (f x)) xs
 all_under f P xs h k d lt = subst P (get_or-map f xs k d (f d) lt) (h k (f d) (rw length-map lt))
 
+four : (a b c d e f g h : List Fact) → a ≡ e → b ≡ f → c ≡ g → d ≡ h → a ++ (b ++ (c ++ d)) ≡ e ++ (f ++ (g ++ h))
+four a b c d e f g h p q u v = rw (p, q, u, v) refl
+
 module _ (r : Resolved) (s : SettingModel) (x : Selection) (records : List CrateRecord) (ks : Vec CrateRow) (ls : Vec EdgeRow) (fs : Vec FeatureRow) (h : IsSelection r s x) (w : AreGathered r s x records ks.items ls.items fs.items) where
-  same_kids : kids_of ks.items ≡ x.krates.items
+  pub same_kids : kids_of ks.items ≡ x.krates.items
   same_kids = ap kids_of w.krates ∙ map-map (λ (k : CrateRow). k.id) row_in records ∙ rows_of (IsRecordOf r) (λ (t : CrateRecord). t.krate) x.krates.items records (λ i t is. is.krate) w.each
 
   same_edges : map (λ (l : EdgeRow). l.edge) ls.items ≡ x.edges.items
@@ -186,41 +187,6 @@ module _ (r : Resolved) (s : SettingModel) (x : Selection) (records : List Crate
 
   as_many : length x.krates.items ≡ length ks.items
   as_many = sym (ap length same_kids) ∙ length-map ks.items (λ (k : CrateRow). k.id)
-
-  -- the lists with what is beside them
-  krates_made : AllZip (IsCrateRow r) x.krates.items (map crate_row_view ks.items)
-  krates_made = subst (AllZip (IsCrateRow r) x.krates.items) (sym (ap (map crate_row_view) w.krates ∙ map-map crate_row_view row_in records))
-      (seen_rows (IsRecordOf r) (IsCrateRow r) (λ (t : CrateRecord). crate_row_view (row_in t)) x.krates.items records
-      (λ i t at is. krate_recorded r i t (has_package r s (id_of i) ((h.facts (crate_fact i)).1 (crate_there x i at))) is) w.each)
-
-  links_made : NoneDoubled r.metadata r.graph → AllZip (IsEdgeRow r s x.krates.items) x.edges.items (map (edge_row_view x.krates.items) ls.items)
-  links_made none = seen_rows (IsEdgeWith records) (IsEdgeRow r s x.krates.items) (edge_row_view x.krates.items) x.edges.items ls.items
-      (λ e l at is. (
-      let among = contains_of x.edges.items e at in
-      let kept = (h.facts (edge_fact x.krates.items e)).1 (edge_there x e at) in
-      link_recorded r s x.krates.items records e l none w.each (All-contains (HasEnds (length x.krates.items)) x.edges.items e h.ends among) (All-contains (IsPlaced r s x.krates.items) x.edges.items e h.placed among)
-      (has_node r s (id_at x.krates.items e.child) (child_kept (questions r s) (edge_view x.krates.items e) kept)) is)) w.links
-
-  features_made : AllZip (IsFeatureRow r s.all_named x.krates.items) x.features.items (map (feature_row_view x.krates.items) fs.items)
-  features_made = seen_rows (IsFeatureWith r s.all_named records) (IsFeatureRow r s.all_named x.krates.items) (feature_row_view x.krates.items) x.features.items fs.items
-      (λ f n at is. (
-      let home = All-contains (HasHome (length x.krates.items)) x.features.items f h.homes (contains_of x.features.items f at) in
-      let i = id_at x.krates.items f.krate in
-      let kept = crate_of_feature (questions r s) i (text_view f.name) ((h.facts (feature_fact x.krates.items f)).1 (feature_there x f at)) in
-      named_recorded r s.all_named x.krates.items records f n w.each home (has_package r s i kept) is)) w.features
-
-  pub gathered : NoneDoubled r.metadata r.graph → IsOutline r s x (record {
-    krates = map crate_row_view ks.items;
-    links = map (edge_row_view (kids_of ks.items)) ls.items;
-    features = map (feature_row_view (kids_of ks.items)) fs.items;
-    toggled = map (toggle_of (kids_of ks.items)) x.toggled.items;
-  })
-  gathered none = record {
-    krates = krates_made;
-    links = subst (λ is. AllZip (IsEdgeRow r s x.krates.items) x.edges.items (map (edge_row_view is) ls.items)) (sym same_kids) (links_made none);
-    features = subst (λ is. AllZip (IsFeatureRow r s.all_named x.krates.items) x.features.items (map (feature_row_view is) fs.items)) (sym same_kids) features_made;
-    toggled = ap (λ is. map (toggle_of is) x.toggled.items) same_kids;
-  }
 
   -- ---- the order of the outline
 
@@ -236,3 +202,80 @@ module _ (r : Resolved) (s : SettingModel) (x : Selection) (records : List Crate
     toggled = h.toggled;
     toggled_crates = subst (λ n. All (HasCrates n) x.toggled.items) as_many h.toggled_crates;
   }
+
+  -- ---- what it says
+
+  -- the outline, where the crates have these ids
+  abbrev pub view : List Identity → model.Outline
+  view ids = record {
+    krates = map crate_row_view ks.items;
+    links = map (edge_row_view ids) ls.items;
+    features = map (feature_row_view ids) fs.items;
+    toggled = map (toggle_of ids) x.toggled.items;
+  }
+
+  -- it says what the selection says
+  same_facts : outlined_facts (view x.krates.items) ≡ facts_of x
+  same_facts = four _ _ _ _ _ _ _ _
+      (map-map (λ (k : model.CrateRow). Crate k.id) crate_row_view ks.items ∙ (sym (map-map crate_fact (λ (k : CrateRow). k.id) ks.items) ∙ ap (map crate_fact) same_kids))
+      (map-map (λ (l : model.EdgeRow). Kept l.edge) (edge_row_view x.krates.items) ls.items ∙ (sym (map-map (edge_fact x.krates.items) (λ (l : EdgeRow). l.edge) ls.items) ∙ ap (map (edge_fact x.krates.items)) same_edges))
+      (map-map (λ (n : model.FeatureRow). Feature n.krate n.name) (feature_row_view x.krates.items) fs.items ∙ (sym (map-map (feature_fact x.krates.items) (λ (n : FeatureRow). n.feature) fs.items) ∙ ap (map (feature_fact x.krates.items)) same_features))
+      (map-map (λ (g : model.Toggle). Toggled g.by g.krate g.name) (toggle_of x.krates.items) x.toggled.items)
+
+  told : (f : Fact) → Derivable (questions r s) f ↔ Contains (outlined_facts (view x.krates.items)) f
+  told = subst (λ fs. (f : Fact) → Derivable (questions r s) f ↔ Contains fs f) (sym same_facts) h.facts
+
+  -- ---- the lists with what is beside them
+
+  krates_made : AllByRecursion (IsCrateRow r) (map crate_row_view ks.items)
+  krates_made =
+      let rows : map crate_row_view ks.items ≡ map (λ (t : CrateRecord). crate_row_view (row_in t)) records = ap (map crate_row_view) w.krates ∙ map-map crate_row_view row_in records in
+      subst (AllByRecursion (IsCrateRow r)) (sym rows) (seen_rows (IsRecordOf r) (IsCrateRow r) (λ (t : CrateRecord). crate_row_view (row_in t)) x.krates.items records
+      (λ i t at there is. (
+      let kept = crate_kept r s (view x.krates.items) told (crate_row_view (row_in t)) (subst (λ ks. Member ks (crate_row_view (row_in t))) (sym rows) there) in
+      krate_recorded r i t (has_package r s (id_of i) (subst (λ (k : Identity). Derivable (questions r s) (Crate (id_of k))) is.krate kept)) is)) w.each)
+
+  links_made : NoneDoubled r.metadata r.graph → AllByRecursion (IsEdgeRow r s) (map (edge_row_view x.krates.items) ls.items)
+  links_made none = seen_rows (IsEdgeWith records) (IsEdgeRow r s) (edge_row_view x.krates.items) x.edges.items ls.items
+      (λ e l at there is. (
+      let among = contains_of x.edges.items e at in
+      let kept = child_kept (questions r s) (edge_view x.krates.items l.edge) (link_kept r s (view x.krates.items) told (edge_row_view x.krates.items l) there) in
+      link_recorded r s x.krates.items records e l none w.each (All-contains (HasEnds (length x.krates.items)) x.edges.items e h.ends among) (All-contains (IsPlaced r s x.krates.items) x.edges.items e h.placed among)
+      (has_node r s (id_at x.krates.items e.child) (subst (λ (z : KeptEdge). Derivable (questions r s) (Crate (id_at x.krates.items z.child))) is.edge kept)) is)) w.links
+
+  features_made : AllByRecursion (IsFeatureRow r s.all_named) (map (feature_row_view x.krates.items) fs.items)
+  features_made = seen_rows (IsFeatureWith r s.all_named records) (IsFeatureRow r s.all_named) (feature_row_view x.krates.items) x.features.items fs.items
+      (λ f n at there is. (
+      let home = All-contains (HasHome (length x.krates.items)) x.features.items f h.homes (contains_of x.features.items f at) in
+      let enabled = feature_enabled r s (view x.krates.items) told (feature_row_view x.krates.items n) there in
+      let kept = crate_of_feature (questions r s) (id_at x.krates.items n.feature.krate) (text_view n.feature.name) enabled in
+      named_recorded r s.all_named x.krates.items records f n w.each home (has_package r s (id_at x.krates.items f.krate) (subst (λ (z : EnabledFeature). Derivable (questions r s) (Crate (id_at x.krates.items z.krate))) is.feature kept)) is)) w.features
+
+  -- ---- the outline
+
+  gathered_here : NoneDoubled r.metadata r.graph → IsOutline r s (view x.krates.items)
+  gathered_here none = record {
+    facts = told;
+    some = h.some;
+    by_id = crates_sorted ks ls fs x.toggled ordered;
+    krates = All-from_recursion (IsCrateRow r) (map crate_row_view ks.items) krates_made;
+    by_ends = subst (λ is. IsStrictlySortedBy link_order (map (edge_row_view is) ls.items)) same_kids (links_sorted ks ls fs x.toggled ordered);
+    links = All-from_recursion (IsEdgeRow r s) (map (edge_row_view x.krates.items) ls.items) (links_made none);
+    by_crate = subst (λ is. IsStrictlySortedBy enabled_order (map (feature_row_view is) fs.items)) same_kids (features_sorted ks ls fs x.toggled ordered);
+    features = All-from_recursion (IsFeatureRow r s.all_named) (map (feature_row_view x.krates.items) fs.items) features_made;
+    by_toggling = subst (λ is. IsStrictlySortedBy toggle_order (map (toggle_of is) x.toggled.items)) same_kids (toggles_sorted ks ls fs x.toggled ordered);
+  }
+
+  pub gathered : NoneDoubled r.metadata r.graph → IsOutline r s (view (kids_of ks.items))
+  gathered none = subst (λ is. IsOutline r s (view is)) (sym same_kids) (gathered_here none)
+
+  -- the work of the selection is that of its outline
+  pub worked : ReadsOneReference → NoneDoubled r.metadata r.graph → x.work ≡ work_of (view (kids_of ks.items))
+  worked one none =
+      let each = subst (λ gs. AllZip (λ f k. HasReferences r s (id_at x.krates.items f.krate) (text_view f.name) k) gs h.work.references.1.counts) (sym same_features) h.work.references.1.each in
+      let counts = features_times one r s x.krates.items none fs.items h.work.references.1.counts each features_made in
+      let here : x.work ≡ work_of (view x.krates.items) = same_work _ _ _ _ _ _
+      (h.work.krates ∙ ap counted (as_many ∙ sym (length-map ks.items crate_row_view)))
+      (h.work.features_once ∙ ap counted (sym (ap length same_features) ∙ (length-map fs.items (λ (n : FeatureRow). n.feature) ∙ sym (length-map fs.items (feature_row_view x.krates.items)))))
+      (h.work.references.2 ∙ ap counted (h.work.references.1.total ∙ ap sum counts)) in
+      subst (λ is. x.work ≡ work_of (view is)) (sym same_kids) here

@@ -1,20 +1,14 @@
 -- What the lists of an outline hold, by derivations.
-use Rattle.std.proofs.Common.{◌≡◌, inl, inr, List, length, map, Contains, sym, ap, ◌∙◌, subst}
-use Rattle.krates_cm.specs.Document.{Text, PackageModel, text_view}
-use Rattle.krates_ids.specs.Identity.{Identity}
+use Rattle.std.proofs.Common.{◌≡◌, ◌↔◌, inl, inr, List, map, Contains, refl}
+use Rattle.std.proofs.lemmas.List.Elements.{All-contains}
+use Rattle.krates_cm.specs.Document.{Text}
 use Rattle.krates_rules.specs.Derivation.{Derivable}
 use Rattle.krates_rules.specs.Facts.{Id, Edge, Cause, Fact, Crate, Feature, Kept, Toggled, Lost}
 use Rattle.krates_rules.specs.Questions.{questions}
-use Rattle.krates_rules.specs.Resolved.{Resolved, id_of, HasPackage}
-use Rattle.krates_selection.specs.CrateNumbers.{id_at}
-use Rattle.krates_selection.specs.Selection.{edge_view, crate_fact, edge_fact, feature_fact, toggled_fact, facts_of, IsSelection}
+use Rattle.krates_rules.specs.Resolved.{Resolved}
 use Rattle.krates_rules.specs.Setting.{SettingModel}
-use Rattle.krates_selection.specs.declared.selection.EnabledFeature.{EnabledFeature}
-use Rattle.krates_selection.specs.declared.selection.KeptEdge.{KeptEdge}
-use Rattle.krates_selection.specs.declared.selection.Selection.{Selection}
-use Rattle.krates_selection.specs.declared.selection.ToggledFeature.{ToggledFeature}
-use Rattle.krates_drawing.specs.Outline.{CrateRow, IsCrateRow, EdgeRow, IsEdgeRow, FeatureRow, IsFeatureRow, Toggle, toggle_of, Outline, IsOutline}
-use Rattle.krates_rules.proofs.Members.{Member, member_of, contains_of, member_append, member_left, member_right, mapped_of, member_map, Partner, partner_of, swapped}
+use Rattle.krates_drawing.specs.Outline.{CrateRow, IsCrateRow, EdgeRow, IsEdgeRow, FeatureRow, IsFeatureRow, Toggle, Outline, IsOutline, outlined_facts}
+use Rattle.krates_rules.proofs.Members.{Member, member_of, contains_of, member_append, member_left, member_right, mapped_of, member_map}
 use Rattle.krates_drawing.proofs.NodeNumbers.{HasCrate, HasFeature}
 
 -- the link of a kept edge
@@ -29,157 +23,132 @@ pub record ToggleOf (t : Outline) (p q : Id) (f : Text) : Type 0 where
   pub member : Member t.toggled toggle
   pub is : toggle ≡ record { by = p; krate = q; name = f }
 
--- the kept edge of a link
-pub record EdgeOf (r : Resolved) (s : SettingModel) (l : EdgeRow) : Type 0 where
-  pub kids : List Identity
-  pub edge : KeptEdge
-  pub is_link : IsEdgeRow r s kids edge l
-
--- the enabled feature of a named one
-pub record FeatureOfOutline (r : Resolved) (s : SettingModel) (n : FeatureRow) : Type 0 where
-  pub kids : List Identity
-  pub feature : EnabledFeature
-  pub is_named : IsFeatureRow r s.all_named kids feature n
-
--- the number of declared dependencies of a crate
-pub record CountOf (r : Resolved) (k : CrateRow) : Type 0 where
-  pub pkg : PackageModel
-  pub has_package : HasPackage r k.id pkg
-  pub declared : k.declared ≡ length pkg.dependencies
-
 -- the lists hold exactly what is derivable
 pub record Holds (r : Resolved) (s : SettingModel) (t : Outline) : Type 0 where
   pub crate_in : (p : Id) → Derivable (questions r s) (Crate p) → HasCrate t p
   pub crate_of : (k : CrateRow) → Member t.krates k → Derivable (questions r s) (Crate k.id)
-  pub count_of : (k : CrateRow) → Member t.krates k → CountOf r k
+  pub count_of : (k : CrateRow) → Member t.krates k → IsCrateRow r k
   pub link_in : (e : Edge) → Derivable (questions r s) (Kept e) → LinkOf t e
   pub link_of : (l : EdgeRow) → Member t.links l → Derivable (questions r s) (Kept l.edge)
-  pub edge_of : (l : EdgeRow) → Member t.links l → EdgeOf r s l
+  pub edge_of : (l : EdgeRow) → Member t.links l → IsEdgeRow r s l
   pub feature_in : (p : Id) (f : Text) → Derivable (questions r s) (Feature p f) → HasFeature t p f
   pub feature_of : (n : FeatureRow) → Member t.features n → Derivable (questions r s) (Feature n.krate n.name)
-  pub named_of : (n : FeatureRow) → Member t.features n → FeatureOfOutline r s n
+  pub named_of : (n : FeatureRow) → Member t.features n → IsFeatureRow r s.all_named n
   pub toggle_in : (p q : Id) (f : Text) → Derivable (questions r s) (Toggled p q f) → ToggleOf t p q f
   pub toggle_of : (g : Toggle) → Member t.toggled g → Derivable (questions r s) (Toggled g.by g.krate g.name)
   pub none_lost : (c : Cause) → Derivable (questions r s) (Lost c) → ⊥
 
 -- ---- the four lists
 
--- the fact belongs to an element of one of the lists
-pub data From (x : Selection) (f : Fact) : Type 0 where
-  from_crate : (i : Identity) → Member x.krates.items i → crate_fact i ≡ f → From x f
-  from_edge : (e : KeptEdge) → Member x.edges.items e → edge_fact x.krates.items e ≡ f → From x f
-  from_feature : (e : EnabledFeature) → Member x.features.items e → feature_fact x.krates.items e ≡ f → From x f
-  from_toggled : (t : ToggledFeature) → Member x.toggled.items t → toggled_fact x.krates.items t ≡ f → From x f
+-- the facts of each list
+abbrev pub crate_facts : Outline → List Fact
+crate_facts t = map (λ (k : CrateRow). Crate k.id) t.krates
 
-pub from_of : (x : Selection) (f : Fact) → Contains (facts_of x) f → From x f
-from_of x f m = elim (member_append (map crate_fact x.krates.items) _ f (member_of (facts_of x) f m)) [
-  | inl here ↦ (let w = mapped_of crate_fact x.krates.items f here in from_crate w.from w.member w.is)
-  | inr more ↦ elim (member_append (map (edge_fact x.krates.items) x.edges.items) _ f more) [
-    | inl here ↦ (let w = mapped_of (edge_fact x.krates.items) x.edges.items f here in from_edge w.from w.member w.is)
-    | inr rest ↦ elim (member_append (map (feature_fact x.krates.items) x.features.items) _ f rest) [
-      | inl here ↦ (let w = mapped_of (feature_fact x.krates.items) x.features.items f here in from_feature w.from w.member w.is)
-      | inr there ↦ (let w = mapped_of (toggled_fact x.krates.items) x.toggled.items f there in from_toggled w.from w.member w.is)
+abbrev pub link_facts : Outline → List Fact
+link_facts t = map (λ (l : EdgeRow). Kept l.edge) t.links
+
+abbrev pub feature_facts : Outline → List Fact
+feature_facts t = map (λ (n : FeatureRow). Feature n.krate n.name) t.features
+
+abbrev pub toggled_facts : Outline → List Fact
+toggled_facts t = map (λ (g : Toggle). Toggled g.by g.krate g.name) t.toggled
+
+-- the fact belongs to an element of one of the lists
+data From (t : Outline) (f : Fact) : Type 0 where
+  from_crate : (k : CrateRow) → Member t.krates k → Crate k.id ≡ f → From t f
+  from_link : (l : EdgeRow) → Member t.links l → Kept l.edge ≡ f → From t f
+  from_feature : (n : FeatureRow) → Member t.features n → Feature n.krate n.name ≡ f → From t f
+  from_toggled : (g : Toggle) → Member t.toggled g → Toggled g.by g.krate g.name ≡ f → From t f
+
+from_of : (t : Outline) (f : Fact) → Contains (outlined_facts t) f → From t f
+from_of t f m = elim (member_append (crate_facts t) _ f (member_of (outlined_facts t) f m)) [
+  | inl here ↦ (let w = mapped_of (λ (k : CrateRow). Crate k.id) t.krates f here in from_crate w.from w.member w.is)
+  | inr more ↦ elim (member_append (link_facts t) _ f more) [
+    | inl here ↦ (let w = mapped_of (λ (l : EdgeRow). Kept l.edge) t.links f here in from_link w.from w.member w.is)
+    | inr rest ↦ elim (member_append (feature_facts t) _ f rest) [
+      | inl here ↦ (let w = mapped_of (λ (n : FeatureRow). Feature n.krate n.name) t.features f here in from_feature w.from w.member w.is)
+      | inr there ↦ (let w = mapped_of (λ (g : Toggle). Toggled g.by g.krate g.name) t.toggled f there in from_toggled w.from w.member w.is)
     ]
   ]
 ]
 
-pub crate_there : (x : Selection) (i : Identity) → Member x.krates.items i → Contains (facts_of x) (crate_fact i)
-crate_there x i m = contains_of (facts_of x) (crate_fact i) (member_left (map crate_fact x.krates.items) _ (crate_fact i) (member_map crate_fact x.krates.items i m))
+crate_there : (t : Outline) (k : CrateRow) → Member t.krates k → Contains (outlined_facts t) (Crate k.id)
+crate_there t k m = contains_of (outlined_facts t) (Crate k.id) (member_left (crate_facts t) _ (Crate k.id) (member_map (λ (k : CrateRow). Crate k.id) t.krates k m))
 
-pub edge_there : (x : Selection) (e : KeptEdge) → Member x.edges.items e → Contains (facts_of x) (edge_fact x.krates.items e)
-edge_there x e m = contains_of (facts_of x) (edge_fact x.krates.items e)
-    (member_right (map crate_fact x.krates.items) _ (edge_fact x.krates.items e) (member_left (map (edge_fact x.krates.items) x.edges.items) _ (edge_fact x.krates.items e) (member_map (edge_fact x.krates.items) x.edges.items e m)))
+link_there : (t : Outline) (l : EdgeRow) → Member t.links l → Contains (outlined_facts t) (Kept l.edge)
+link_there t l m = contains_of (outlined_facts t) (Kept l.edge)
+    (member_right (crate_facts t) _ (Kept l.edge) (member_left (link_facts t) _ (Kept l.edge) (member_map (λ (l : EdgeRow). Kept l.edge) t.links l m)))
 
-pub feature_there : (x : Selection) (e : EnabledFeature) → Member x.features.items e → Contains (facts_of x) (feature_fact x.krates.items e)
-feature_there x e m = contains_of (facts_of x) (feature_fact x.krates.items e)
-    (member_right (map crate_fact x.krates.items) _ (feature_fact x.krates.items e) (member_right (map (edge_fact x.krates.items) x.edges.items) _ (feature_fact x.krates.items e)
-    (member_left (map (feature_fact x.krates.items) x.features.items) _ (feature_fact x.krates.items e) (member_map (feature_fact x.krates.items) x.features.items e m))))
+feature_there : (t : Outline) (n : FeatureRow) → Member t.features n → Contains (outlined_facts t) (Feature n.krate n.name)
+feature_there t n m = contains_of (outlined_facts t) (Feature n.krate n.name)
+    (member_right (crate_facts t) _ (Feature n.krate n.name) (member_right (link_facts t) _ (Feature n.krate n.name)
+    (member_left (feature_facts t) _ (Feature n.krate n.name) (member_map (λ (n : FeatureRow). Feature n.krate n.name) t.features n m))))
 
-pub toggled_there : (x : Selection) (t : ToggledFeature) → Member x.toggled.items t → Contains (facts_of x) (toggled_fact x.krates.items t)
-toggled_there x t m = contains_of (facts_of x) (toggled_fact x.krates.items t)
-    (member_right (map crate_fact x.krates.items) _ (toggled_fact x.krates.items t) (member_right (map (edge_fact x.krates.items) x.edges.items) _ (toggled_fact x.krates.items t)
-    (member_right (map (feature_fact x.krates.items) x.features.items) _ (toggled_fact x.krates.items t) (member_map (toggled_fact x.krates.items) x.toggled.items t m))))
+toggled_there : (t : Outline) (g : Toggle) → Member t.toggled g → Contains (outlined_facts t) (Toggled g.by g.krate g.name)
+toggled_there t g m = contains_of (outlined_facts t) (Toggled g.by g.krate g.name)
+    (member_right (crate_facts t) _ (Toggled g.by g.krate g.name) (member_right (link_facts t) _ (Toggled g.by g.krate g.name)
+    (member_right (feature_facts t) _ (Toggled g.by g.krate g.name) (member_map (λ (g : Toggle). Toggled g.by g.krate g.name) t.toggled g m))))
 
 -- ---- by the kind of fact
 
--- the elements of a selection that have a fact
-pub crate_from : (x : Selection) (p : Id) → From x (Crate p) → (i : Identity) × Member x.krates.items i × (id_of i ≡ p)
-crate_from x p (from_crate i m e) = (i, m, cc e)
-crate_from x p (from_edge a m e) = absurd (cc e)
-crate_from x p (from_feature a m e) = absurd (cc e)
-crate_from x p (from_toggled a m e) = absurd (cc e)
+crate_from : (t : Outline) (p : Id) → From t (Crate p) → HasCrate t p
+crate_from t p (from_crate k m e) = record { krate = k; member = m; id = cc e }
+crate_from t p (from_link a m e) = absurd (cc e)
+crate_from t p (from_feature a m e) = absurd (cc e)
+crate_from t p (from_toggled a m e) = absurd (cc e)
 
-pub link_from : (x : Selection) (k : Edge) → From x (Kept k) → (e : KeptEdge) × Member x.edges.items e × (edge_view x.krates.items e ≡ k)
-link_from x k (from_crate i m e) = absurd (cc e)
-link_from x k (from_edge a m e) = (a, m, cc e)
-link_from x k (from_feature a m e) = absurd (cc e)
-link_from x k (from_toggled a m e) = absurd (cc e)
+link_from : (t : Outline) (e : Edge) → From t (Kept e) → LinkOf t e
+link_from t e (from_crate k m f) = absurd (cc f)
+link_from t e (from_link l m f) = record { link = l; member = m; is = cc f }
+link_from t e (from_feature a m f) = absurd (cc f)
+link_from t e (from_toggled a m f) = absurd (cc f)
 
-pub feature_from : (x : Selection) (p : Id) (f : Text) → From x (Feature p f) → (a : EnabledFeature) × Member x.features.items a × (id_at x.krates.items a.krate ≡ p) × (text_view a.name ≡ f)
-feature_from x p f (from_crate i m e) = absurd (cc e)
-feature_from x p f (from_edge a m e) = absurd (cc e)
-feature_from x p f (from_feature a m e) = (a, m, cc e, cc e)
-feature_from x p f (from_toggled a m e) = absurd (cc e)
-
-pub toggle_from : (x : Selection) (p q : Id) (f : Text) → From x (Toggled p q f) → (a : ToggledFeature) × Member x.toggled.items a × (id_at x.krates.items a.by ≡ p) × (id_at x.krates.items a.krate ≡ q) × (text_view a.name ≡ f)
-toggle_from x p q f (from_crate i m e) = absurd (cc e)
-toggle_from x p q f (from_edge a m e) = absurd (cc e)
-toggle_from x p q f (from_feature a m e) = absurd (cc e)
-toggle_from x p q f (from_toggled a m e) = (a, m, cc e, cc e, cc e)
-
-none_lost_from : (x : Selection) (c : Cause) → From x (Lost c) → ⊥
-none_lost_from x c (from_crate i m e) = cc e
-none_lost_from x c (from_edge a m e) = cc e
-none_lost_from x c (from_feature a m e) = cc e
-none_lost_from x c (from_toggled a m e) = cc e
+feature_from : (t : Outline) (p : Id) (f : Text) → From t (Feature p f) → HasFeature t p f
+feature_from t p f (from_crate k m e) = absurd (cc e)
+feature_from t p f (from_link a m e) = absurd (cc e)
+feature_from t p f (from_feature n m e) = record { named = n; member = m; krate = cc e; name = cc e }
+feature_from t p f (from_toggled a m e) = absurd (cc e)
 
 pub same_toggle : (i p j q : Id) (f g : Text) → i ≡ p → j ≡ q → f ≡ g → (let a : Toggle = record { by = i; krate = j; name = f } in a) ≡ record { by = p; krate = q; name = g }
-same_toggle i p j q f g a b c = ap (λ (z : Id). record { by = z; krate = j; name = f }) a ∙ ap (λ (z : Id). record { by = p; krate = z; name = f }) b ∙ ap (λ (z : Text). record { by = p; krate = q; name = z }) c
+same_toggle i p j q f g a b c = rw (a, b, c) refl
+
+toggle_from : (t : Outline) (p q : Id) (f : Text) → From t (Toggled p q f) → ToggleOf t p q f
+toggle_from t p q f (from_crate k m e) = absurd (cc e)
+toggle_from t p q f (from_link a m e) = absurd (cc e)
+toggle_from t p q f (from_feature a m e) = absurd (cc e)
+toggle_from t p q f (from_toggled g m e) = record { toggle = g; member = m; is = same_toggle g.by p g.krate q g.name f (cc e) (cc e) (cc e) }
+
+none_lost_from : (t : Outline) (c : Cause) → From t (Lost c) → ⊥
+none_lost_from t c (from_crate k m e) = cc e
+none_lost_from t c (from_link a m e) = cc e
+none_lost_from t c (from_feature a m e) = cc e
+none_lost_from t c (from_toggled a m e) = cc e
 
 -- ---- the outline
 
-krate_of : (r : Resolved) (s : SettingModel) (x : Selection) (t : Outline) (k : CrateRow) → IsOutline r s x t → Member t.krates k → Partner (λ k i. IsCrateRow r i k) k x.krates.items
-krate_of r s x t k w m = partner_of (λ k i. IsCrateRow r i k) t.krates x.krates.items k (swapped (IsCrateRow r) x.krates.items t.krates w.krates) m
+-- the facts of its lists are derivable, and no others
+module _ (r : Resolved) (s : SettingModel) (t : Outline) (facts : (f : Fact) → Derivable (questions r s) f ↔ Contains (outlined_facts t) f) where
+  pub crate_kept : (k : CrateRow) → Member t.krates k → Derivable (questions r s) (Crate k.id)
+  crate_kept k m = (facts (Crate k.id)).1 (crate_there t k m)
 
-edge_of : (r : Resolved) (s : SettingModel) (x : Selection) (t : Outline) (l : EdgeRow) → IsOutline r s x t → Member t.links l → Partner (λ l e. IsEdgeRow r s x.krates.items e l) l x.edges.items
-edge_of r s x t l w m = partner_of (λ l e. IsEdgeRow r s x.krates.items e l) t.links x.edges.items l (swapped (IsEdgeRow r s x.krates.items) x.edges.items t.links w.links) m
+  pub link_kept : (l : EdgeRow) → Member t.links l → Derivable (questions r s) (Kept l.edge)
+  link_kept l m = (facts (Kept l.edge)).1 (link_there t l m)
 
-enabled_of : (r : Resolved) (s : SettingModel) (x : Selection) (t : Outline) (n : FeatureRow) → IsOutline r s x t → Member t.features n → Partner (λ n f. IsFeatureRow r s.all_named x.krates.items f n) n x.features.items
-enabled_of r s x t n w m = partner_of (λ n f. IsFeatureRow r s.all_named x.krates.items f n) t.features x.features.items n (swapped (IsFeatureRow r s.all_named x.krates.items) x.features.items t.features w.features) m
+  pub feature_enabled : (n : FeatureRow) → Member t.features n → Derivable (questions r s) (Feature n.krate n.name)
+  feature_enabled n m = (facts (Feature n.krate n.name)).1 (feature_there t n m)
 
-pub holds : (r : Resolved) (s : SettingModel) (x : Selection) (t : Outline) → IsSelection r s x → IsOutline r s x t → Holds r s t
-holds r s x t h w = record {
-  crate_in = λ p d.
-      (let a = crate_from x p (from_of x (Crate p) ((h.facts (Crate p)).0 d)) in
-      let k = partner_of (IsCrateRow r) x.krates.items t.krates a.0 w.krates a.1 in
-      record { krate = k.partner; member = k.member; id = k.related.id ∙ a.2 });
-  crate_of = λ k m.
-      (let a = krate_of r s x t k w m in
-      subst (λ z. Derivable (questions r s) (Crate z)) (sym a.related.id) ((h.facts (crate_fact a.partner)).1 (crate_there x a.partner a.member)));
-  count_of = λ k m. (let a = krate_of r s x t k w m in record { pkg = a.related.pkg; has_package = a.related.has_package; declared = a.related.declared });
-  link_in = λ e d.
-      (let a = link_from x e (from_of x (Kept e) ((h.facts (Kept e)).0 d)) in
-      let k = partner_of (IsEdgeRow r s x.krates.items) x.edges.items t.links a.0 w.links a.1 in
-      record { link = k.partner; member = k.member; is = k.related.edge ∙ a.2 });
-  link_of = λ l m.
-      (let a = edge_of r s x t l w m in
-      subst (λ z. Derivable (questions r s) (Kept z)) (sym a.related.edge) ((h.facts (edge_fact x.krates.items a.partner)).1 (edge_there x a.partner a.member)));
-  edge_of = λ l m. (let a = edge_of r s x t l w m in record { kids = x.krates.items; edge = a.partner; is_link = a.related });
-  feature_in = λ p f d.
-      (let a = feature_from x p f (from_of x (Feature p f) ((h.facts (Feature p f)).0 d)) in
-      let k = partner_of (IsFeatureRow r s.all_named x.krates.items) x.features.items t.features a.0 w.features a.1 in
-      record { named = k.partner; member = k.member; krate = k.related.krate ∙ a.2; name = k.related.name ∙ a.3 });
-  feature_of = λ n m.
-      (let a = enabled_of r s x t n w m in
-      let there = (h.facts (feature_fact x.krates.items a.partner)).1 (feature_there x a.partner a.member) in
-      subst (λ z. Derivable (questions r s) (Feature n.krate z)) (sym a.related.name) (subst (λ z. Derivable (questions r s) (Feature z (text_view a.partner.name))) (sym a.related.krate) there));
-  named_of = λ n m. (let a = enabled_of r s x t n w m in record { kids = x.krates.items; feature = a.partner; is_named = a.related });
-  toggle_in = λ p q f d.
-      (let a = toggle_from x p q f (from_of x (Toggled p q f) ((h.facts (Toggled p q f)).0 d)) in
-      let member = subst (λ ts. Member ts (toggle_of x.krates.items a.0)) (sym w.toggled) (member_map (toggle_of x.krates.items) x.toggled.items a.0 a.1) in
-      record { toggle = toggle_of x.krates.items a.0; member = member; is = same_toggle (id_at x.krates.items (a.0).by) p (id_at x.krates.items (a.0).krate) q (text_view (a.0).name) f a.2 a.3 a.4 });
-  toggle_of = λ g m.
-      (let a = mapped_of (toggle_of x.krates.items) x.toggled.items g (subst (λ ts. Member ts g) w.toggled m) in
-      subst (λ (z : Toggle). Derivable (questions r s) (Toggled z.by z.krate z.name)) a.is ((h.facts (toggled_fact x.krates.items a.from)).1 (toggled_there x a.from a.member)));
-  none_lost = λ c d. none_lost_from x c (from_of x (Lost c) ((h.facts (Lost c)).0 d));
+pub holds : (r : Resolved) (s : SettingModel) (t : Outline) → IsOutline r s t → Holds r s t
+holds r s t h = record {
+  crate_in = λ p d. crate_from t p (from_of t (Crate p) ((h.facts (Crate p)).0 d));
+  crate_of = crate_kept r s t h.facts;
+  count_of = λ k m. All-contains (IsCrateRow r) t.krates k h.krates (contains_of t.krates k m);
+  link_in = λ e d. link_from t e (from_of t (Kept e) ((h.facts (Kept e)).0 d));
+  link_of = link_kept r s t h.facts;
+  edge_of = λ l m. All-contains (IsEdgeRow r s) t.links l h.links (contains_of t.links l m);
+  feature_in = λ p f d. feature_from t p f (from_of t (Feature p f) ((h.facts (Feature p f)).0 d));
+  feature_of = feature_enabled r s t h.facts;
+  named_of = λ n m. All-contains (IsFeatureRow r s.all_named) t.features n h.features (contains_of t.features n m);
+  toggle_in = λ p q f d. toggle_from t p q f (from_of t (Toggled p q f) ((h.facts (Toggled p q f)).0 d));
+  toggle_of = λ g m. (h.facts (Toggled g.by g.krate g.name)).1 (toggled_there t g m);
+  none_lost = λ c d. none_lost_from t c (from_of t (Lost c) ((h.facts (Lost c)).0 d));
 }

@@ -33,3 +33,4 @@ pub mod Standing
 pub mod StoredEdges
 pub mod Storing
 pub mod Tests
+pub mod WorkOfOutline

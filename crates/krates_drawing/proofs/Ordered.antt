@@ -1,91 +1,71 @@
--- Two strictly sorted lists whose elements have counterparts in each other are alike place by place.
+-- Of two strictly sorted lists, one whose elements are all in the other is a part of it; and if that holds both ways, they are equal.
 use Rattle.std.proofs.Common.{◌≡◌, inl, inr, List, [], ◌∷◌, Ordering, Less, refl, sym, ap, ◌∙◌, subst}
 use Rattle.std.specs.Cmp.{IsTotalOrder}
-use Rattle.std.specs.List.{AllByRecursion, AllZip}
+use Rattle.std.specs.List.{AllByRecursion}
 use Rattle.std.specs.List.Sorted.{IsStrictlySortedBy}
-use Rattle.krates_rules.proofs.Members.{Member, Partner}
+use Rattle.krates_drawing.specs.Narrower.{IsPart, nothing, keeps, leaves_out}
+use Rattle.krates_rules.proofs.Members.{Member}
 
--- related elements are in the same order
-pub record Respects {A : Type 0} (c : A → A → Ordering) (S : A → A → Type 0) : Type 0 where
-  pub total : IsTotalOrder c
-  pub same : (a b x y : A) → S a x → S b y → c a b ≡ c x y
+-- each item of the first list is one of the second
+abbrev pub IsWithin : {A : Type 0} → List A → List A → Type 0
+IsWithin {A} xs ys = (x : A) → Member xs x → Member ys x
 
-pub each : {A : Type 0} (P : A → Type 0) (xs : List A) (z : A) → AllByRecursion P xs → Member xs z → P z
+each : {A : Type 0} (P : A → Type 0) (xs : List A) (z : A) → AllByRecursion P xs → Member xs z → P z
 each P [] z h m = absurd m
 each P (x ∷ xs) z h (inl e) = subst P e h.0
 each P (x ∷ xs) z h (inr m) = each P xs z h.1 m
 
-pub strict : {A : Type 0} (c : A → A → Ordering) → IsTotalOrder c → (a b : A) → c a b ≡ Less → c b a ≡ Less → ⊥
+strict : {A : Type 0} (c : A → A → Ordering) → IsTotalOrder c → (a b : A) → c a b ≡ Less → c b a ≡ Less → ⊥
 strict c o a b l m = let e = o.antisymm a b in cc (e, l, m)
 
--- each element of the first has its counterpart in the second
-abbrev pub HasLikes : {A : Type 0} → (A → A → Type 0) → List A → List A → Type 0
-HasLikes {A} S xs ys = (x : A) → Member xs x → Partner S x ys
+module _ {A : Type 0} (c : A → A → Ordering) (o : IsTotalOrder c) where
+  -- the first element comes before each later one
+  before : (x z : A) (xs : List A) → IsStrictlySortedBy c (x ∷ xs) → Member xs z → c x z ≡ Less
+  unfolding IsStrictlySortedBy
+  before x z xs h m = each (λ w. c x w ≡ Less) xs z h.0 m
 
-abbrev IsBack : {A : Type 0} → (A → A → Type 0) → A → A → Type 0
-IsBack S y x = S x y
+  rest : (x : A) (xs : List A) → IsStrictlySortedBy c (x ∷ xs) → IsStrictlySortedBy c xs
+  unfolding IsStrictlySortedBy
+  rest x xs h = h.1
 
-first_like : {A : Type 0} (c : A → A → Ordering) (S : A → A → Type 0) (x y : A) (xs ys : List A) → Respects c S → IsStrictlySortedBy c (x ∷ xs) → IsStrictlySortedBy c (y ∷ ys) → Partner S x (y ∷ ys) → Partner (IsBack S) y (x ∷ xs) → S x y
-unfolding IsStrictlySortedBy
-first_like c S x y xs ys o hx hy p q = elim p.member [
-  | inl e ↦ subst (S x) (sym e) p.related
-  | inr later ↦ elim q.member [
-    | inl e ↦ subst (λ z. S z y) (sym e) q.related
-    | inr after ↦ (
-        let low : c x q.partner ≡ Less = each (λ z. c x z ≡ Less) xs q.partner hx.0 after in
-        let high : c y p.partner ≡ Less = each (λ z. c y z ≡ Less) ys p.partner hy.0 later in
-        let same : c x q.partner ≡ c p.partner y = o.same x q.partner p.partner y p.related q.related in
-        absurd (strict c o.total y p.partner high (sym same ∙ low)))
+  -- behind equal first elements the others are in what comes later
+  later_within : (x y : A) (xs ys : List A) → x ≡ y → IsStrictlySortedBy c (x ∷ xs) → IsWithin (x ∷ xs) (y ∷ ys) → IsWithin xs ys
+  later_within x y xs ys same h all z m = elim (all z (inr m)) [
+    | inl e ↦ absurd (let low = subst (λ w. c w z ≡ Less) (same ∙ e) (before x z xs h m) in strict c o z z low low)
+    | inr later ↦ later
   ]
-]
 
-pub later_likes : {A : Type 0} (c : A → A → Ordering) (S : A → A → Type 0) (x y : A) (xs ys : List A) → Respects c S → IsStrictlySortedBy c (x ∷ xs) → S x y → HasLikes S (x ∷ xs) (y ∷ ys) → HasLikes S xs ys
-unfolding IsStrictlySortedBy
-later_likes c S x y xs ys o hx like all z m =
-    let p = all z (inr m) in
-    elim p.member [
-      | inl e ↦ (
-          let low : c x z ≡ Less = each (λ w. c x w ≡ Less) xs z hx.0 m in
-          let same : c x z ≡ c y y = o.same x z y y like (subst (S z) (sym e) p.related) in
-          let equal = sym same ∙ low in
-          absurd (strict c o.total y y equal equal))
-      | inr later ↦ record { partner = p.partner; member = later; related = p.related }
+  -- if the first element comes later in the second list, all others do
+  all_later : (x y : A) (xs ys : List A) → IsStrictlySortedBy c (x ∷ xs) → IsStrictlySortedBy c (y ∷ ys) → Member ys x → IsWithin (x ∷ xs) (y ∷ ys) → IsWithin (x ∷ xs) ys
+  all_later x y xs ys hx hy at all z (inl e) = subst (Member ys) e at
+  all_later x y xs ys hx hy at all z (inr m) = elim (all z (inr m)) [
+    | inl e ↦ absurd (strict c o x z (before x z xs hx m) (subst (λ w. c w x ≡ Less) e (before y x ys hy at)))
+    | inr later ↦ later
+  ]
+
+  pub part_within : (xs ys : List A) → IsStrictlySortedBy c xs → IsStrictlySortedBy c ys → IsWithin xs ys → IsPart xs ys
+  part_within [] [] hx hy all = nothing
+  part_within [] (y ∷ ys) hx hy all = leaves_out (part_within [] ys hx (rest y ys hy) (λ z m. absurd m))
+  part_within (x ∷ xs) [] hx hy all = absurd (all x (inl refl))
+  part_within (x ∷ xs) (y ∷ ys) hx hy all = elim (all x (inl refl)) [
+    | inl e ↦ subst (λ z. IsPart (z ∷ xs) (y ∷ ys)) e (keeps (part_within xs ys (rest x xs hx) (rest y ys hy) (later_within x y xs ys (sym e) hx all)))
+    | inr later ↦ leaves_out (part_within (x ∷ xs) ys hx (rest y ys hy) (all_later x y xs ys hx hy later all))
+  ]
+
+  -- two lists that are parts of each other begin alike
+  first_same : (x y : A) (xs ys : List A) → IsStrictlySortedBy c (x ∷ xs) → IsStrictlySortedBy c (y ∷ ys) → IsWithin (x ∷ xs) (y ∷ ys) → IsWithin (y ∷ ys) (x ∷ xs) → x ≡ y
+  first_same x y xs ys hx hy there back = elim (there x (inl refl)) [
+    | inl e ↦ sym e
+    | inr later ↦ elim (back y (inl refl)) [
+      | inl e ↦ e
+      | inr after ↦ absurd (strict c o x y (before x y xs hx after) (before y x ys hy later))
     ]
+  ]
 
--- the same, from the second to the first
-turned : {A : Type 0} (c : A → A → Ordering) (S : A → A → Type 0) → Respects c S → Respects c (IsBack S)
-turned c S o = record { total = o.total; same = λ a b x y p q. sym (o.same x y a b p q) }
-
-pub alike : {A : Type 0} (c : A → A → Ordering) (S : A → A → Type 0) (xs ys : List A) → Respects c S → IsStrictlySortedBy c xs → IsStrictlySortedBy c ys → HasLikes S xs ys → HasLikes (IsBack S) ys xs → AllZip S xs ys
-unfolding IsStrictlySortedBy
-alike c S [] [] o hx hy there back = tt
-alike c S [] (y ∷ ys) o hx hy there back = absurd ((back y (inl refl)).member)
-alike c S (x ∷ xs) [] o hx hy there back = absurd ((there x (inl refl)).member)
-alike c S (x ∷ xs) (y ∷ ys) o hx hy there back =
-    let first = first_like c S x y xs ys o hx hy (there x (inl refl)) (back y (inl refl)) in
-    (first, alike c S xs ys o hx.1 hy.1 (later_likes c S x y xs ys o hx first there) (later_likes c (IsBack S) y x ys xs (turned c S o) hy first back))
-
--- what is made of related elements, place by place
-pub made_same : {A B : Type 0} (S : A → A → Type 0) (R Q : A → B → Type 0) (xs ys : List A) (ts us : List B) → AllZip S xs ys → AllZip R xs ts → AllZip Q ys us → ((a b : A) (t u : B) → S a b → R a t → Q b u → t ≡ u) → ts ≡ us
-made_same S R Q [] [] [] [] s r q h = refl
-made_same S R Q [] [] (t ∷ ts) us s r q h = absurd r
-made_same S R Q [] [] [] (u ∷ us) s r q h = absurd q
-made_same S R Q [] (y ∷ ys) ts us s r q h = absurd s
-made_same S R Q (x ∷ xs) [] ts us s r q h = absurd s
-made_same S R Q (x ∷ xs) (y ∷ ys) [] us s r q h = absurd r
-made_same S R Q (x ∷ xs) (y ∷ ys) (t ∷ ts) [] s r q h = absurd q
-made_same S R Q (x ∷ xs) (y ∷ ys) (t ∷ ts) (u ∷ us) s r q h =
-    let first = h x y t u s.0 r.0 q.0 in
-    let rest = made_same S R Q xs ys ts us s.1 r.1 q.1 h in
-    ap (λ z. z ∷ ts) first ∙ ap (λ zs. u ∷ zs) rest
-
-pub equal_zip : {A : Type 0} (xs ys : List A) → AllZip (λ a b. a ≡ b) xs ys → xs ≡ ys
-equal_zip [] [] z = refl
-equal_zip [] (y ∷ ys) z = absurd z
-equal_zip (x ∷ xs) [] z = absurd z
-equal_zip (x ∷ xs) (y ∷ ys) z = ap (λ a. a ∷ xs) z.0 ∙ ap (λ zs. y ∷ zs) (equal_zip xs ys z.1)
-
--- a list is related to itself
-pub itself : {A : Type 0} (xs : List A) → AllZip (λ a b. a ≡ b) xs xs
-itself [] = tt
-itself (x ∷ xs) = (refl, itself xs)
+  pub same_lists : (xs ys : List A) → IsStrictlySortedBy c xs → IsStrictlySortedBy c ys → IsWithin xs ys → IsWithin ys xs → xs ≡ ys
+  same_lists [] [] hx hy there back = refl
+  same_lists [] (y ∷ ys) hx hy there back = absurd (back y (inl refl))
+  same_lists (x ∷ xs) [] hx hy there back = absurd (there x (inl refl))
+  same_lists (x ∷ xs) (y ∷ ys) hx hy there back =
+      let first = first_same x y xs ys hx hy there back in
+      ap (λ z. z ∷ xs) first ∙ ap (λ zs. y ∷ zs) (same_lists xs ys (rest x xs hx) (rest y ys hy) (later_within x y xs ys first hx there) (later_within y x ys xs (sym first) hy back))

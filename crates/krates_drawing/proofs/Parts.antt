@@ -1,11 +1,8 @@
 -- Parts of lists, and what is made of them.
-use Rattle.std.proofs.Common.{◌≡◌, inl, inr, ℕ, ◌+◌, ◌≤◌, List, [], ◌∷◌, ◌++◌, length, map, filter, flat_map, Bool, true, false, ◌||◌, cond, Ordering, Less, refl, sym, ◌∙◌, subst, arith}
+use Rattle.std.proofs.Common.{◌≡◌, ℕ, ◌+◌, ◌≤◌, List, [], ◌∷◌, ◌++◌, length, map, filter, flat_map, Bool, true, false, ◌||◌, cond, refl, arith}
 use Rattle.std.proofs.lemmas.List.{length-append, length-map}
-use Rattle.std.specs.List.{AllZip, list_any}
-use Rattle.std.specs.List.Sorted.{IsStrictlySortedBy}
+use Rattle.std.specs.List.{list_any}
 use Rattle.krates_drawing.specs.Narrower.{IsPart, nothing, keeps, leaves_out}
-use Rattle.krates_rules.proofs.Members.{Member}
-use Rattle.krates_drawing.proofs.Ordered.{Respects, HasLikes, each, strict, later_likes}
 
 -- ---- parts
 
@@ -68,55 +65,3 @@ spread_length f g _ _ more (leaves_out {y} {xs} {ys} h) = longer (flat_map f xs)
 
 pub mapped_length : {X Y Z : Type 0} (f : X → Y) (g : X → Z) (xs ys : List X) → IsPart xs ys → length (map f xs) ≤ length (map g ys)
 mapped_length f g xs ys h = rw (length-map xs f, length-map ys g) (part_length xs ys h)
-
--- ---- lists in strict order
-
--- each element has its counterpart in the second list, in order
-pub data LikePart {A : Type 0} (S : A → A → Type 0) : List A → List A → Type 0 where
-  like_nothing : LikePart S [] []
-  like_keeps : {x y : A} {xs ys : List A} → S x y → LikePart S xs ys → LikePart S (x ∷ xs) (y ∷ ys)
-  like_leaves : {y : A} {xs ys : List A} → LikePart S xs ys → LikePart S xs (y ∷ ys)
-
--- if the counterpart of the first element comes later, so do those of the others
-all_later : {A : Type 0} (c : A → A → Ordering) (S : A → A → Type 0) (x y p : A) (xs ys : List A) → Respects c S → IsStrictlySortedBy c (x ∷ xs) → IsStrictlySortedBy c (y ∷ ys) → Member ys p → S x p
-    → HasLikes S (x ∷ xs) (y ∷ ys) → HasLikes S (x ∷ xs) ys
-unfolding IsStrictlySortedBy
-all_later c S x y p xs ys o hx hy at like all z (inl e) = record { partner = p; member = at; related = subst (λ w. S w p) e like }
-all_later c S x y p xs ys o hx hy at like all z (inr m) =
-    let q = all z (inr m) in
-    elim q.member [
-      | inl e ↦ (
-          let low : c x z ≡ Less = each (λ w. c x w ≡ Less) xs z hx.0 m in
-          let high : c y p ≡ Less = each (λ w. c y w ≡ Less) ys p hy.0 at in
-          let same : c x z ≡ c p y = o.same x z p y like (subst (S z) (sym e) q.related) in
-          absurd (strict c o.total y p high (sym same ∙ low)))
-      | inr later ↦ record { partner = q.partner; member = later; related = q.related }
-    ]
-
-pub likes_part : {A : Type 0} (c : A → A → Ordering) (S : A → A → Type 0) (xs ys : List A) → Respects c S → IsStrictlySortedBy c xs → IsStrictlySortedBy c ys → HasLikes S xs ys → LikePart S xs ys
-unfolding IsStrictlySortedBy
-likes_part c S [] [] o hx hy all = like_nothing
-likes_part c S [] (y ∷ ys) o hx hy all = like_leaves (likes_part c S [] ys o hx hy.1 (λ z m. absurd m))
-likes_part c S (x ∷ xs) [] o hx hy all = absurd ((all x (inl refl)).member)
-likes_part c S (x ∷ xs) (y ∷ ys) o hx hy all =
-    let p = all x (inl refl) in
-    elim p.member [
-      | inl e ↦ (
-          let first : S x y = subst (S x) (sym e) p.related in
-          like_keeps first (likes_part c S xs ys o hx.1 hy.1 (later_likes c S x y xs ys o hx first all)))
-      | inr later ↦ like_leaves (likes_part c S (x ∷ xs) ys o hx hy.1 (all_later c S x y p.partner xs ys o hx hy later p.related all))
-    ]
-
--- what is made of related elements is a part
-pub made_part : {A B : Type 0} (S : A → A → Type 0) (R Q : A → B → Type 0) (xs ys : List A) (ts us : List B) → LikePart S xs ys → AllZip R xs ts → AllZip Q ys us
-    → ((a b : A) (t u : B) → S a b → R a t → Q b u → t ≡ u) → IsPart ts us
-made_part S R Q _ _ [] [] like_nothing r q h = nothing
-made_part S R Q _ _ [] (u ∷ us) like_nothing r q h = absurd q
-made_part S R Q _ _ (t ∷ ts) us like_nothing r q h = absurd r
-made_part S R Q _ _ [] us (like_keeps s w) r q h = absurd r
-made_part S R Q _ _ (t ∷ ts) [] (like_keeps s w) r q h = absurd q
-made_part S R Q _ _ (t ∷ ts) (u ∷ us) (like_keeps {x} {y} {xs} {ys} s w) r q h =
-    let same = h x y t u s r.0 q.0 in
-    subst (λ z. IsPart (t ∷ ts) (z ∷ us)) same (keeps (made_part S R Q xs ys ts us w r.1 q.1 h))
-made_part S R Q _ _ ts [] (like_leaves w) r q h = absurd q
-made_part S R Q _ _ ts (u ∷ us) (like_leaves {y} {xs} {ys} w) r q h = leaves_out (made_part S R Q xs ys ts us w r q.1 h)

@@ -1,29 +1,25 @@
 -- Crates and features of an outline stand under their numbers: what their mappings name and where their edges lead.
-use Rattle.std.proofs.Common.{◌≡◌, ◌⊎◌, inl, inr, ℕ, zero, suc, ◌+◌, Bool, true, false, cond, List, [], ◌∷◌, ◌++◌, map, length, Option, Some, Contains, slice_get, Ordering, Less, Equal, Greater, refl, sym, ap, ◌∙◌, subst, arith, nat_cmp}
+use Rattle.std.proofs.Common.{◌≡◌, ◌⊎◌, inl, inr, ℕ, zero, suc, ◌+◌, true, false, cond, List, [], ◌∷◌, ◌++◌, map, length, Option, Some, Contains, slice_get, Ordering, Less, Equal, Greater, refl, sym, ap, ◌∙◌, subst, arith, nat_cmp}
 use Rattle.std.proofs.lemmas.Bool.{and_parts, and_from, false_from_ne_true}
 use Rattle.std.proofs.lemmas.Cmp.{nat_list_cmp_total}
 use Rattle.std.proofs.lemmas.Option.{get_or_from_slice_get, none-some, same_Some, slice_get-map, slice_get_within}
 use Rattle.std.specs.Cmp.Lexicographic.{slice_cmp}
-use Rattle.std.specs.List.{AllByRecursion, AllZip, range_with_len}
+use Rattle.std.specs.List.{AllByRecursion, range_with_len}
 use Rattle.std.specs.List.Sorted.{IsStrictlySortedBy}
 use Rattle.std.specs.Ordering.{is_eq, ordering_reverse, ordering_then}
-use Rattle.krates_cm.specs.Document.{Text, text_view}
-use Rattle.krates_ids.specs.Identity.{Identity, id_cmp}
-use Rattle.krates_selection.specs.Selection.{IsSelection}
-use Rattle.krates_selection.specs.declared.selection.EnabledFeature.{EnabledFeature}
-use Rattle.krates_selection.specs.declared.selection.Selection.{Selection}
+use Rattle.krates_cm.specs.Document.{Text}
 use Rattle.krates_rules.specs.Facts.{Id}
 use Rattle.krates_rules.specs.Referent.{id_order}
-use Rattle.krates_rules.specs.Resolved.{Resolved, id_of}
+use Rattle.krates_rules.specs.Resolved.{Resolved}
 use Rattle.krates_rules.specs.Setting.{SettingModel}
 use Rattle.krates_rules.proofs.SeenInOrder.{equal_self}
 use Rattle.krates_drawing.specs.Agreement.{DependsOn, LeadsTo}
 use Rattle.krates_drawing.specs.Connected.{IsLedInto, LeadsHome, AreConnected}
 use Rattle.krates_drawing.specs.Drawing.{AtCrate, AtFeature, Feature, line, place_of, is_crate, is_feature, id_eq, crate_number, from_crate, planned_edges, claimant, mapped, mapping, PlannedNode, PlannedCrate, PlannedFeature, planned_crate, planned_feature, planned_nodes}
-use Rattle.krates_drawing.specs.Outline.{CrateRow, IsCrateRow, FeatureRow, IsFeatureRow, Outline, IsOutline}
+use Rattle.krates_drawing.specs.Outline.{CrateRow, FeatureRow, Outline, IsOutline, crate_order, enabled_order}
 use Rattle.krates_drawing.proofs.Agreed.{claimant_of, image_of, between_leads}
 use Rattle.krates_drawing.proofs.DrawnEdges.{own, edge_in}
-use Rattle.krates_drawing.proofs.ById.{feature_by_id, feature_order, features_sorted, ids_total}
+use Rattle.krates_drawing.proofs.ById.{id_order_total}
 use Rattle.krates_drawing.proofs.Closed.{keeps_ends}
 use Rattle.krates_drawing.proofs.Holding.{holds}
 use Rattle.krates_rules.proofs.Members.{Member, member_of, contains_of, mapped_of}
@@ -47,7 +43,7 @@ then_less Equal y e h = h
 then_less Greater y e h = absurd (cc e)
 
 self_equal : (a : Id) → is_eq (id_order a a) ≡ true
-self_equal a = ap is_eq (equal_self ids_total a)
+self_equal a = ap is_eq (equal_self id_order_total a)
 
 id_not_below : (a b : Id) → a ≡ b → id_order a b ≡ Less → ⊥
 id_not_below a b e h = equal_only (id_order a a) (self_equal a) (ap (id_order a) e ∙ h)
@@ -60,63 +56,41 @@ feature_not_below a b s t e f h =
 
 -- ---- crates under their numbers
 
-crate_below : (r : Resolved) (i : Identity) (is : List Identity) (ks : List CrateRow) (p : ℕ) (k : CrateRow) → AllZip (IsCrateRow r) is ks → AllByRecursion (λ j. id_cmp i j ≡ Less) is → slice_get ks p ≡ Some k
-    → id_order (id_of i) k.id ≡ Less
-crate_below r i [] [] p k z all at = absurd (none-some k at)
-crate_below r i [] (x ∷ xs) p k z all at = absurd z
-crate_below r i (j ∷ js) [] p k z all at = absurd z
-crate_below r i (j ∷ js) (x ∷ xs) zero k z all at = let same : x ≡ k = same_Some x k at in subst (λ (q : CrateRow). id_order (id_of i) q.id ≡ Less) same (ap (id_order (id_of i)) z.0.id ∙ all.0)
-crate_below r i (j ∷ js) (x ∷ xs) (suc p) k z all at = crate_below r i js xs p k z.1 all.1 at
+crate_below : (i : CrateRow) (ks : List CrateRow) (p : ℕ) (k : CrateRow) → AllByRecursion (λ j. crate_order i j ≡ Less) ks → slice_get ks p ≡ Some k → crate_order i k ≡ Less
+crate_below i [] p k all at = absurd (none-some k at)
+crate_below i (x ∷ xs) zero k all at = subst (λ q. crate_order i q ≡ Less) (same_Some x k at) all.0
+crate_below i (x ∷ xs) (suc p) k all at = crate_below i xs p k all.1 at
 
-pub own_crate : (r : Resolved) (is : List Identity) (ks : List CrateRow) → AllZip (IsCrateRow r) is ks → IsStrictlySortedBy id_cmp is → (p : ℕ) (k : CrateRow) → slice_get ks p ≡ Some k → place_of (is_crate k.id) ks ≡ p
+own_crate : (ks : List CrateRow) → IsStrictlySortedBy crate_order ks → (p : ℕ) (k : CrateRow) → slice_get ks p ≡ Some k → place_of (is_crate k.id) ks ≡ p
 unfolding IsStrictlySortedBy
-own_crate r [] [] z sorted p k at = absurd (none-some k at)
-own_crate r [] (x ∷ xs) z sorted p k at = absurd z
-own_crate r (i ∷ is) [] z sorted p k at = absurd z
-own_crate r (i ∷ is) (x ∷ xs) z sorted zero k at =
+own_crate [] sorted p k at = absurd (none-some k at)
+own_crate (x ∷ xs) sorted zero k at =
     let here : is_crate k.id x ≡ true = subst (λ (q : CrateRow). id_eq x.id q.id ≡ true) (same_Some x k at) (id_same x.id) in
     ap (λ b. cond b 0 (suc (place_of (is_crate k.id) xs))) here
-own_crate r (i ∷ is) (x ∷ xs) z sorted (suc p) k at =
-    let below = crate_below r i is xs p k z.1 sorted.0 at in
-    let fails : is_crate k.id x ≡ false = false_from_ne_true (is_crate k.id x) (λ h. id_not_below (id_of i) k.id (sym z.0.id ∙ id_is x.id k.id h) below) in
-    ap (λ b. cond b 0 (suc (place_of (is_crate k.id) xs))) fails ∙ ap suc (own_crate r is xs z.1 sorted.1 p k at)
+own_crate (x ∷ xs) sorted (suc p) k at =
+    let below = crate_below x xs p k sorted.0 at in
+    let fails : is_crate k.id x ≡ false = false_from_ne_true (is_crate k.id x) (λ h. id_not_below x.id k.id (id_is x.id k.id h) below) in
+    ap (λ b. cond b 0 (suc (place_of (is_crate k.id) xs))) fails ∙ ap suc (own_crate xs sorted.1 p k at)
 
 -- ---- features under theirs
 
--- a feature of the outline by the id of its crate
-abbrev key : FeatureRow → Id × Text
-key n = (n.krate, n.name)
-
-feature_below : (f : Id × Text) (ns : List FeatureRow) (j : ℕ) (n : FeatureRow) → AllByRecursion (λ g. feature_order f g ≡ Less) (map key ns) → slice_get ns j ≡ Some n → feature_order f (key n) ≡ Less
+feature_below : (f : FeatureRow) (ns : List FeatureRow) (j : ℕ) (n : FeatureRow) → AllByRecursion (λ g. enabled_order f g ≡ Less) ns → slice_get ns j ≡ Some n → enabled_order f n ≡ Less
 feature_below f [] j n all at = absurd (none-some n at)
-feature_below f (x ∷ xs) zero n all at = subst (λ (q : FeatureRow). feature_order f (key q) ≡ Less) (same_Some x n at) all.0
+feature_below f (x ∷ xs) zero n all at = subst (λ q. enabled_order f q ≡ Less) (same_Some x n at) all.0
 feature_below f (x ∷ xs) (suc j) n all at = feature_below f xs j n all.1 at
 
-pub own_feature : (ns : List FeatureRow) → IsStrictlySortedBy feature_order (map key ns) → (j : ℕ) (n : FeatureRow) → slice_get ns j ≡ Some n → place_of (is_feature n.krate n.name) ns ≡ j
+own_feature : (ns : List FeatureRow) → IsStrictlySortedBy enabled_order ns → (j : ℕ) (n : FeatureRow) → slice_get ns j ≡ Some n → place_of (is_feature n.krate n.name) ns ≡ j
 unfolding IsStrictlySortedBy
 own_feature [] sorted j n at = absurd (none-some n at)
 own_feature (x ∷ xs) sorted zero n at =
     let here : is_feature n.krate n.name x ≡ true = subst (λ (q : FeatureRow). is_feature q.krate q.name x ≡ true) (same_Some x n at) (and_from _ _ (id_same x.krate) (text_same x.name)) in
     ap (λ b. cond b 0 (suc (place_of (is_feature n.krate n.name) xs))) here
 own_feature (x ∷ xs) sorted (suc j) n at =
-    let below = feature_below (key x) xs j n sorted.0 at in
+    let below = feature_below x xs j n sorted.0 at in
     let fails : is_feature n.krate n.name x ≡ false = false_from_ne_true (is_feature n.krate n.name x) (λ h. (
     let w = and_parts _ _ h in
     feature_not_below x.krate n.krate x.name n.name (id_is x.krate n.krate w.0) (text_is x.name n.name w.1) below)) in
     ap (λ b. cond b 0 (suc (place_of (is_feature n.krate n.name) xs))) fails ∙ ap suc (own_feature xs sorted.1 j n at)
-
--- the features of the outline are those of the selection
-same_keys : (r : Resolved) (whole : Bool) (kids : List Identity) (fs : List EnabledFeature) (ns : List FeatureRow) → AllZip (IsFeatureRow r whole kids) fs ns → map (feature_by_id kids) fs ≡ map key ns
-same_keys r whole kids [] [] z = refl
-same_keys r whole kids [] (n ∷ ns) z = absurd z
-same_keys r whole kids (f ∷ fs) [] z = absurd z
-same_keys r whole kids (f ∷ fs) (n ∷ ns) z =
-    let krate = ap (λ i. (i, text_view f.name)) (sym z.0.krate) in
-    let name = ap (λ t. (n.krate, t)) (sym z.0.name) in
-    ap (λ k. k ∷ map (feature_by_id kids) fs) (krate ∙ name) ∙ ap (λ ks. key n ∷ ks) (same_keys r whole kids fs ns z.1)
-
-keys_sorted : (r : Resolved) (s : SettingModel) (x : Selection) (t : Outline) → IsSelection r s x → IsOutline r s x t → IsStrictlySortedBy feature_order (map key t.features)
-keys_sorted r s x t h w = subst (IsStrictlySortedBy feature_order) (same_keys r s.all_named x.krates.items x.features.items t.features w.features) (features_sorted x.krates.items x.features.items h.krates h.homes h.features)
 
 -- ---- nodes by number
 
@@ -161,34 +135,34 @@ record CrateHere (t : Outline) (p : ℕ) (id : Id) (m : List (Option ℕ)) : Typ
   id_is : krate.id ≡ id
   mapping_is : mapping t krate ≡ m
 
-crate_of_node : (r : Resolved) (s : SettingModel) (x : Selection) (t : Outline) → IsSelection r s x → IsOutline r s x t → (p : ℕ) (id : Id) (m : List (Option ℕ)) → NodeAt t p (PlannedCrate id m) → CrateHere t p id m
-crate_of_node r s x t selected outline p id m (of_crate k at is) =
-    record { krate = k; member = got_member t.krates p k at; number = own_crate r x.krates.items t.krates outline.krates selected.krates p k at; id_is = cc is; mapping_is = cc is }
-crate_of_node r s x t selected outline p id m (of_feature j n at place is) = absurd (cc is)
+crate_of_node : (r : Resolved) (s : SettingModel) (t : Outline) → IsOutline r s t → (p : ℕ) (id : Id) (m : List (Option ℕ)) → NodeAt t p (PlannedCrate id m) → CrateHere t p id m
+crate_of_node r s t outline p id m (of_crate k at is) =
+    record { krate = k; member = got_member t.krates p k at; number = own_crate t.krates outline.by_id p k at; id_is = cc is; mapping_is = cc is }
+crate_of_node r s t outline p id m (of_feature j n at place is) = absurd (cc is)
 
-leads_home : (r : Resolved) (s : SettingModel) (x : Selection) (t : Outline) → IsSelection r s x → IsOutline r s x t → (n d : ℕ) (name : Text) → NodeAt t n (PlannedFeature d name) → LeadsHome (planned_edges t) n d
-leads_home r s x t selected outline n d name (of_crate k at is) = absurd (cc is)
-leads_home r s x t selected outline n d name (of_feature j f at place is) =
+leads_home : (r : Resolved) (s : SettingModel) (t : Outline) → IsOutline r s t → (n d : ℕ) (name : Text) → NodeAt t n (PlannedFeature d name) → LeadsHome (planned_edges t) n d
+leads_home r s t outline n d name (of_crate k at is) = absurd (cc is)
+leads_home r s t outline n d name (of_feature j f at place is) =
     let l = line t (AtFeature f.krate f.name) (AtCrate f.krate) Feature in
-    let here : place_of (is_feature f.krate f.name) t.features ≡ j = own_feature t.features (keys_sorted r s x t selected outline) j f at in
+    let here : place_of (is_feature f.krate f.name) t.features ≡ j = own_feature t.features outline.by_crate j f at in
     record {
       line = l;
-      among = contains_of (planned_edges t) l (edge_in t _ _ _ (keeps_ends r s t (holds r s x t selected outline)) (own f (got_member t.features j f at)));
+      among = contains_of (planned_edges t) l (edge_in t _ _ _ (keeps_ends r s t (holds r s t outline)) (own f (got_member t.features j f at)));
       from = ap (λ i. length t.krates + i) here ∙ place;
       to = cc is;
     }
 
-led_into : (r : Resolved) (s : SettingModel) (x : Selection) (t : Outline) → IsSelection r s x → IsOutline r s x t → (p d : ℕ) → DependsOn (planned_nodes t) p d → IsLedInto (planned_nodes t) (planned_edges t) p d
+led_into : (r : Resolved) (s : SettingModel) (t : Outline) → IsOutline r s t → (p d : ℕ) → DependsOn (planned_nodes t) p d → IsLedInto (planned_nodes t) (planned_edges t) p d
 unfolding mapping
-led_into r s x t selected outline p d w =
-    let here = crate_of_node r s x t selected outline p w.id w.mapping (node_at t p (PlannedCrate w.id w.mapping) w.at) in
+led_into r s t outline p d w =
+    let here = crate_of_node r s t outline p w.id w.mapping (node_at t p (PlannedCrate w.id w.mapping) w.at) in
     let mine = from_crate t here.krate.id in
     let entry = mapped_of (mapped t mine) (range_with_len 0 here.krate.declared) (Some d) (member_of (mapping t here.krate) (Some d) (subst (λ m. Contains m (Some d)) (sym here.mapping_is) w.among)) in
     let q = image_of (λ z. crate_number t z.id) (claimant t mine entry.from) d entry.is in
     let claim = claimant_of t here.krate.id entry.from q.0 q.1 in
     let kept : HasCrate t (q.0).id = record { krate = q.0; member = claim.0; id = refl } in
     let node = crate_node t (q.0).id kept in
-    let leads = between_leads r s t here.krate.id (q.0).id (holds r s x t selected outline) claim.1.between in
+    let leads = between_leads r s t here.krate.id (q.0).id (holds r s t outline) claim.1.between in
     record {
       id = node.krate.id;
       mapping = mapping t node.krate;
@@ -197,11 +171,11 @@ led_into r s x t selected outline p d w =
     }
 
 pub connected : AreConnected
-connected r s x selected t outline = record {
-  mappings = λ p d w. led_into r s x t selected outline p d w;
-  features = λ n d name at. leads_home r s x t selected outline n d name (node_at t n (PlannedFeature d name) at);
+connected r s t outline = record {
+  mappings = λ p d w. led_into r s t outline p d w;
+  features = λ n d name at. leads_home r s t outline n d name (node_at t n (PlannedFeature d name) at);
   crates = λ p id m at.
-      (let here = crate_of_node r s x t selected outline p id m (node_at t p (PlannedCrate id m) at) in
+      (let here = crate_of_node r s t outline p id m (node_at t p (PlannedCrate id m) at) in
       record {
         kept = record { krate = here.krate; among = contains_of t.krates here.krate here.member; id = here.id_is };
         number = ap (crate_number t) (sym here.id_is) ∙ here.number;

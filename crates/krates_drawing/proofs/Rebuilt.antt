@@ -204,9 +204,9 @@ filtered_of r s g k t w none roots p x =
 -- ---- the law
 
 pub holds_rebuild : IsNarrowing → FilteredHoldsRebuild
-holds_rebuild narrowing r s k g more x selected t outline =
+holds_rebuild narrowing r s k g more t outline =
     let within : (f : Fact) → Derivable (questions r (ignoring s g)) f → Derivable (questions r s) f = (narrowing r s (ignoring s g) (ignores_more g k scopes.All more)).facts in
-    let w : Pair r s g k t = record { more = more; holds = holds r s x t selected outline; within = within } in
+    let w : Pair r s g k t = record { more = more; holds = holds r s t outline; within = within } in
     record {
       all = λ has p d. filtered_in r s g k t w has p d;
       no_other = λ none roots p f. filtered_of r s g k t w none roots p f;

@@ -15,10 +15,10 @@ each P [] h = tt
 each P (x ∷ xs) h = (h x (inl refl), each P xs (λ y m. h y (inr m)))
 
 pub all_stand : EndsStand
-all_stand r s x selected t outline = All-from_recursion (HasEnds (length (planned_nodes t))) (planned_edges t) (each (HasEnds (length (planned_nodes t))) (planned_edges t) stands)
+all_stand r s t outline = All-from_recursion (HasEnds (length (planned_nodes t))) (planned_edges t) (each (HasEnds (length (planned_nodes t))) (planned_edges t) stands)
   where
     stands : (l : PlannedEdge) → Member (planned_edges t) l → HasEnds (length (planned_nodes t)) l
     stands l m =
         let d = drawn_of t l m in
-        let k = ends_stand r s t d.from d.to d.tie (holds r s x t selected outline) d.planned in
+        let k = ends_stand r s t d.from d.to d.tie (holds r s t outline) d.planned in
         subst (HasEnds (length (planned_nodes t))) d.is (number_below t d.from k.0, number_below t d.to k.1)

@@ -6,9 +6,7 @@ use Rattle.krates_rules.specs.Derivation.{Derivable}
 use Rattle.krates_rules.specs.Facts.{Id, Edge, Kept}
 use Rattle.krates_rules.specs.Questions.{IsDeclaredAt, questions}
 use Rattle.krates_rules.specs.Resolved.{Resolved}
-use Rattle.krates_selection.specs.Selection.{IsSelection}
 use Rattle.krates_rules.specs.Setting.{SettingModel}
-use Rattle.krates_selection.specs.declared.selection.Selection.{Selection}
 use Rattle.krates_drawing.specs.Drawing.{PlannedEdge, PlannedNode, PlannedCrate, PlannedFeature, crate_number, planned_edges, planned_nodes}
 use Rattle.krates_drawing.specs.Paths.{IsDrawn}
 use Rattle.krates_drawing.specs.Outline.{Outline, IsOutline}
@@ -47,5 +45,5 @@ abbrev pub Agrees : Outline → Id → Id → Type 0
 Agrees t p d = DependsOn (planned_nodes t) (crate_number t p) (crate_number t d) ↔ LeadsTo (planned_nodes t) (planned_edges t) (crate_number t p) (crate_number t d)
 
 abbrev pub DependenciesAgree : Type 0
-DependenciesAgree = (r : Resolved) (s : SettingModel) → NoneDoubled r.metadata r.graph → (x : Selection) → IsSelection r s x → (t : Outline) → IsOutline r s x t
+DependenciesAgree = (r : Resolved) (s : SettingModel) → NoneDoubled r.metadata r.graph → (t : Outline) → IsOutline r s t
     → (p d : Id) → IsDrawn t p → IsDrawn t d → OneEach r s p → Agrees t p d

@@ -4,9 +4,7 @@ use Rattle.krates_cm.specs.Document.{ResolveModel, MetadataModel}
 use Rattle.krates_rules.specs.Admission.{NoneDoubled}
 use Rattle.krates_rules.specs.Reordering.{Reorders}
 use Rattle.krates_rules.specs.Resolved.{resolved}
-use Rattle.krates_selection.specs.Selection.{IsSelection}
 use Rattle.krates_rules.specs.Setting.{SettingModel}
-use Rattle.krates_selection.specs.declared.selection.Selection.{Selection}
 use Rattle.krates_drawing.specs.Drawing.{planned_edges, planned_nodes}
 use Rattle.krates_drawing.specs.Outline.{Outline, IsOutline}
 
@@ -19,11 +17,9 @@ pub record DrawAlike (t v : Outline) : Type 0 where
 -- documents that differ only in order are drawn alike
 abbrev pub IsDrawnAlike : Type 0
 IsDrawnAlike = (m n : MetadataModel) → Reorders m n → (g h : ResolveModel) → m.resolve ≡ Some g → n.resolve ≡ Some h → NoneDoubled n h → (s : SettingModel)
-    → (x y : Selection) → IsSelection (resolved m g) s x → IsSelection (resolved n h) s y → (t v : Outline) → IsOutline (resolved m g) s x t → IsOutline (resolved n h) s y v
-    → DrawAlike t v
+    → (t v : Outline) → IsOutline (resolved m g) s t → IsOutline (resolved n h) s v → DrawAlike t v
 
--- A selection of one of two documents that differ only in order is a selection of the other, and its outline is its outline there.
+-- An outline of one of two documents that differ only in order is an outline of the other.
 abbrev pub IsOutlineThere : Type 0
 IsOutlineThere = (m n : MetadataModel) → Reorders m n → (g h : ResolveModel) → m.resolve ≡ Some g → n.resolve ≡ Some h → NoneDoubled n h → (s : SettingModel)
-    → (x : Selection) → IsSelection (resolved m g) s x → (t : Outline) → IsOutline (resolved m g) s x t
-    → IsSelection (resolved n h) s x × IsOutline (resolved n h) s x t
+    → (t : Outline) → IsOutline (resolved m g) s t → IsOutline (resolved n h) s t

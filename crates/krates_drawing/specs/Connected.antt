@@ -4,8 +4,6 @@ use Rattle.krates_cm.specs.Document.{Text}
 use Rattle.krates_rules.specs.Facts.{Id}
 use Rattle.krates_rules.specs.Resolved.{Resolved}
 use Rattle.krates_rules.specs.Setting.{SettingModel}
-use Rattle.krates_selection.specs.Selection.{IsSelection}
-use Rattle.krates_selection.specs.declared.selection.Selection.{Selection}
 use Rattle.krates_drawing.specs.Agreement.{DependsOn, LeadsTo}
 use Rattle.krates_drawing.specs.Drawing.{PlannedEdge, PlannedNode, PlannedCrate, PlannedFeature, crate_number, planned_edges, planned_nodes}
 use Rattle.krates_drawing.specs.Paths.{IsDrawn}
@@ -38,6 +36,6 @@ pub record IsConnected (t : Outline) : Type 0 where
   -- the node of a crate has the number of the crate
   pub crates : (p : ℕ) (id : Id) (mapping : List (Option ℕ)) → slice_get (planned_nodes t) p ≡ Some (PlannedCrate id mapping) → IsNumbered t id p
 
--- it holds of the outline of every selection
+-- it holds of every outline of a document
 abbrev pub AreConnected : Type 0
-AreConnected = (r : Resolved) (s : SettingModel) (x : Selection) → IsSelection r s x → (t : Outline) → IsOutline r s x t → IsConnected t
+AreConnected = (r : Resolved) (s : SettingModel) (t : Outline) → IsOutline r s t → IsConnected t

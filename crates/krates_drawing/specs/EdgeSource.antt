@@ -6,9 +6,8 @@ use Rattle.krates_selection.specs.declared.selection.ToggledFeature.{ToggledFeat
 use Rattle.krates_rules.specs.Facts.{Id}
 use Rattle.krates_drawing.specs.Drawing as drawing
 use Rattle.krates_drawing.specs.Drawing.{from_crate, leads_to, pair_lines}
-use Rattle.krates_drawing.specs.Outline.{toggle_of}
 use Rattle.krates_drawing.specs.OutlineOrder.{AreByChild, AreByKrate, HaveEnds, children_of, is_by}
-use Rattle.krates_drawing.specs.Views.{planned_edge_view, kids_in, edge_row_view, outline_view}
+use Rattle.krates_drawing.specs.Views.{planned_edge_view, kids_in, edge_row_view, outline_view, toggle_of}
 use Rattle.krates_drawing.specs.declared.edge.PlannedEdge.{PlannedEdge}
 use Rattle.krates_drawing.specs.declared.edge_source.CrateSource.{CrateSource}
 use Rattle.krates_drawing.specs.declared.outline.EdgeRow.{EdgeRow}

@@ -1,9 +1,7 @@
 -- The ends of the drawn edges.
 use Rattle.std.specs.Prelude.{ℕ, ◌<◌, All, length}
 use Rattle.krates_rules.specs.Resolved.{Resolved}
-use Rattle.krates_selection.specs.Selection.{IsSelection}
 use Rattle.krates_rules.specs.Setting.{SettingModel}
-use Rattle.krates_selection.specs.declared.selection.Selection.{Selection}
 use Rattle.krates_drawing.specs.Drawing.{PlannedEdge, planned_edges, planned_nodes}
 use Rattle.krates_drawing.specs.Outline.{Outline, IsOutline}
 
@@ -13,4 +11,4 @@ HasEnds n l = (l.source < n) × (l.target < n)
 
 -- each drawn edge leads from a node to a node
 abbrev pub EndsStand : Type 0
-EndsStand = (r : Resolved) (s : SettingModel) (x : Selection) → IsSelection r s x → (t : Outline) → IsOutline r s x t → All (HasEnds (length (planned_nodes t))) (planned_edges t)
+EndsStand = (r : Resolved) (s : SettingModel) (t : Outline) → IsOutline r s t → All (HasEnds (length (planned_nodes t))) (planned_edges t)

@@ -22,3 +22,4 @@ pub mod Rebuilding
 pub mod Stored
 pub mod TextSet
 pub mod Views
+pub mod WorkOfOutline

@@ -4,8 +4,6 @@ use Rattle.krates_rules.specs.Admission.{NoneDoubled}
 use Rattle.krates_rules.specs.Narrowing.{IsNarrower}
 use Rattle.krates_rules.specs.Resolved.{Resolved}
 use Rattle.krates_rules.specs.Setting.{SettingModel}
-use Rattle.krates_selection.specs.Selection.{IsSelection}
-use Rattle.krates_selection.specs.declared.selection.Selection.{Selection}
 use Rattle.krates_drawing.specs.Drawing.{planned_edges, planned_nodes}
 use Rattle.krates_drawing.specs.Outline.{Outline, IsOutline}
 
@@ -28,5 +26,4 @@ pub record DrawsNoMore (t v : Outline) : Type 0 where
 -- under a narrower setting no more is drawn
 abbrev pub NarrowerDrawsNoMore : Type 0
 NarrowerDrawsNoMore = (r : Resolved) → NoneDoubled r.metadata r.graph → (wide narrow : SettingModel) → IsNarrower wide narrow
-    → (x y : Selection) → IsSelection r narrow x → IsSelection r wide y → (t v : Outline) → IsOutline r narrow x t → IsOutline r wide y v
-    → DrawsNoMore t v
+    → (t v : Outline) → IsOutline r narrow t → IsOutline r wide v → DrawsNoMore t v

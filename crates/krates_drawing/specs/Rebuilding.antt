@@ -8,12 +8,10 @@ use Rattle.krates_rules.specs.Questions.{questions}
 use Rattle.krates_rules.specs.Resolved.{Resolved, ReadsAs, IsMember}
 use Rattle.krates_rules.specs.Roots.{IsRoot}
 use Rattle.krates_rules.specs.Rules.{Questions}
-use Rattle.krates_selection.specs.Selection.{IsSelection}
 use Rattle.krates_rules.specs.Setting.{SettingModel}
 use Rattle.krates_rules.specs.declared.kind.DepKind.{DepKind}
 use Rattle.krates_rules.specs.declared.kind.IgnoredKinds.{IgnoredKinds}
 use Rattle.krates_rules.specs.declared.kind.Scope.TheVariants as scopes
-use Rattle.krates_selection.specs.declared.selection.Selection.{Selection}
 use Rattle.krates_drawing.specs.Paths.{IsFiltered}
 use Rattle.krates_drawing.specs.Outline.{Outline, IsOutline}
 
@@ -38,5 +36,4 @@ pub record HoldsRebuild (r : Resolved) (first second : SettingModel) (k : DepKin
 -- for every document and setting, and every kind that is ignored beside what the setting ignores
 abbrev pub FilteredHoldsRebuild : Type 0
 FilteredHoldsRebuild = (r : Resolved) (s : SettingModel) (k : DepKind) (ignored : IgnoredKinds) → IgnoresMore s.ignored ignored k scopes.All
-    → (x : Selection) → IsSelection r s x → (t : Outline) → IsOutline r s x t
-    → HoldsRebuild r s (record s { ignored = ignored }) k t
+    → (t : Outline) → IsOutline r s t → HoldsRebuild r s (record s { ignored = ignored }) k t

@@ -7,10 +7,11 @@ use Rattle.krates_rules.specs.Resolved.{id_of}
 use Rattle.krates_ids.specs.Identity.{Identity}
 use Rattle.krates_selection.specs.CrateNumbers.{id_at, no_id}
 use Rattle.krates_selection.specs.Selection.{edge_view}
+use Rattle.krates_selection.specs.declared.selection.ToggledFeature.{ToggledFeature}
 use Rattle.krates_drawing.specs.Drawing as drawing
 use Rattle.krates_drawing.specs.Drawing.{EdgeModel, Dep, Feature, DepFeature, PlannedFeature, mapping, planned_feature}
 use Rattle.krates_drawing.specs.Outline as model
-use Rattle.krates_drawing.specs.Outline.{OwnFeature, Crates, FeatureOf, toggle_of}
+use Rattle.krates_drawing.specs.Outline.{OwnFeature, Crates, FeatureOf}
 use Rattle.krates_drawing.specs.declared.edge.PlannedEdge.{PlannedEdge}
 use Rattle.krates_drawing.specs.declared.edge.Edge.{Edge}
 use Rattle.krates_drawing.specs.declared.edge.Edge.TheVariants as edge
@@ -43,7 +44,7 @@ krate_at t n = get_or (map crate_row_view t.krates.items) n no_krate
 
 -- an edge between these crates
 abbrev pub edge_row_view : List Identity → EdgeRow → model.EdgeRow
-edge_row_view kids l = record { edge = edge_view kids l.edge; place = l.edge.declared; given = map text_view l.given.items }
+edge_row_view kids l = record { edge = edge_view kids l.edge; place = l.edge.declared; first = l.edge.place; given = map text_view l.given.items }
 
 abbrev pub meaning_view : Meaning → model.Meaning
 meaning_view (meaning.OwnFeature name) = OwnFeature (text_view name)
@@ -56,6 +57,10 @@ meanings_view v = map meaning_view v.items
 -- a feature of one of these crates
 abbrev pub feature_row_view : List Identity → FeatureRow → model.FeatureRow
 feature_row_view kids n = record { krate = id_at kids n.feature.krate; name = text_view n.feature.name; meanings = map meaning_view n.meanings.items }
+
+-- a toggled feature of these crates
+abbrev pub toggle_of : List Identity → ToggledFeature → model.Toggle
+toggle_of kids t = record { by = id_at kids t.by; krate = id_at kids t.krate; name = text_view t.name }
 
 abbrev pub outline_view : Outline → model.Outline
 outline_view t = record {

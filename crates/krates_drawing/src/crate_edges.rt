@@ -4,9 +4,8 @@ ghost use Rattle.krates_selection.specs.CrateNumbers.{HasEnds, id_at};
 ghost use Rattle.krates_drawing.specs.Drawing.{AtFeature, PlannedEdge as DrawnEdge, crate_lines, crate_number as number_of_crate, pair_lines, uses};
 ghost use Rattle.krates_drawing.specs.EdgeSource.{IsDrawnTo, IsCrateSource, AreToggledBy};
 ghost use Rattle.krates_drawing.specs.LinesFrom.{line_from};
-ghost use Rattle.krates_drawing.specs.Outline.{toggle_of};
 ghost use Rattle.krates_drawing.specs.OutlineOrder.{AreByChild, HaveEnds, IsFirstTo};
-ghost use Rattle.krates_drawing.specs.Views.{kids_in, krate_at, edge_row_view, outline_view, Draws};
+ghost use Rattle.krates_drawing.specs.Views.{kids_in, krate_at, edge_row_view, outline_view, Draws, toggle_of};
 
 use crate::edge::{Edge, PlannedEdge};
 use crate::edge_source::{CrateSource, source_at};

@@ -8,7 +8,8 @@ ghost use Rattle.krates_selection.specs.Selection.{IsSelection};
 ghost use Rattle.krates_drawing.specs.Outline.{IsOutline};
 ghost use Rattle.krates_drawing.specs.Gathered.{IsEdgeWith, IsFeatureWith, MeaningsRecorded, count_in, dependency_in, given_in, row_in, values_in};
 ghost use Rattle.krates_drawing.specs.CrateRecord.{package_at as package_recorded};
-ghost use Rattle.krates_drawing.specs.Views.{meaning_view, outline_view};
+ghost use Rattle.krates_drawing.specs.Views.{kids_in, meaning_view, outline_view};
+ghost use Rattle.krates_drawing.specs.WorkOfOutline.{work_of};
 
 use crate::crate_record::{CrateRecord, node_at, package_at, records_of};
 use crate::meanings::{given_of, meanings_of};
@@ -17,6 +18,7 @@ use krates_cm::{Dependency, Package};
 use krates_document::Setting;
 use krates_questions::Document;
 use krates_selection::{EnabledFeature, KeptEdge, Selection};
+use krates_text::laws::one_reference;
 use std::alloc::{AllocError, Global};
 
 /// How many dependencies the package of a crate declares; none where it has no package.
@@ -150,7 +152,8 @@ fn crate_rows(alloc: Global, records: Vec<CrateRecord<'_>>) -> Result<Vec<CrateR
         .collect(alloc)
 }
 
-/// The outline of a selection under a setting: beside each crate, edge and feature what the document says of it.
+/// The outline of a selection under a setting: beside each crate, edge and feature what the document says of it. It has the selection's
+/// crates, and its references count as often as those of the selection.
 ///
 /// The only error is running out of memory. Time: O(n log n) for n crates, edges, features and references.
 pub fn outline_of<'a>(
@@ -160,10 +163,13 @@ pub fn outline_of<'a>(
     selection: Selection,
 ) -> Result<Outline, AllocError>
     requires selected { IsSelection (resolved_view document.now) setting.now selection }
-    ensures { IfOk result (λ outline. IsOutline (resolved_view document.now) setting.now selection
+    ensures outline { IfOk result (λ outline. IsOutline (resolved_view document.now) setting.now
         (outline_view outline)) }
+    ensures krates { IfOk result (λ outline. kids_in outline ≡ selection.krates.items) }
+    ensures work { IfOk result (λ outline. selection.work ≡ work_of (outline_view outline)) }
 {
     document.agrees();
+    one_reference();
     let Selection {
         krates,
         edges,

@@ -23,7 +23,7 @@ pub fn dependencies_agree()
     ensures { DependenciesAgree }
 {}
 
-/// Each edge that is drawn of a selection leads from a node to a node.
+/// Each edge that is drawn leads from a node to a node.
 pub fn ends_stand()
     ensures { EndsStand }
 {}
@@ -37,8 +37,7 @@ pub fn drawn_alike()
     texts::one_reference();
 }
 
-/// What is selected of one of two documents that differ in order alone is selected of the other too, and drawn from
-/// the same outline.
+/// What is an outline of one of two documents that differ in order alone is an outline of the other.
 pub fn outline_there()
     ensures { IsOutlineThere }
 {

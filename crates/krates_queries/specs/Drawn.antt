@@ -7,9 +7,7 @@ use Rattle.krates_drawing.specs.Outline.{Outline, IsOutline}
 use Rattle.krates_drawing.specs.Stored.{IsStoredAs}
 use Rattle.krates_drawing.specs.declared.edge.Edge.{Edge}
 use Rattle.krates_graph.specs.Graph.{StoredGraph}
-use Rattle.krates_selection.specs.Selection.{IsSelection}
-use Rattle.krates_selection.specs.declared.selection.Selection.{Selection}
-use Rattle.krates_rules.specs.Resolved.{HasGraphWith, Resolved, id_of, resolved}
+use Rattle.krates_rules.specs.Resolved.{HasGraphWith, id_of, resolved}
 use Rattle.krates_rules.specs.Setting.{SettingModel}
 use Rattle.krates_drawing.specs.declared.node.Node.{Node}
 use Rattle.krates_drawing.specs.declared.node.Node.TheVariants.{Krate, Feature}
@@ -24,15 +22,9 @@ pub record IsDrawing {N E : Type 0} (made : Edge → E → Type 0) (t : Outline)
   pub nodes : map planned_node g.nodes ≡ planned_nodes t
   pub edges : AllZip (IsStoredAs made) (planned_edges t) g.edges
 
--- the outline is that of exactly what is derivable
-pub record HasOutline (r : Resolved) (s : SettingModel) (t : Outline) : Type 0 where
-  pub selection : Selection
-  pub selected : IsSelection r s selection
-  pub is_outline : IsOutline r s selection t
-
--- the outline is that of what is selected of the document
+-- the outline is that of exactly what is derivable of the document
 abbrev pub IsOutlineFor : MetadataModel → SettingModel → Outline → Type 0
-IsOutlineFor m s t = HasGraphWith m (λ g. HasOutline (resolved m g) s t)
+IsOutlineFor m s t = HasGraphWith m (λ g. IsOutline (resolved m g) s t)
 
 -- The graph is the drawing of exactly what is derivable.
 pub record IsDrawn {N E : Type 0} (made : Edge → E → Type 0) (m : MetadataModel) (s : SettingModel) (g : StoredGraph (Node N) E) : Type 0 where

@@ -126,8 +126,8 @@ new-requires-clause-explained g c =
     let n = numbered g.E.FromEdge.made_from_edge (outline_view c.in_ok-sketch.sketch.outline) c.in_ok-graph.graph graph.drawing c.in_ok-graph.ensures.within c.in_ok-graph.ensures.limits in
     let nodes = numbered_graph o g.N.FromPackage.made_from g.E.FromEdge.made_from_edge c.args.metadata c.args.setting.now c.in_ok-sketch.sketch.outline division c.in_ok-graph.graph outline_is
     b graph n in
-    explains o g.N.FromPackage.made_from g.E.FromEdge.made_from_edge c.args.metadata c.args.setting.now c.in_ok-sketch.sketch.outline division c.in_ok-graph.graph c.in_ok-sketch.ensures.sketched.selection
-    c.in_ok-sketch.sketch.steps.items outline_is b graph nodes c.in_ok-sketch.ensures.sketched.selected c.in_ok-sketch.ensures.sketched.steps
+    explains o g.N.FromPackage.made_from g.E.FromEdge.made_from_edge c.args.metadata c.args.setting.now c.in_ok-sketch.sketch.outline division c.in_ok-graph.graph
+    c.in_ok-sketch.sketch.steps.items outline_is b graph nodes c.in_ok-sketch.ensures.sketched.steps
 
 pub returns-clause-built : goal.returns-clause-built
 returns-clause-built g c =
@@ -145,9 +145,9 @@ returns-clause-built g c =
     c.in_ok-sketch.ensures.sketched.outline c.in_ok-graph.ensures.graph.drawing c.in_ok-graph.ensures.graph.first in
     let o : Compares = record { total = c.comparison.ensures.total; tells = c.comparison.ensures.order } in
     let steps = c.in_ok-sketch.sketch.steps.items in
-    let explained = (kept_steps o g.N.FromPackage.made_from g.E.FromEdge.made_from_edge c.args.metadata c.args.setting.now c.in_ok-sketch.sketch.outline division c.in_ok-graph.graph c.in_ok-sketch.ensures.sketched.selection steps b c.in_ok-graph.ensures.graph
-    c.in_ok-sketch.ensures.sketched.selected c.in_ok-sketch.ensures.sketched.steps).explained in
+    let explained = (kept_steps o g.N.FromPackage.made_from g.E.FromEdge.made_from_edge c.args.metadata c.args.setting.now c.in_ok-sketch.sketch.outline division c.in_ok-graph.graph steps c.in_ok-sketch.ensures.sketched.outline b c.in_ok-graph.ensures.graph
+    c.in_ok-sketch.ensures.sketched.steps).explained in
     let run = handed (λ _. FoldsTo g.F.OnFilter.filters c.args.filter.now (krate_packages division.others.items) c.handed_over.new.filter) c.members_of-found.result those c.in_ok-members.ensures.same c.in_ok-members.ensures.run in
-    rw (c.new.ensures, c.in_ok-sketch.ensures.sketched.work, c.rest_of-rest.ensures) (is_built g.F.OnFilter.filters g.N.FromPackage.made_from g.E.FromEdge.made_from_edge c.args.metadata c.args.setting.now c.in_ok-sketch.sketch.outline division c.in_ok-graph.graph numbers c.args.filter.now c.handed_over.new.filter c.in_ok-sketch.ensures.sketched.selection
-    c.in_ok-sketch.ensures.sketched.outline b c.in_ok-graph.ensures.graph run c.in_ok-sketch.ensures.sketched.selected
+    rw (c.new.ensures, c.rest_of-rest.ensures) (is_built g.F.OnFilter.filters g.N.FromPackage.made_from g.E.FromEdge.made_from_edge c.args.metadata c.args.setting.now c.in_ok-sketch.sketch.outline division c.in_ok-graph.graph numbers c.args.filter.now c.handed_over.new.filter c.in_ok-sketch.sketch.work
+    c.in_ok-sketch.ensures.sketched.outline b c.in_ok-graph.ensures.graph run c.in_ok-sketch.ensures.sketched.work
     (resolvable (metadata_view c.args.metadata) (ids_view c.args.ids) c.requires.admitted) (numbered g.E.FromEdge.made_from_edge (outline_view c.in_ok-sketch.sketch.outline) c.in_ok-graph.graph c.in_ok-graph.ensures.graph.drawing c.in_ok-graph.ensures.within c.in_ok-graph.ensures.limits) members agree steps explained)

@@ -1,4 +1,4 @@
-use Rattle.std.proofs.Common.{List, refl, sym, ◌∙◌, subst}
+use Rattle.std.proofs.Common.{List, sym, ◌∙◌, subst}
 use Rattle.krates_ids.specs.Identity.{Identity}
 use Rattle.krates_selection.specs.KeptTables.{AreStepsOf, IsKeptIn}
 use Rattle.krates_selection.specs.declared.trace.NumberedStep.{NumberedStep}
@@ -6,6 +6,7 @@ use Rattle.std.proofs.lemmas.Result.{err_from_is_err_and}
 use Rattle.krates_cm.specs.Document.{metadata_view}
 use Rattle.krates_drawing.specs.Views.{outline_view}
 use Rattle.krates_questions.specs.Lookup.{resolved_view}
+use Rattle.krates_queries.specs.KeptSteps.{AreStepsFor}
 use Rattle.krates_selection.specs.Explained.{IsExplained, IsExplainedOf}
 use Rattle.krates_selection.specs.Selection.{IsSelection, IsSelectionOf, RefusesSelection}
 use Rattle.krates_questions.proofs.ReadIds.{each_read}
@@ -60,9 +61,7 @@ returns-clause-sketched c =
     let of_krates = subst (λ (ks : List Identity). AreStepsOf r s ks c.deref-3.result.now steps) (c.new-tables.ensures.krates ∙ c.deref.ensures.value) (rw (c.new-tables.ensures.context) at c.in_ok-steps.ensures) in
     let of_steps = subst (λ (ts : List NumberedStep). AreStepsOf r s x.krates.items ts steps) c.deref-3.ensures.value of_krates in
     record {
-      selection = x;
-      selected = of;
-      outline = outline_told m s x r (outline_view c.in_ok-outline.outline) of d c.in_ok-outline.ensures;
-      steps = steps_for m s x r steps of shown d of_steps;
-      work = refl;
+      outline = outline_told m s r (outline_view c.in_ok-outline.outline) d c.in_ok-outline.ensures.outline;
+      steps = subst (λ ks. AreStepsFor m s ks steps) (sym c.in_ok-outline.ensures.krates) (steps_for m s x r steps of shown d of_steps);
+      work = c.in_ok-outline.ensures.work;
     }

@@ -5,8 +5,7 @@ use Rattle.std.specs.List.{All}
 use Rattle.std.specs.Ordering.{is_eq, is_lt, nat_cmp}
 use Rattle.krates_selection.specs.CrateNumbers.{HasCrates}
 use Rattle.krates_selection.specs.declared.selection.ToggledFeature.{ToggledFeature}
-use Rattle.krates_drawing.specs.Outline.{toggle_of}
-use Rattle.krates_drawing.specs.Views.{kids_in}
+use Rattle.krates_drawing.specs.Views.{kids_in, toggle_of}
 use Rattle.krates_drawing.proofs.CratePlaces.{seen_by}
 use Rattle.krates_drawing.proofs.EqualRanges.{cut}
 use Rattle.krates_drawing.proofs.Tests.{cut_by, cut_by_krate, has_by, toggled_by_crate}

@@ -4,9 +4,9 @@ use Rattle.std.specs.Prelude.{flat_map}
 use Rattle.krates_selection.specs.CrateNumbers.{HasEnds, id_at}
 use Rattle.krates_drawing.specs.Drawing.{AtCrate, AtFeature, Feature, crate_number, is_between, is_to, line, pair_lines, uses}
 use Rattle.krates_drawing.specs.LinesFrom.{line_from}
-use Rattle.krates_drawing.specs.Outline.{Toggle, toggle_of}
+use Rattle.krates_drawing.specs.Outline.{Toggle}
 use Rattle.krates_drawing.specs.OutlineOrder.{HaveEnds, has_child, is_by}
-use Rattle.krates_drawing.specs.Views.{planned_edge_view, kids_in, edge_row_view, outline_view}
+use Rattle.krates_drawing.specs.Views.{planned_edge_view, kids_in, edge_row_view, outline_view, toggle_of}
 use Rattle.krates_drawing.specs.declared.outline.EdgeRow.{EdgeRow}
 use Rattle.krates_drawing.proofs.Children.{two_parts}
 use Rattle.krates_drawing.proofs.CratePlaces.{id_of_krate, is_in, seen_in, seen_to}

@@ -2,8 +2,7 @@ use Rattle.std.proofs.Common.{◌≡◌, ◌++◌, map, drop}
 use Rattle.krates_selection.specs.CrateNumbers.{id_at}
 use Rattle.krates_drawing.specs.Drawing.{AtFeature}
 use Rattle.krates_drawing.specs.LinesFrom.{line_from}
-use Rattle.krates_drawing.specs.Outline.{toggle_of}
-use Rattle.krates_drawing.specs.Views.{kids_in, outline_view, planned_edge_view}
+use Rattle.krates_drawing.specs.Views.{kids_in, outline_view, planned_edge_view, toggle_of}
 use Rattle.krates_drawing.proofs.numbers.NumberedOutline.draw_toggled.Given as goal
 
 abbrev pub invariant-loop-x : goal.invariant-loop-x
