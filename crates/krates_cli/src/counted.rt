@@ -79,13 +79,15 @@ impl<R: Read> Counted<R> {
         ensures grows { failures_of self.old ≤ failures_of self.new }
     {
         let mut bytes = Vec::new(alloc);
-        let mut buffer = [0u8; 65536];
+        let mut buffer = [0u8; 16384];
         loop {
             let count = match self.read(&mut buffer) {
                 Ok(count) => count,
                 Err(call) => return Err(call.of_reader()),
             };
             if count == 0 {
+                // what is read of the bytes stands behind them
+                bytes.shrink_to_fit();
                 return Ok(bytes);
             }
             bytes.extend_from_slice(&buffer[..count])?;
