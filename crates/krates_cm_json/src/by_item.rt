@@ -111,7 +111,8 @@ fn read_beside<'t, T: FromValue>(
 ) -> Option<T>
     requires { AreShallow 124 members.items }
     ensures { IfSome result (λ x. (T.reads [] (data_in (object
-        (joined members.entry.items (member list_key.now (array no_items) no_members))))).value ≡ Some (T.view x)) }
+        (joined members.entry.items (member list_key.now (array no_items) no_members))))).value
+        ≡ Some (T.view x)) }
 {
     let whole = with_empty_list(alloc, members, list_key)?;
     read_value(alloc, whole.root())

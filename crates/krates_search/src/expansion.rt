@@ -33,7 +33,8 @@ pub fn expand<'a>(
     requires within { taken < found.old.krates.size }
     requires step { IsKrateStep context.now found.old.trace.items taken step }
     ensures advanced { OnOk result (Advances context.now found.old found.new) }
-    ensures expanded { OnOk result ((krate : Id) → IsNodeAt context.now krate taken → HasExpanded context.now found.new krate) }
+    ensures expanded { OnOk result ((krate : Id) → IsNodeAt context.now krate taken
+        → HasExpanded context.now found.new krate) }
     ensures refused { IfErr result (Refuses context.now) }
 {
     context.document.agrees();
