@@ -4,9 +4,8 @@ use Rattle.std.proofs.lemmas.Bool.{cases_lt, and_parts, and_from}
 use Rattle.std.proofs.lemmas.Bool.Decides.{Decides-eqb}
 use Rattle.std.proofs.lemmas.Option.{none-some, same_Some, slice_get_within}
 use Rattle.std.specs.List.{list_any, range_with_len}
-use Rattle.krates_cm.specs.Document.{Text, DependencyModel, PackageModel}
+use Rattle.krates_cm.specs.Document.{Text, PackageModel}
 use Rattle.krates_rules.specs.Admission.{NoneDoubled}
-use Rattle.krates_rules.specs.DeclaredDependency.{FirstAt}
 use Rattle.krates_rules.specs.Facts.{Id}
 use Rattle.krates_rules.specs.Kind.{kind_of}
 use Rattle.krates_rules.specs.Questions.{IsDeclaredAt, questions}
@@ -173,17 +172,13 @@ kept_at r s t p q k h w =
     let e = (h.edge_of l w.between.member).placed in
     record { parent = w.between.parent; kept = h.link_of l w.between.member; dependency = e.dependency; declared = subst (λ n. IsDeclaredAt r s l.edge n e.dependency) w.at e.declared }
 
--- a declared dependency stands in the list of its package
-declared_here : (declared : List DependencyModel) (place : ℕ) (d : DependencyModel) (P Q : DependencyModel → Type 0) (A B : Type 0) → (A × FirstAt P declared place d) ⊎ (B × FirstAt Q declared place d) → place < length declared
-declared_here declared place d P Q A B (inl x) = slice_get_within declared place d x.1.here
-declared_here declared place d P Q A B (inr x) = slice_get_within declared place d x.1.here
-
+-- a declared dependency is in the list of its package
 place_below : (r : Resolved) (s : SettingModel) (t : Outline) (k : CrateRow) (l : EdgeRow) → NoneDoubled r.metadata r.graph → Holds r s t → Member t.krates k → Member t.links l → l.edge.parent ≡ k.id → l.place < k.declared
 place_below r s t k l none h at among e =
     let w = (h.edge_of l among).placed.declared.declares in
     let c = h.count_of k at in
     let same : w.pkg ≡ c.pkg = one_package r k.id w.pkg c.pkg none (subst (λ i. HasPackage r i w.pkg) e w.has_package) c.has_package in
-    let below = declared_here w.pkg.dependencies l.place (h.edge_of l among).placed.dependency _ _ _ _ w.declared in
+    let below = slice_get_within w.pkg.dependencies l.place (h.edge_of l among).placed.dependency w.declared.here in
     subst (λ n. l.place < n) (ap (λ (z : PackageModel). length z.dependencies) same ∙ sym c.declared) below
 
 -- only one crate claims a declared dependency
