@@ -173,9 +173,9 @@ lists_rebuilt law narrowing connected kind k j numbers first exactly answer m p 
       nodes = d.drawing.nodes;
       edges = lines_same (planned_edges t) k.graph.edges d.drawing.edges;
       first = first;
-      numbered = (connected (resolved v g) s d.is_outline.holds.selection d.is_outline.holds.selected t d.is_outline.holds.is_outline).crates;
+      numbered = (connected (resolved v g) s t d.is_outline.holds).crates;
     } in
-    let both = law (resolved v g) s kind w.ignores.ignored w.ignores.more d.is_outline.holds.selection d.is_outline.holds.selected t d.is_outline.holds.is_outline in
+    let both = law (resolved v g) s kind w.ignores.ignored w.ignores.more t d.is_outline.holds in
     let same = w.ignores.rest in
     record {
       all = λ root i c.
