@@ -257,7 +257,7 @@ fn each_call<C: Course>(
     Ok(String::from_str(alloc, first)?)
 }
 
-// The buffer of a run has 65,536 bytes; the last call of each reader finds the end. A document without blanks has 777 bytes.
+// The buffer of a run has 16,384 bytes; the last call of each reader finds the end. A document without blanks has 777 bytes.
 const FAILED_READS: &[Row] = &[
     (
         "0 1 fails",
@@ -300,27 +300,27 @@ const FAILED_READS: &[Row] = &[
         "6 calls: 1 refused: read failed, nothing written, 1 failed",
     ),
     (
-        "65535 100000 fails",
+        "16383 100000 fails",
         "2 calls: 1 refused: read failed, nothing written, 1 failed",
     ),
     (
-        "65536 100000 fails",
+        "16384 100000 fails",
         "2 calls: 1 refused: read failed, nothing written, 1 failed",
+    ),
+    (
+        "16385 100000 fails",
+        "3 calls: 1 refused: read failed, nothing written, 1 failed",
+    ),
+    (
+        "16385 16383 fails",
+        "3 calls: 1 refused: read failed, nothing written, 1 failed",
+    ),
+    (
+        "32768 100000 fails",
+        "3 calls: 1 refused: read failed, nothing written, 1 failed",
     ),
     (
         "65537 100000 fails",
-        "3 calls: 1 refused: read failed, nothing written, 1 failed",
-    ),
-    (
-        "65537 65535 fails",
-        "3 calls: 1 refused: read failed, nothing written, 1 failed",
-    ),
-    (
-        "131072 100000 fails",
-        "3 calls: 1 refused: read failed, nothing written, 1 failed",
-    ),
-    (
-        "262145 100000 fails",
         "6 calls: 1 refused: read failed, nothing written, 1 failed",
     ),
 ];
@@ -364,27 +364,27 @@ const INTERRUPTED_READS: &[Row] = &[
         "6 calls: 0, all written, 1 failed",
     ),
     (
-        "65535 100000 is interrupted",
+        "16383 100000 is interrupted",
         "2 calls: 0, all written, 1 failed",
     ),
     (
-        "65536 100000 is interrupted",
+        "16384 100000 is interrupted",
         "2 calls: 0, all written, 1 failed",
+    ),
+    (
+        "16385 100000 is interrupted",
+        "3 calls: 0, all written, 1 failed",
+    ),
+    (
+        "16385 16383 is interrupted",
+        "3 calls: 0, all written, 1 failed",
+    ),
+    (
+        "32768 100000 is interrupted",
+        "3 calls: 0, all written, 1 failed",
     ),
     (
         "65537 100000 is interrupted",
-        "3 calls: 0, all written, 1 failed",
-    ),
-    (
-        "65537 65535 is interrupted",
-        "3 calls: 0, all written, 1 failed",
-    ),
-    (
-        "131072 100000 is interrupted",
-        "3 calls: 0, all written, 1 failed",
-    ),
-    (
-        "262145 100000 is interrupted",
         "6 calls: 0, all written, 1 failed",
     ),
 ];
