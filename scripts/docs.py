@@ -10,7 +10,8 @@ The word is one of these. With --check nothing is written; it may be left out wh
                 whether the page is what it would write
     readme      says whether the examples of README.md and docs/GUIDE.md stand in code that the gate runs, or with
                 --compile whether each of them compiles as it stands, in a minute
-    contracts   lists the public calls that docs/CONTRACTS.md has no line for
+    contracts   writes docs/CONTRACTS.md, the public calls with their contracts; the check says whether the page is
+                what it would write
     untested    lists the public calls that no worked example shows
     links       lists the links of the pages that lead nowhere
     pictures    draws docs/pictures, by Graphviz's `dot`; the check, which needs no Graphviz, says whether each

@@ -13,7 +13,7 @@ from dataclasses import dataclass
 ROOT = pathlib.Path(__file__).resolve().parent.parent
 
 IMPL = re.compile(r"^impl(?:<[^>]*>)? (?:[\w<>' ,:]+ for )?(\w+)")
-CALL = re.compile(r"^( *)pub (?:(?:const|unsafe) )*fn (\w+)")
+CALL = re.compile(r'^( *)pub (?:(?:const|unsafe|extern "C") )*fn (\w+)')
 OF_A_VALUE = re.compile(r" *pub [\w ]*fn \w+(?:<[^(]*>)?\(\s*&?(?:'\w+ )?(?:mut )?self\b")
 GIVEN_AGAIN = re.compile(r"\bpub use ([^;]*);")
 PRIVATE = re.compile(r"^mod (\w+);", re.MULTILINE)

@@ -13,8 +13,9 @@ import re
 
 from krates_sources import ROOT, libraries, public_calls
 
-# What only tests use, and what programs do on their machine, which the cases of the programs show.
-LEFT_OUT = ("krates_samples", "krates_host")
+# What only tests use; what programs do on their machine, which the cases of the programs show; and what the static
+# library exports, which is tried from Rust and C.
+LEFT_OUT = ("krates_samples", "krates_host", "krates_c")
 
 # The files whose public functions are laws.
 LAWS = ("laws.rt", "comparisons.rt")
