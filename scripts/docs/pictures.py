@@ -1,87 +1,141 @@
-"""Draws the pictures of docs/pictures, by Graphviz's `dot`, or says whether each is of what stands.
+"""Draws the pictures of docs/pictures, by Graphviz's `dot`, or says whether each shows what the sources have.
 
-What stands are crates.txt and the lists of this module.
+The picture of the crates is made from crates.txt, and each crate, type and function that the others name has to be in
+the sources. What is drawn of them are the lists of this module.
 
-A reader needs neither this module nor Graphviz, and neither does the check: the pictures are committed, and each ends
-with the checksum of the text that it was drawn from.
+A reader needs neither this module nor Graphviz, and neither does the check: the pictures are committed, each with the
+text that it was drawn from, and each ends with the checksums of that text and of itself.
 """
 import hashlib
+import re
 import subprocess
 import sys
 
-from krates_sources import ROOT, crates
+from krates_sources import ROOT, crates, files
 
 FOLDER = ROOT / "docs" / "pictures"
 
 STYLE = """
-    bgcolor="white"; fontname="Helvetica"; fontsize=12; pad=0.2;
-    node [fontname="Helvetica", fontsize=11, shape=box, style="filled,rounded", color="#5f6b7a", fillcolor="#f4f6f8"];
-    edge [fontname="Helvetica", fontsize=10, color="#5f6b7a", arrowsize=0.7];
+    bgcolor="white"; fontname="Helvetica"; fontsize=13; pad=0.2;
+    node [fontname="Helvetica", fontsize=12, shape=box, style="filled,rounded", color="#5f6b7a", fillcolor="#f4f6f8"];
+    edge [fontname="Helvetica", fontsize=11, color="#5f6b7a", arrowsize=0.7];
 """
 
-# What a crate is for, by which it is coloured.
+# The rooms of the house, each with its colour and its crates, lowest first.
 ROOMS = {
-    "texts and the document": ("#e8f1fb", ["krates_text", "krates_cm", "krates_cm_json", "krates_ids"]),
-    "the command": ("#f3eefb", ["krates_cargo"]),
-    "what is believed": ("#fdf3d8", ["krates_rules"]),
-    "questions and search": (
-        "#e9f7ec", ["krates_document", "krates_questions", "krates_selection", "krates_search", "krates_resolve"],
+    "the document": ("#e8f1fb", ["krates_text", "krates_cm", "krates_cm_json", "krates_cargo"]),
+    "ids and the stored graph": ("#f3eefb", ["krates_ids", "krates_graph"]),
+    "resolution": (
+        "#e9f7ec",
+        ["krates_rules", "krates_document", "krates_questions", "krates_selection", "krates_search", "krates_resolve"],
     ),
-    "the graph": ("#e6f6f6", ["krates_graph", "krates_drawing", "krates_queries"]),
-    "checkers without a search": (
-        "#fdeaea", ["krates_derive", "krates_checkers", "krates_certificate", "krates_verdict", "krates_check"],
-    ),
-    "for callers": (
+    "checkers": ("#fdeaea", ["krates_derive", "krates_checkers", "krates_certificate", "krates_verdict"]),
+    "the graph": ("#e6f6f6", ["krates_drawing", "krates_queries", "krates"]),
+    "programs": (
         "#eceff1",
         [
-            "krates", "krates_cli", "krates_list", "krates_answers", "krates_words", "krates_report", "krates_host",
-            "cargo_krates", "krates_foreign", "krates_c",
+            "krates_cli", "krates_list", "krates_answers", "krates_words", "krates_report", "krates_host",
+            "cargo_krates", "krates_check", "krates_foreign", "krates_c",
         ],
     ),
 }
 
 
 def shown(name):
-    """Whether a crate is part of the way from bytes to bytes: neither tests nor what tests stand on."""
+    """Whether a crate is more than tests, or what only tests use."""
     return not name.endswith("_tests") and name not in {"krates_samples", "fake_cargo"}
 
 
-def reaches(stands_on, start):
-    """All crates on which this one stands, over any number of steps."""
-    seen, left = set(), list(stands_on[start])
+def reaches(uses, start):
+    """All crates that this one uses, over any number of steps."""
+    seen, left = set(), list(uses[start])
     while left:
         name = left.pop()
         if name not in seen:
             seen.add(name)
-            left.extend(stands_on[name])
+            left.extend(uses[name])
     return seen
 
 
-def direct(stands_on, name):
-    """The crates on which this one stands and no crate between them does."""
-    below = stands_on[name]
-    return [one for one in below if not any(one in reaches(stands_on, other) for other in below)]
+def direct(uses, name):
+    """The crates that this one uses and no crate between them does."""
+    below = uses[name]
+    return [one for one in below if not any(one in reaches(uses, other) for other in below)]
 
 
 def crates_picture():
-    """The text of the picture of the crates."""
+    """The text of the picture of the crates, room by room."""
     known = crates()
-    stands_on = {name: [one for one in rest if one in known] for name, rest in known.items() if shown(name)}
-    colour = {name: fill for fill, names in ROOMS.values() for name in names}
-    lines = ["digraph crates {", STYLE, "    rankdir=TB; ranksep=0.45; nodesep=0.3;"]
-    for name in stands_on:
-        lines.append(f'    {name} [fillcolor="{colour.get(name, "#f4f6f8")}"];')
-    for name in stands_on:
-        lines.extend(f"    {name} -> {below};" for below in direct(stands_on, name))
-    rows = "".join(
-        f'<tr><td bgcolor="{fill}" width="18"> </td><td align="left">{room}</td></tr>'
-        for room, (fill, _) in ROOMS.items()
-    )
-    arrow = '<tr><td>→</td><td align="left">stands on; what it reaches by others is left out</td></tr>'
-    legend = f'<table border="0" cellborder="0" cellspacing="3">{rows}{arrow}</table>'
-    lines.append(f"    label=<{legend}>; labelloc=b; labeljust=r;")
+    uses = {name: [one for one in rest if one in known] for name, rest in known.items() if shown(name)}
+    lines = ["digraph crates {", STYLE, "    rankdir=TB; ranksep=0.4; nodesep=0.2; newrank=true;"]
+    for number, (room, (fill, names)) in enumerate(ROOMS.items()):
+        lines.append(f'    subgraph cluster_{number} {{ label="{room}"; labeljust=l; color="#c5ccd3"; style=rounded;')
+        lines.extend(f'        {name} [fillcolor="{fill}"];' for name in names)
+        lines.append("    }")
+    for name in uses:
+        lines.extend(f"    {name} -> {below};" for below in direct(uses, name))
     lines.append("}")
     return "\n".join(lines)
+
+
+# What a build makes, stage by stage: the name of each value, its crate, and how it is numbered. The first is a text.
+VALUES = {
+    "bytes": ("", "JSON"),
+    "Metadata": ("krates_cm", "texts, as cargo wrote them"),
+    "Ids": ("krates_document", "ids, with a number for each crate"),
+    "Document": ("krates_questions", "look-ups by id, number and name"),
+    "SearchState": ("krates_search", "by place of the node"),
+    "Selection": ("krates_selection", "by number of the kept crate"),
+    "KeptStep": ("krates_selection", "why each fact holds"),
+    "Outline": ("krates_drawing", "with what the document says of each"),
+    "Plan": ("krates_drawing", "by number of the node"),
+    "Graph": ("krates_graph", "nodes and edges, stored"),
+    "Division": ("krates_drawing", "packages, kept and others"),
+    "Krates": ("krates_queries", "the graph, its steps and members"),
+}
+
+# Which value is made of which, and by which function of which crate.
+MADE = [
+    ("bytes", "Metadata", "krates_cm_json", "parse"),
+    ("Metadata", "Ids", "krates_document", "admit"),
+    ("Ids", "Document", "krates_questions", "new"),
+    ("Document", "SearchState", "krates_resolve", "saturate"),
+    ("SearchState", "Selection", "krates_resolve", "selection_of"),
+    ("Selection", "Outline", "krates_drawing", "outline_of"),
+    ("Selection", "KeptStep", "krates_selection", "kept_steps"),
+    ("Outline", "Plan", "krates_drawing", "plan_within"),
+    ("Plan", "Graph", "krates", "stored"),
+    ("Metadata", "Division", "krates_drawing", "divide"),
+    ("Division", "Graph", "krates_queries", "from_package"),
+    ("Graph", "Krates", "krates_queries", "new"),
+    ("KeptStep", "Krates", "krates_queries", "new"),
+]
+
+
+def data_picture():
+    """The text of the picture of what a build makes, from bytes to a graph."""
+    lines = ["digraph data {", STYLE, "    rankdir=TB; ranksep=0.35; nodesep=0.5;"]
+    fills = {name: fill for fill, names in ROOMS.values() for name in names} | {"": "#ffffff"}
+    for value, (crate, remark) in VALUES.items():
+        name = f"<b>{value}</b>" + (f" <font color='#5f6b7a'>{crate}</font>" if crate else "")
+        lines.append(f'    "{value}" [fillcolor="{fills[crate]}", label=<{name}<br/>{remark}>];')
+    for source, target, _, call in MADE:
+        name = f"{target}::new" if call == "new" else call
+        lines.append(f'    "{source}" -> "{target}" [label=" {name}"];')
+    lines.append("}")
+    return "\n".join(lines)
+
+
+def missing():
+    """What the picture of the data names, and its crate doesn't have."""
+    asked = [(crate, rf"^pub (?:struct|enum) {value}\b", value) for value, (crate, _) in VALUES.items() if crate]
+    asked += [(crate, rf"\bfn {call}\b", call) for _, _, crate, call in MADE]
+    for crate, pattern, name in asked:
+        sources = files(ROOT / "crates" / crate / "src")
+        if not any(re.search(pattern, path.read_text(encoding="utf-8"), re.M) for path in sources):
+            yield f"{crate} has no {name}, which docs/pictures/data.svg shows"
+    roomless = {name for name in crates() if shown(name)} ^ {name for _, names in ROOMS.values() for name in names}
+    yield from (f"{name}: crates.txt and the rooms of scripts/docs/pictures.py differ" for name in sorted(roomless))
 
 
 # The small document: `a`, a member, has an optional dependency on `b`. Each fact has the number of its rule.
@@ -113,10 +167,11 @@ def example_picture():
     lines = ["digraph example {", STYLE, "    rankdir=TB; compound=true; ranksep=0.5;"]
     lines.append('    subgraph cluster_document { label="the document"; color="#c5ccd3"; style=rounded;')
     lines.append(f'        document [shape=note, style=filled, fillcolor="#e8f1fb", label="{EXAMPLE_DOCUMENT}"]; }}')
-    title = "what has a derivation, each by a rule"
+    title = "what is derivable, each fact by a rule"
     lines.append(f'    subgraph cluster_facts {{ label="{title}"; color="#c5ccd3"; style=rounded;')
     for name, text, rule, _ in EXAMPLE_FACTS:
         lines.append(f'        {name} [fillcolor="#fdf3d8", label="{text}\\nrule {rule}"];')
+    lines.append("        {rank=same; crate_a -> feature_b -> feature_w [style=invis];}")
     lines.append("    }")
     for name, _, _, uses in EXAMPLE_FACTS:
         lines.extend(f"    {use} -> {name};" for use in uses)
@@ -125,10 +180,10 @@ def example_picture():
     for number, text in enumerate(EXAMPLE_NODES):
         fill = "#e9f7ec" if "feature" not in text else "#e6f6f6"
         lines.append(f'        node_{number} [shape=ellipse, style=filled, fillcolor="{fill}", label="{text}"];')
+    lines.append("        {rank=same; node_2 -> node_3 [style=invis];}")
     lines.append("    }")
-    for number, (source, target, tie) in enumerate(EXAMPLE_EDGES):
-        text = f"{number} {tie}".strip()
-        lines.append(f'    node_{source} -> node_{target} [label=" {text}"];')
+    for number, (source, target, kind) in enumerate(EXAMPLE_EDGES):
+        lines.append(f'    node_{source} -> node_{target} [label=" {number} {kind}"];')
     lines.append("    document -> feature_b [style=dashed, lhead=cluster_facts, ltail=cluster_document];")
     lines.append("    feature_j -> node_3 [style=dashed, lhead=cluster_graph, ltail=cluster_facts, minlen=2];")
     lines.append("}")
@@ -141,8 +196,8 @@ LAYERS = [
         ("contracts", "contracts\\nabove each function, in words of the definitions"),
     ]),
     ("checked", "checked by machine", [
-        ("bodies", "bodies\\nsrc/: scan, number, mark"),
-        ("proofs", "invariants, answers, lemmas\\nproofs/, under the function's path"),
+        ("bodies", "bodies\\nsrc/"),
+        ("proofs", "proofs\\nproofs/, under the function's path"),
     ]),
     ("shown", "what shows that the contracts say enough", [
         ("rows", "worked examples\\ncrates ending in _tests"),
@@ -155,13 +210,13 @@ LAYERS = [
     ]),
 ]
 
-# Which box says what of which, and whether the first stands above the second.
+# What each box does with another, and whether it is drawn above it.
 BETWEEN_LAYERS = [
     ("definitions", "contracts", "give the words of", True),
     ("contracts", "bodies", "are met by", True),
     ("bodies", "proofs", "are proved by", True),
     ("proofs", "kit", "are checked by", True),
-    ("rows", "contracts", "are answered as said by", False),
+    ("rows", "contracts", "try", False),
     ("edits", "contracts", "break", False),
     ("corpus", "contracts", "agree with", False),
 ]
@@ -182,35 +237,41 @@ def proof_picture():
     return "\n".join(lines)
 
 
-PICTURES = {"crates": crates_picture, "example": example_picture, "proof": proof_picture}
+PICTURES = {"crates": crates_picture, "data": data_picture, "example": example_picture, "proof": proof_picture}
 
 
-def mark(text):
+def mark(text, picture):
     """The last line of a picture that is drawn from the text."""
-    return f"<!-- drawn from a text with the SHA-256 {hashlib.sha256(text.encode()).hexdigest()} -->\n"
+    sums = [hashlib.sha256(one.encode()).hexdigest() for one in (text, picture)]
+    return f"<!-- SHA-256 of the text that it is drawn from: {sums[0]}; of the lines above: {sums[1]} -->\n"
 
 
 def is_stale(name, text):
-    """Whether a picture, or the text that is committed beside it, is of something else."""
+    """Whether a picture, or the text that is committed beside it, is of something else, or was changed by hand."""
     source, picture = (FOLDER / f"{name}.{kind}" for kind in ("dot", "svg"))
-    return source.read_text() != text or not picture.read_text().endswith(mark(text))
+    if not source.exists() or not picture.exists() or source.read_text(encoding="utf-8") != text:
+        return True
+    *drawn, last = picture.read_text(encoding="utf-8").splitlines(keepends=True)
+    return last != mark(text, "".join(drawn))
 
 
 def draw(name, text):
     """Draws a picture, with the text that it is drawn from beside it."""
     source, picture = FOLDER / f"{name}.dot", FOLDER / f"{name}.svg"
-    source.write_text(text)
-    subprocess.run(["dot", "-Tsvg", "-o", str(picture), str(source)], check=True)
-    with open(picture, "a", encoding="utf-8") as file:
-        file.write(mark(text))
+    source.write_text(text, encoding="utf-8")
+    ran = subprocess.run(["dot", "-Tsvg", str(source)], check=True, stdout=subprocess.PIPE, encoding="utf-8")
+    picture.write_text(ran.stdout + mark(text, ran.stdout), encoding="utf-8")
 
 
 def check():
-    """Whether each picture is of what stands; prints those that aren't."""
-    stale = [name for name, text in PICTURES.items() if is_stale(name, text() + "\n")]
-    for name in stale:
-        print(f"docs/pictures/{name}.svg isn't of what stands: run scripts/docs.py pictures", file=sys.stderr)
-    return not stale
+    """Whether each picture shows what the sources have; prints what doesn't."""
+    wrong = list(missing())
+    for name, text in PICTURES.items():
+        if is_stale(name, text() + "\n"):
+            wrong.append(f"docs/pictures/{name}.svg isn't what scripts/docs.py pictures draws")
+    for line in wrong:
+        print(line, file=sys.stderr)
+    return not wrong
 
 
 def write():
