@@ -12,6 +12,7 @@ The word is one of these. With --check nothing is written; it may be left out wh
                 --compile whether each of them compiles as it stands, in a minute
     contracts   writes docs/CONTRACTS.md, the public calls with their contracts; the check says whether the page is
                 what it would write
+    definitions lists the names of docs/DEFINITIONS.md that no definition has
     untested    lists the public calls that no worked example shows
     links       lists the links of the pages that lead nowhere
     pictures    draws docs/pictures, by Graphviz's `dot`; the check, which needs no Graphviz, says whether each
@@ -23,10 +24,11 @@ what is checked, and 1 otherwise.
 """
 import sys
 
-from docs import believed, contracts, links, pictures, readme, untested
+from docs import believed, contracts, definitions, links, pictures, readme, untested
 from krates_sources import wrong_words
 
-MODULES = {it.__name__.rpartition(".")[2]: it for it in (believed, readme, contracts, untested, links, pictures)}
+CHECKS = (believed, readme, contracts, definitions, untested, links, pictures)
+MODULES = {it.__name__.rpartition(".")[2]: it for it in CHECKS}
 
 
 def main(words):
