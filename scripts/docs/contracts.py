@@ -1,4 +1,4 @@
-"""Writes docs/CONTRACTS.md, where every public call stands with its contract, or says whether the page is what it would
+"""Writes docs/CONTRACTS.md, which has every public call with its contract, or says whether the page is what it would
 write.
 
 Crate by crate in the order of crates.txt, and file by file, the page quotes from the sources: of each public call of a

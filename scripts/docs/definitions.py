@@ -1,6 +1,6 @@
-"""Lists the names of docs/DEFINITIONS.md that nothing has: neither a definition of a crate, nor a type of its code.
+"""Lists the names of docs/DEFINITIONS.md that neither a crate nor a definition has.
 
-A name is what stands between backquotes and brackets. All is well where each is there.
+A name is what is in backquotes and brackets. All is well where each is there.
 """
 import re
 import sys

@@ -1,7 +1,7 @@
-"""Draws the pictures of docs/pictures, by Graphviz's `dot`, or says whether each shows what the sources have.
+"""Draws the pictures of docs/pictures, by Graphviz's `dot`, or says whether each is up to date.
 
-The picture of the crates is made from crates.txt, and each crate, type and function that the others name has to be in
-the sources. What is drawn of them are the lists of this module.
+The picture of the crates is made from crates.txt, the others from lists of this module; each type and function that
+the picture of the data names has to be in the sources.
 
 A reader needs neither this module nor Graphviz, and neither does the check: the pictures are committed, each with the
 text that it was drawn from, and each ends with the checksums of that text and of itself.
@@ -47,7 +47,7 @@ def shown(name):
 
 
 def reaches(uses, start):
-    """All crates that this one uses, over any number of steps."""
+    """All crates that this one needs, over any number of steps."""
     seen, left = set(), list(uses[start])
     while left:
         name = left.pop()
@@ -58,7 +58,7 @@ def reaches(uses, start):
 
 
 def direct(uses, name):
-    """The crates that this one uses and no crate between them does."""
+    """The crates that this one needs, without those that it needs only through others."""
     below = uses[name]
     return [one for one in below if not any(one in reaches(uses, other) for other in below)]
 
@@ -264,7 +264,7 @@ def draw(name, text):
 
 
 def check():
-    """Whether each picture shows what the sources have; prints what doesn't."""
+    """Whether each picture is up to date, and what it names is in the sources; prints what isn't."""
     wrong = list(missing())
     for name, text in PICTURES.items():
         if is_stale(name, text() + "\n"):
