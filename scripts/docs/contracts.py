@@ -183,6 +183,9 @@ def section(source):
             out += [f"### [{path.relative_to(source)}](../{path.relative_to(ROOT)})", ""]
             out += [*textwrap.wrap(title(lines), WIDTH), ""] if path.name != "lib.rt" else []
             out += ["```text", *parted(pieces), "```", ""]
+    lost = [call.name for call in calls if not any(f"fn {call.name}" in line for line in out)]
+    if lost:
+        raise ValueError(f"{source}: the page would lack {', '.join(lost)}")
     return out, len(calls)
 
 
