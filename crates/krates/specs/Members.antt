@@ -1,4 +1,4 @@
--- The numbers of crates that have one of some ids.
+-- The numbers of crates with the wanted ids.
 use Rattle.std.specs.Prelude.{ℕ, ◌↔◌, List, Contains}
 use Rattle.krates_ids.specs.Identity.{Identity}
 use Rattle.krates_rules.specs.Resolved.{id_of, StandsAt}
