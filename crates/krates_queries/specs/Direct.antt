@@ -1,4 +1,4 @@
--- Crates that are joined by an edge: which edge it is, and what stands for a crate.
+-- Crates that are joined by an edge: which edge it is, and which value is held for a crate.
 use Rattle.std.specs.Prelude.{◌≡◌, ◌≤◌, ◌<◌, ◌^◌, ◌↔◌, ℕ, length, Bool, false, List, Option, Some, None, All, Contains, map, slice_get}
 use Rattle.std.specs.List.{filter_map}
 use Rattle.std.specs.List.Sorted.{IsStrictlySortedBy}
@@ -17,7 +17,7 @@ use Rattle.krates_drawing.specs.declared.node.Node.TheVariants.{Krate, Feature}
 
 -- ---- crates by number
 
--- what stands for the package of a crate
+-- the value held for the package of a crate
 abbrev pub value_in : {N : Type 0} → Option (Node N) → Option N
 value_in None = None
 value_in (Some (Krate id krate features mapping)) = Some krate
@@ -27,7 +27,7 @@ value_in (Some (Feature krate_index name)) = None
 abbrev pub value_at : {N : Type 0} → List (Node N) → ℕ → Option N
 value_at nodes n = value_in (slice_get nodes n)
 
--- the id of a crate, and what stands for its package
+-- the id of a crate, and the value held for its package
 abbrev pub id_and_value_in : {N : Type 0} → Option (Node N) → Option (Identity × N)
 id_and_value_in None = None
 id_and_value_in (Some (Krate id krate features mapping)) = Some (id, krate)

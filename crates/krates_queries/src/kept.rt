@@ -27,7 +27,7 @@ pub struct Findings {
 /// The graph of the crates that a build keeps, and the path of the workspace.
 ///
 /// The nodes of the crates come first, numbered from 0 in the order of their ids; then one for each enabled feature, in the
-/// order of the crates and then of the names. `N` stands for the packages of the crates, and `E` for the edges.
+/// order of the crates and then of the names. Each crate holds an `N` for its package, and each edge an `E`.
 #[derive(Debug, Drop)]
 pub struct Krates<N = Package, E = Edge> {
     graph: Graph<Node<N>, E>,
@@ -155,7 +155,7 @@ impl<N, E> Krates<N, E> {
         *self.members.allocator()
     }
 
-    /// What stands for the packages of the kept crates, by increasing id, each once. Time O(1), and O(1) for each.
+    /// The values held for the packages of the kept crates, by increasing id, each once. Time O(1), and O(1) for each.
     ///
     /// ```text
     /// for pkg in krates.krates() {
@@ -196,7 +196,7 @@ impl<N, E> Krates<N, E> {
     }
 }
 
-/// What stands for the packages of the kept crates, by increasing id.
+/// The values held for the packages of the kept crates, by increasing id.
 #[derive(Debug, Drop)]
 pub struct KratesIter<'a, N> {
     left: &'a [Node<N>],

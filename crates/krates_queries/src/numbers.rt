@@ -79,7 +79,7 @@ pub(crate) fn node_at<N>(nodes: &[Node<N>], number: usize) -> Option<&Node<N>>
     nodes.get(number)
 }
 
-/// The node that stands at a number.
+/// The node with a number.
 pub(crate) fn standing_at<N>(nodes: &[Node<N>], number: usize) -> &Node<N>
     requires { number < length nodes.now }
     ensures { slice_get nodes.now number ≡ Some result.now }

@@ -27,7 +27,7 @@ pub(crate) fn is_feature_of<N>(nodes: &[Node<N>], krate: NodeId, number: NodeId)
 /// A crate that an edge joins to a node: one on which it depends directly, or one that depends on it.
 #[derive(Debug, Drop)]
 pub struct JoinedKrate<'a, N> {
-    /// What stands for the package of the crate.
+    /// The value held for the package of the crate.
     pub krate: &'a N,
     /// The id of the crate.
     pub kid: &'a Kid,

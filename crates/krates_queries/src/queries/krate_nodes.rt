@@ -17,7 +17,7 @@ use std::marker::Model;
 /// A kept crate with its number.
 #[derive(Debug, Drop)]
 pub struct KrateMatch<'a, N> {
-    /// What stands for its package.
+    /// The value held for its package.
     pub krate: &'a N,
     /// Its id.
     pub kid: &'a Kid,
