@@ -70,7 +70,7 @@ pub struct Source {
     pub repr: String,
 }
 
-/// What kind of place a source is: what stands before the first `+` of its text, as in `git+https://host/repository`
+/// What kind of place a source is: the part before the first `+` of its text, as in `git+https://host/repository`
 /// (Cargo Book, "Package ID Specifications").
 #[derive(Clone, Copy, Debug, PartialEq, Eq)]
 pub enum SourceKind {
@@ -82,6 +82,6 @@ pub enum SourceKind {
     Git,
     /// A directory, `path`.
     Path,
-    /// None of these: another word stands there, or the text has no `+`.
+    /// None of these: another word is there, or the text has no `+`.
     Other,
 }

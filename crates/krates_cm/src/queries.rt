@@ -183,8 +183,8 @@ impl Source {
         self.repr.as_str() == "registry+https://github.com/rust-lang/crates.io-index"
     }
 
-    /// What kind of place the source is, by exactly what stands before the first `+` of its text: `registry`, `sparse`,
-    /// `git` or `path`, in small letters. Any other text is `SourceKind::Other`, also one without a `+`. What follows
+    /// What kind of place the source is, by exactly the part before the first `+` of its text: `registry`, `sparse`,
+    /// `git` or `path`, in lower case. Any other text is `SourceKind::Other`, as is one without a `+`. What follows
     /// the `+` isn't read. Time O(1): four times at most nine bytes at the beginning of the text are compared.
     ///
     /// ```text

@@ -12,7 +12,7 @@ pub enum ReadError {
     /// An object lacks this key.
     #[error("missing key: {0}")]
     Missing(&'static str),
-    /// What stands under this key, or in the list under it, has another JSON type, or is null where
+    /// The value under this key, or one in the list under it, has another JSON type, or is null where
     /// null isn't allowed. The key is empty for the whole value.
     #[error("wrong type at key: {0}")]
     WrongType(&'static str),
