@@ -38,11 +38,11 @@ index_view a = map (λ e. (text_view e.0, option_map index_krate_view e.1)) a.kr
 
 -- ---- which package is touched
 
--- what stands under a name
+-- the value under a name
 abbrev pub named : {A : Type 0} → List (Text × A) → Text → Option A
 named entries name = lookup (bytes_eq name) entries
 
--- at this place stands the first of the versions that equals this one in all five parts, with these features
+-- at this place is the first of the versions that equals this one in all five parts, with these features
 pub record IsFirstEqual (versions : List IndexVersionModel) (version : VersionModel) (place : ℕ) (features : FeaturesModel) : Type 0 where
   pub here : slice_get versions place ≡ Some (record { version = version; features = features })
   pub first : (k : ℕ) (v : IndexVersionModel) → k < place → slice_get versions k ≡ Some v → v.version ≢ version

@@ -55,12 +55,12 @@ git = codes "git+"
 abbrev pub is_git : Text → Bool
 is_git left = starts_with ◌==◌ left git
 
--- the name in the last piece of a left part: the piece, and for git what stands before its last '?', where it has one
+-- the name in the last piece of a left part: the piece, and for git the part before its last '?', where it has one
 abbrev pub IsNameOfPiece : Bool → Text → Text → Type 0
 IsNameOfPiece false piece name = name ≡ piece
 IsNameOfPiece true piece name = (Lacks question_mark piece × (name ≡ piece)) ⊎ ((query : Text) × LastCut question_mark piece name query)
 
--- the name stands in the left part, after its last '/'
+-- the name is in the left part, after its last '/'
 pub record NameInLeft (left name : Text) : Type 0 where
   pub before : Text
   pub piece : Text
@@ -87,7 +87,7 @@ pub record IsGitQuery (left front query : Text) : Type 0 where
   pub cut : LastCut question_mark left front query
   pub in_last_piece : Lacks slash query
 
--- the source that a left part gives: the left part as it is written, but for git with its query decoded, in one pass
+-- the source that a left part gives: the left part as it is written, except that for git its query is decoded, in one pass
 pub data IsSource (left source : Text) : Type 0 where
   as_written : ((front query : Text) → IsGitQuery left front query → ⊥) → source ≡ left → IsSource left source
   decoded : (front query : Text) → IsGitQuery left front query → AreEscapes query → source ≡ front ++ question_mark ∷ percent_decode query → IsSource left source

@@ -168,13 +168,13 @@ IsSpecFault t refusal = Gives t (Err refusal)
 
 -- ---- which packages a specification fits
 
--- what stands before the query of a source, or else before its fragment
+-- the part before the query of a source, or else before its fragment
 abbrev pub IsBeforeQuery : Text → Text → Type 0
 IsBeforeQuery source front = ((query : Text) × FirstCut question_mark source front query)
     ⊎ (Lacks question_mark source × (((fragment : Text) × FirstCut hash_sign source front fragment) ⊎ (Lacks hash_sign source × (front ≡ source))))
 
 -- the url of a source: from after the source's first '+', or from its start where it has none, to the query or the fragment.
--- There is none where that end stands before the first '+'
+-- There is none where that end comes before the first '+'
 pub record IsUrlOf (source url : Text) : Type 0 where
   pub front : Text
   pub before_query : IsBeforeQuery source front

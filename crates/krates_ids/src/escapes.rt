@@ -8,7 +8,7 @@ ghost use Rattle.krates_ids.specs.Separators.{hash_sign, question_mark};
 use percent_encoding::{DecodeError, percent_decode};
 use std::alloc::{AllocError, Global};
 
-/// Whether an escape may stand for the byte: the blank or ASCII punctuation.
+/// Whether an escape may encode the byte: the space or ASCII punctuation.
 fn is_escapable(byte: u8) -> bool
     ensures { Tells (IsEscapable byte) result }
 {

@@ -52,7 +52,7 @@ impl Clone for IndexKrate {
     }
 }
 
-/// The names of the packages that an index is asked for.
+/// The names of the packages that an index is asked about.
 #[derive(Drop)]
 pub struct PackageNames {
     /// The names.

@@ -100,7 +100,7 @@ fn read_stable(id: PackageId) -> Result<Kid, IdError>
     Ok(kid_of(repr, parts, false))
 }
 
-/// The id of a text in which its parts stand so.
+/// The id of a text whose parts are at these places.
 fn kid_of(repr: String, parts: Parts, is_opaque: bool) -> Kid
     requires { AreSpans (string_bytes repr) parts }
     ensures { result ≡ identity_of (string_bytes repr) parts is_opaque }
