@@ -53,7 +53,7 @@ IsWord (c ∷ rest) = IsTrue (is_word_start c) × AllByRecursion (λ b. IsTrue (
 abbrev pub is_form : List ℕ → Bool
 is_form w = bytes_eq w (codes "all") || bytes_eq w (codes "any") || bytes_eq w (codes "not")
 
--- the names that can't stand as a word of their own
+-- the names that can't be a word of their own
 abbrev pub is_reserved : List ℕ → Bool
 is_reserved w = is_form w || bytes_eq w (codes "true") || bytes_eq w (codes "false")
 
@@ -118,7 +118,7 @@ pub record IsExpression (text : List ℕ) (p : Tree) : Type 0 where
   pub spelled : IsUnlimited text p
   pub nested : nesting p ≤ max_nesting
 
--- a form that a text has opened: what stands in it before the place where the next predicate may begin
+-- a form that a text has opened: what is in it before the place where the next predicate may begin
 pub data Frame : Type 0 where
   in_not : Frame
   in_all : Trees → Frame

@@ -41,7 +41,7 @@ impl Expression {
         Ok(Expression { predicate })
     }
 
-    /// How many words and pairs the expression has; `true` and `false` are none. Time O(size).
+    /// How many words and pairs the expression has; `true` and `false` don't count. Time O(size).
     ///
     /// ```text
     /// assert_eq!(rt; Expression::parse(alloc, "cfg(any(unix, windows))")?.predicates(), 2);

@@ -14,7 +14,7 @@ use std::alloc::Global;
 /// How many forms may be nested.
 const MAX_NESTING: usize = 127;
 
-/// Where the reader stands.
+/// Where the reader is.
 #[derive(Drop)]
 enum Place {
     /// Where a predicate may begin.
@@ -234,7 +234,7 @@ fn closed_before(frames: &mut Vec<Frame>) -> Result<Place, CfgError>
     }
 }
 
-/// A word that stands alone.
+/// A word without a value.
 fn leaf(word: String) -> Predicate
     ensures { tree_of result ≡ leaf (string_bytes word) }
 {
