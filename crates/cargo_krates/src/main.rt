@@ -53,7 +53,7 @@ fn print_answer(rt: &HostRuntime, asked: Asked) -> ExitCode {
     }
 }
 
-/// Does what the words ask for.
+/// Does what the words say.
 fn run(rt: &HostRuntime, words: &[String]) -> ExitCode {
     match asked_of(rt.alloc(), words) {
         Ok(asked) => print_answer(rt, asked),
@@ -61,7 +61,7 @@ fn run(rt: &HostRuntime, words: &[String]) -> ExitCode {
     }
 }
 
-/// Does what the words ask for.
+/// Does what the words say.
 fn main(rt: HostRuntime) -> ExitCode {
     match words_of(&rt) {
         Ok(words) => run(&rt, &words),
