@@ -7,13 +7,13 @@ use std::alloc::{AllocError, AllocFailed, Global};
 use std::fmt;
 use strsim::osa_distance;
 
-/// How many names that come near are told.
+/// How many similar names are reported.
 const NEAR: usize = 5;
 
 /// Why a word doesn't mean one kept crate.
 #[derive(Debug, Drop)]
 pub enum NamingError {
-    /// The word is no package specification, for this reason.
+    /// The word isn't a package specification, for this reason.
     Unread {
         /// The word.
         word: String,
@@ -24,7 +24,7 @@ pub enum NamingError {
     Unknown {
         /// The word.
         word: String,
-        /// What comes near, as specifications.
+        /// What is similar, as specifications.
         near: Vec<String>,
     },
     /// Packages of the document fit, and none of them is kept.
@@ -119,8 +119,8 @@ struct WordMeaning {
 }
 
 impl WordMeaning {
-    /// Whether a package has the version, as far as the word has it apart from the specification. First numbers fit no pre-release,
-    /// which has to be named whole.
+    /// Whether a package has the version, as far as the word has one outside of the specification. First numbers fit no pre-release,
+    /// which must be named in full.
     fn has_version_of(&self, pkg: &Package) -> bool {
         match &self.numbers {
             Some(numbers) => numbers.matches(&pkg.version),
