@@ -84,7 +84,7 @@ fn printed(alloc: Global, certificate: &Certificate) -> Result<String, AllocErro
     lines.whole()
 }
 
-/// Why a part is refused. Want of memory is handed on, as elsewhere.
+/// Why a part is refused. If memory ran out, that is returned, as elsewhere.
 fn refusal(alloc: Global, error: CertificateError) -> Result<String, AllocError> {
     if error.is_memory() {
         return Err(AllocError);
@@ -168,7 +168,7 @@ const TEXTS: &[Row] = &[
 /// The id that is read of a text, as it is written.
 struct Id;
 
-/// The text that stands for the id of a kept crate.
+/// The text that represents the id of a kept crate.
 fn id_in(alloc: Global, fact: &Fact) -> Result<String, AllocError> {
     let value = fact.to_value(alloc)?;
     let text = value.get("krate").and_then(|id| id.as_str());

@@ -43,7 +43,7 @@ const REFUSED: &[Row] = &[
     ),
 ];
 
-/// What stands in a document of two packages and a graph.
+/// What is in a document of two packages and a graph.
 fn summary(alloc: Global, metadata: &Metadata) -> Result<String, AllocError> {
     let ([one, other], Some(graph)) = (metadata.packages.as_slice(), &metadata.resolve) else {
         return String::from_str(alloc, "not two packages and a graph");

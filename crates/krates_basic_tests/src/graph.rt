@@ -10,7 +10,7 @@ use std::test::Fail;
 /// and the weight.
 const JOINED: &[(u32, u32, u8)] = &[(0, 1, 10), (1, 0, 11), (0, 1, 12), (1, 1, 13), (2, 1, 14)];
 
-/// A node of a graph and the direction of its edges, and what is told of these: their numbers, and each edge with its ends and its
+/// A node of a graph and the direction of its edges, and what is known of these: their numbers, and each edge with its ends and its
 /// weight. Here the graph is that of the joined nodes.
 const EDGES: &[Row] = &[
     (
@@ -128,7 +128,7 @@ fn graph_named(alloc: Global, name: &str) -> Result<Graph<char, u8>, Fail> {
     }
 }
 
-/// What is told of a node of a graph and a direction, `out` or `in`.
+/// The edges of a node of a graph in a direction, `out` or `in`.
 struct Edges;
 
 impl Question for Edges {

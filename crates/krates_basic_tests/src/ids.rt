@@ -179,10 +179,10 @@ const REFUSED: &[Row] = &[
     ),
 ];
 
-/// What is told of two ids that are equal.
+/// How two ids compare that are equal.
 const EQUAL: &str = "Equal, Some(Equal), equal with equal hashes";
 
-/// What is told of two ids of which the first is less.
+/// How two ids compare of which the first is less.
 const LESS: &str = "Less, Some(Less), less";
 
 /// Two ids with equal parts: of one package at two commits, which don't count, and in the stable form.

@@ -1,4 +1,4 @@
-//! What each refusal prints. Those of cfg expressions, ids, specifications and JSON values stand beside the texts that are
+//! What each refusal prints. Those of cfg expressions, ids, specifications and JSON values are beside the texts that are
 //! refused so.
 
 use crate::ids::kid;

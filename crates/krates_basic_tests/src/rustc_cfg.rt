@@ -82,7 +82,7 @@ const OTHER_LINES: &[Row] = &[
         r#"t;target_os=linux;target_os = "linux"; target_os="linux";target_os="linux" ;xtarget_os="linux";target_os;target_os=";target_os_x="linux""#,
         r#"TargetInfo { triple: "t", arch: "", os: "", env: "", abi: "", vendor: "", pointer_width: "", endian: "", panic: "", families: [], atomics: [] } []"#,
     ),
-    // what stands between the first quote and the last is the value
+    // what is between the first quote and the last is the value
     (
         r#"t;target_os="a"b="c""#,
         r#"TargetInfo { triple: "t", arch: "", os: "a\"b=\"c", env: "", abi: "", vendor: "", pointer_width: "", endian: "", panic: "", families: [], atomics: [] } []"#,
@@ -113,7 +113,7 @@ fn reads_what_rustc_prints_and_other_lines(rt: HostRuntime) -> Result<(), Fail> 
     hold::<Described>(rt.alloc(), OTHER_LINES)
 }
 
-/// A description with its atomics in order, but for `128`, which the table doesn't have.
+/// A description with its atomics in order, except `128`, which the table doesn't have.
 fn in_fixed_order(alloc: Global, mut info: TargetInfo) -> Result<String, AllocError> {
     info.atomics.retain(|width| width.as_str() != "128");
     info.atomics.sort()?;

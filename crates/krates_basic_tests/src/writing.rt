@@ -47,7 +47,7 @@ const PACKAGES: &[Row] = &[
     ),
 ];
 
-/// What stands around the version of Rust that a package needs, as it is read and as it is written.
+/// What surrounds the version of Rust that a package needs, as it is read and as it is written.
 const BEFORE: &str =
     r#"{"name":"a","version":"1.0.0","id":"i","dependencies":[],"targets":[],"features":{},"manifest_path":"m","rust_version":"#;
 
