@@ -15,7 +15,7 @@ fn outcome(alloc: Global, metadata: &Metadata) -> Result<String, AllocError> {
     }
 }
 
-/// What admission answers to the document of a line.
+/// What admission answers for the document of a line.
 struct Admitted;
 
 impl Told for Admitted {

@@ -23,7 +23,7 @@ fn target_text(alloc: Global, text: &str) -> Result<Option<String>, Fail> {
     Ok(Some(String::from_str(alloc, text)?))
 }
 
-/// An edge that is asked for.
+/// An edge that a question is about.
 #[derive(Drop)]
 pub(crate) struct Edge {
     pub(crate) parent: Kid,

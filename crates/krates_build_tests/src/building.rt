@@ -96,7 +96,7 @@ const BUILT: &[Row] = &[
     ("a b|b|c", "+a+b-c"),
     // in the order of the ids, whatever the order of the document
     ("d|c|b|a b / nodes c|b|a b|d", "+a+b-c-d"),
-    // a cycle, a member that stands twice, and a node that no crate needs and that has no package
+    // a cycle, a member that is listed twice, and a node that no crate needs and that has no package
     ("a b|b a", "+a+b"),
     ("a b|b / members a a", "+a+b"),
     ("a b|b / nodes a b|b|c", "+a+b"),

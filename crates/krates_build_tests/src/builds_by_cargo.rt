@@ -1,4 +1,4 @@
-//! Builds over the document that a stand-in for cargo writes.
+//! Builds from the document that a substitute for cargo writes.
 
 ghost use Rattle.std.specs.Prelude.{◌≡◌, ⊤};
 

@@ -143,7 +143,7 @@ pub(crate) const ADDED: &[Row] = &[
     ("a b|b|c a / facts +a a>b +b", "yes"),
     ("a b|b|c a / facts +a a>b +b +c", "open"),
     ("a b|b|c a / facts +a a>b +b +c c>a", "yes"),
-    // facts that can't be derived: what an edge of an ignored kind declares is asked for too
+    // facts that can't be derived: what an edge of an ignored kind declares is required too
     ("a b&dev&with=y|b;y= / ignore dev / facts +a", "yes"),
     (
         "a b&dev&with=y|b;y= / ignore dev / facts +a a>b:dev",
@@ -258,7 +258,7 @@ pub(crate) const LOST: &[Row] = &[
     ("a b|b / nodes a b / facts +a a>b +b", "open"),
     ("a|b / nodes a b|b / facts +a a>b +b", "open"),
     ("a b|b / nodes / facts +a", "open"),
-    // but for the default feature by use, and what is excluded
+    // except the default feature by use, and what is excluded
     ("a b|b / nodes a b / without b / facts +a", "yes"),
     ("a b|b / without a / facts", "yes"),
     // the document isn't admitted

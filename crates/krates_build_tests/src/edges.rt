@@ -98,7 +98,7 @@ impl Told<Package> for Own {
 }
 
 const OWN: &[Row] = &[
-    // a dependency that asks for a feature twice, as the default one and by name, and the feature, which leads to its crate
+    // a dependency that requires a feature twice, as the default one and by name, and the feature, which leads to its crate
     (
         "a b!&with=default|b;default= / nodes a b|b;default",
         "2 | 0 1 2",
@@ -174,7 +174,7 @@ const KIDS: &[Row] = &[
     ),
 ];
 
-/// Adds what stands at the end of an edge: the name of a crate, or a plus sign and the name of a feature.
+/// Adds what is at the end of an edge: the name of a crate, or a plus sign and the name of a feature.
 fn push_end(text: &mut Text, end: &Node<Package>) {
     match end {
         Node::Krate { krate, .. } => push_marked(text, " ", krate.name.as_str()),
@@ -190,7 +190,7 @@ fn push_resolved(text: &mut Text, krates: &Krates, node: NodeId, place: usize) {
     }
 }
 
-/// Adds behind a bar what stands at the ends of a node's edges, and what its first two declared dependencies mean.
+/// Adds after a bar what is at the ends of a node's edges, and what its first two declared dependencies mean.
 fn push_ends(text: &mut Text, krates: &Krates, node: NodeId) {
     text.push_str("|");
     for (end, _) in krates.get_deps(node) {

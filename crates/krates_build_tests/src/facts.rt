@@ -14,7 +14,7 @@ use krates_samples::text::Text;
 use std::alloc::Global;
 use std::test::Fail;
 
-/// Adds what stands behind the child of a kept edge: its kind, where it isn't normal, and its target.
+/// Adds what follows the child of a kept edge: its kind, where it isn't normal, and its target.
 fn push_purpose(text: &mut Text, kind: DepKind, cfg: Option<&str>) {
     let word = match kind {
         DepKind::Normal => "",

@@ -126,7 +126,7 @@ fn push_each_package(facts: &mut Vec<Fact>, alloc: Global) -> Result<(), Fail> {
     Ok(())
 }
 
-/// Adds that each of the many features is enabled, but for the last that they name.
+/// Adds that each of the many features is enabled, except the last that they name.
 fn push_each_feature(facts: &mut Vec<Fact>, alloc: Global) -> Result<(), Fail> {
     for number in FEATURES {
         facts.push(feature(alloc, number)?)?;

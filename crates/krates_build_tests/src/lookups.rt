@@ -85,7 +85,7 @@ fn push_search(text: &mut Text, krates: &Krates, words: &str) -> Result<(), Fail
     Ok(())
 }
 
-/// Adds the name of the crate of a number, asked for in both ways.
+/// Adds the name of the crate of a number, looked up in both ways.
 fn push_krate(text: &mut Text, krates: &Krates, number: &str) -> Result<(), Fail> {
     let number: usize = number.parse()?;
     if number >= krates.len() {

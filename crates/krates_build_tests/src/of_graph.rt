@@ -8,13 +8,13 @@ use std::alloc::Global;
 use std::marker::PhantomData;
 use std::test::Fail;
 
-/// What is told of a graph, whose crates are held as these values.
+/// What is reported of a graph, whose crates are held as these values.
 pub(crate) trait Told<N> {
-    /// Adds what is told of the graph that is built of a line.
+    /// Adds what is reported of the graph that is built from a line.
     fn push(text: &mut Text, krates: &Krates<N>, line: &str) -> Result<(), Fail>;
 }
 
-/// What is told of the graph that is built of each line of a table.
+/// What is reported of the graph that is built from each line of a table.
 pub(crate) struct OfGraph<T: Told<N>, N = Package> {
     of: PhantomData<(T, N)>,
 }

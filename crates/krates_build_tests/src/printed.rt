@@ -44,7 +44,7 @@ fn push_edges(text: &mut Text, edges: &[GraphEdge<Edge>]) -> Result<(), AllocErr
     Ok(())
 }
 
-/// The nodes of the graph, with names in the place of packages, and copies of its edges.
+/// The nodes of the graph, with names instead of packages, and copies of its edges.
 struct Printed;
 
 impl Told<Named> for Printed {

@@ -1,4 +1,4 @@
-//! Reports that people ask for, as a caller writes them.
+//! Reports that people want, as a caller writes them.
 
 use crate::of_graph::{OfGraph, Told};
 use krates::cm::SourceKind;
@@ -43,7 +43,7 @@ const DEPENDENTS: &[Row] = &[
         "a c|b c&dev|c|d c&build&on=cfg(unix) / members a b d / of c",
         "a, b(dev), d(build) 'cfg(unix)', ",
     ),
-    // by an edge that asks for a feature, and, of two edges, by the least
+    // by an edge that requires a feature, and, of two edges, by the least
     ("a b&with=f|b;f= / of b", "a, "),
     ("a b b&dev|b / nodes a b&normal&dev|b / of b", "a, "),
     // of both crates of a name, the lower version as a text first

@@ -9,10 +9,10 @@ use std::alloc::Global;
 use std::test::Fail;
 
 const SETTINGS: &[Row] = &[
-    // crates that are asked for
+    // crates that are included
     ("a|c / members a c / include /w/c", "+c-a"),
     ("a|c / members a c / include /w/./c//Cargo.toml", "+c-a"),
-    // the workspace itself means every member, until a crate is asked for
+    // the workspace itself means every member, until a crate is included
     ("a|c / members a c / include /w", "+a+c"),
     ("a|c / members a c / include /w /w/c", "+c-a"),
     (
@@ -67,7 +67,7 @@ const SETTINGS: &[Row] = &[
         "a b&on=cfg(unix)|b / for x86_64-pc-windows-msvc x86_64-unknown-linux-gnu",
         "+a+b",
     ),
-    // a feature is asked of those that stand beside the target, of which nothing else need be known
+    // a feature is looked up among those given with the target, of which nothing else need be known
     (
         r#"a b&on=cfg(target_feature~=~"atomics")|b / for x+atomics"#,
         "+a+b",

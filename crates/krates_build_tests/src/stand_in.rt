@@ -1,4 +1,4 @@
-//! The runs, and what stands in for cargo in them.
+//! The runs, and the substitute for cargo in them.
 
 use crate::command::read;
 use crate::table::{Question, Row, compare, hold_beginnings};
