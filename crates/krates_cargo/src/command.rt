@@ -156,7 +156,7 @@ impl MetadataCommand {
         self
     }
 
-    /// The manifest whose workspace is asked for, by `--manifest-path`. Never refused. Time O(1).
+    /// The manifest of the workspace whose metadata is wanted, for `--manifest-path`. Never refused. Time O(1).
     ///
     /// ```text
     /// command.manifest_path(String::from_str(alloc, "/w/a/Cargo.toml")?);
@@ -308,7 +308,7 @@ impl MetadataCommand {
         }
     }
 
-    /// Sets a variable; whether it could.
+    /// Sets a variable, and returns whether that succeeded.
     fn has_set(&mut self, name: &str, value: &str) -> bool
         ensures { MatchBool result
             (self.new ≡ with_variable self.old name.now value.now) (self.new ≡ self.old) }
