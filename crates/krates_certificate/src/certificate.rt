@@ -39,8 +39,8 @@ pub enum Certificate {
 }
 
 impl Certificate {
-    /// Reads a certificate: the JSON value of the text (RFC 8259), then the certificate of that value. Texts stay where they
-    /// stand until they are copied.
+    /// Reads a certificate: the JSON value of the text (RFC 8259), then the certificate of that value. Texts are borrowed
+    /// until they are copied.
     ///
     /// Returns `NotJson` if the text isn't JSON, and otherwise what is wrong with its value. It may instead tell that memory ran
     /// out. Time O(n) in the length of the text.
@@ -121,7 +121,7 @@ fn certificate_of<J: JsonRef>(alloc: Global, value: J) -> Result<Option<Certific
     }
 }
 
-/// Reads a certificate whose texts stay where they stand until they are copied; `None` exactly where it is refused. Returns
+/// Reads a certificate whose texts are borrowed until they are copied; `None` exactly where it is refused. Returns
 /// `AllocError` if memory runs out.
 fn parse_in_place(alloc: Global, text: &str) -> Result<Option<Certificate>, AllocError>
     ensures { IfOk result (λ found. MatchOption found (IsNoCertificateText text.now)

@@ -20,13 +20,13 @@ pub enum CertificateError {
         /// The column where that shows.
         column: usize,
     },
-    /// A key is missing, or what stands under it has another JSON type; or memory ran out.
+    /// A key is missing, or the value under it has another JSON type; or memory ran out.
     #[error("{0}")]
     Read(ReadError),
     /// The text under this key isn't a package id.
     #[error("no package id at key: {0}")]
     BadId(&'static str),
-    /// The text under this key is none of the names that may stand there.
+    /// The text under this key is none of the names that are allowed there.
     #[error("unknown name at key: {0}")]
     UnknownName(&'static str),
     /// The number under this key is larger than the number of any rule.

@@ -19,7 +19,7 @@ pub fn one_reading()
     ensures certificate { ReadsOnce IsCertificate }
 {}
 
-/// No fault is true of data that is read: a refusal, but for memory that runs out, comes only where nothing is read.
+/// No fault is true of data that is read: except when memory runs out, a refusal comes only where nothing is read.
 pub fn faults_are_true()
     ensures fact { NeverBoth IsFact FactFault }
     ensures step { NeverBoth IsStep StepFault }
