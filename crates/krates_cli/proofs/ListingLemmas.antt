@@ -179,7 +179,7 @@ explained s m made_edge kept before after krate lines resolvable built e =
       written = e.written;
     }
 
--- what stands in the list of ids stands at some place of it
+-- what is in the list of ids is at some place of it
 place_of : (ids : List Identity) (i : Id) (k : ℕ) → k < length (map id_of ids) → get_or (map id_of ids) k i ≡ i → (n : ℕ) × StandsAt ids i n
 place_of [] i k lt is = absurd (omega arith)
 place_of (x ∷ xs) i zero lt is = (0, record { there = x; at = refl; same = is })

@@ -44,7 +44,7 @@ no_word option value flag wish k t s c w same (exclude h) e = differ option (cod
 no_word option value flag wish k t s c w same cargo e = differ option (codes "--cargo") flag refl e c same
 no_word option value flag wish k t s c w same (why h) e = differ option (codes "--why") flag refl e w same
 
--- an option without a value, and what it asks for
+-- an option without a value, and what it means
 abbrev pub IsFlag : Text → Wish → Type 0
 IsFlag option every_member = option ≡ codes "--workspace"
 IsFlag option every_namesake = option ≡ codes "--all-named"
@@ -60,7 +60,7 @@ no_flag option value wish (without_package s) asks e = e
 no_flag option value wish (by_program c) asks e = e
 no_flag option value wish (explaining i) asks e = e
 
--- and each asks for one thing
+-- and each means one thing
 same_flag : (option : Text) (a b : Wish) → IsFlag option a → IsFlag option b → a ≡ b
 same_flag option every_member every_member p q = refl
 same_flag option every_member every_namesake p q = differ option (codes "--workspace") (codes "--all-named") p q refl refl
@@ -82,7 +82,7 @@ same_flag option (without_package s) b p q = absurd p
 same_flag option (by_program c) b p q = absurd p
 same_flag option (explaining i) b p q = absurd p
 
--- an option of another name asks for nothing
+-- an option of another name means nothing
 pub no_value : (option value : Text) → (option ≡ codes "--ignore-kind" → ⊥) → (option ≡ codes "--target" → ⊥) → (option ≡ codes "--exclude" → ⊥) → (option ≡ codes "--cargo" → ⊥) → (option ≡ codes "--why" → ⊥) → IsNoValue option value
 no_value option value no_kind no_target no_spec no_cargo no_why wish (ignore_kind h) = no_kind refl
 no_value option value no_kind no_target no_spec no_cargo no_why wish target = no_target refl
@@ -212,7 +212,7 @@ later_still : {A : Type 0} (first : Option A) (next : A) (last : Option A) → l
 later_still first next None = refl
 later_still first next (Some other) = refl
 
--- a wish at the end of the first stands before the second
+-- a wish at the end of the first comes before the second
 moves_over : (a b : OptionsModel) (wish : Wish) → joined (and_wish a wish) b ≡ joined a (with_wish wish b)
 moves_over a b every_member = ap (λ x. record (joined a b) { workspace = x }) (sym (or-true a.workspace))
 moves_over a b every_namesake = ap (λ x. record (joined a b) { all_named = x }) (sym (or-true a.all_named))

@@ -27,7 +27,7 @@ pub record IsUnbuilt (s : SettingModel) (m : Metadata) (cause : build.Error) : T
   pub refused : BuildRefusalAsGiven m s cause
   pub not_memory : cause ≡ build_errors.Memory → ⊥
 
--- the document is built under the setting, and doesn't keep the crate, whose derivation is asked for
+-- the document is built under the setting, and doesn't keep the crate, whose derivation is requested
 pub record IsUnkept (a : Request) (m : Metadata) (krate : Identity) : Type 0 where
   pub asked : a.explaining ≡ Some krate
   pub kept : List Package

@@ -37,8 +37,8 @@ const UNKNOWN_WORD: u8 = 2;
 /// the lines were written; 1 where it is refused, with what is printed of the cause in a line on `errors`; 2 where the words
 /// aren't options, with the usage line on `errors`. Where memory runs out for the line of a cause, it says that instead.
 ///
-/// All words are read before any input; where memory runs out meanwhile, the status is 1 and nothing was read. Where the words
-/// ask for a program, `host` runs it as cargo, its document is listed, and no input is read.
+/// All words are read before any input; where memory runs out while they are, the status is 1 and nothing was read. Where the words
+/// set a program, `host` runs it as cargo, its document is listed, and no input is read.
 ///
 /// `laws::listed_or_refused` says that a cause is the text's only where there is no listing. Time: that of `run`.
 pub fn program<R: Read, W: Write, E: Write>(
@@ -81,7 +81,7 @@ pub fn program<R: Read, W: Write, E: Write>(
     }
 }
 
-/// Writes the lines that are asked for: of the document that is read, or of that of the program that is asked for.
+/// Writes the lines that are requested: of the document that is read, or of the one that the program writes, where one is set.
 fn list<R: Read, W: Write>(
     options: &Options,
     input: &mut Counted<R>,
@@ -141,7 +141,7 @@ pub fn refuse_words<E: Write>(error: &io::Error, errors: &mut Counted<E>) -> u8
     REFUSED
 }
 
-/// Writes what is printed of the cause in a line; where there is no memory for that line, it says so in its place.
+/// Writes what is printed of the cause in a line; where there is no memory for that line, it says so instead.
 fn refuse<C: Display, E: Write>(alloc: Global, cause: &C, errors: &mut Counted<E>)
     ensures { TellsCause E.contents errors.old errors.new (C.output cause.now) }
 {

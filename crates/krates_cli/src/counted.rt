@@ -86,7 +86,7 @@ impl<R: Read> Counted<R> {
                 Err(call) => return Err(call.of_reader()),
             };
             if count == 0 {
-                // what is read of the bytes stands behind them
+                // what is read comes after these bytes
                 bytes.shrink_to_fit();
                 return Ok(bytes);
             }

@@ -36,7 +36,7 @@ fn listing(alloc: Global, options: &Options, text: String) -> Result<String, Run
 }
 
 /// The lines of a document under the options: those of the kept packages, then those of the others; or those of the derivation of
-/// the crate that is to be explained. The program that the options may ask for is not looked at.
+/// the crate to be explained. The program that the options may set isn't looked at.
 ///
 /// It is refused as `Build`, or as `NotKept` where the crate that is to be explained isn't kept, each only where that is true of the
 /// document. It may instead return `Memory`. Time: that of the build.
@@ -70,7 +70,7 @@ pub fn listing_of(alloc: Global, options: &Options, metadata: Metadata) -> Resul
 /// explained. It may instead return `Memory`. The whole text is made before the first byte is written, so after each refusal but
 /// `Write` nothing was written, and after `Write` a beginning of it. What was read is gone.
 ///
-/// The input is read whether or not the options ask for a program; `run_by_cargo` runs that in place of reading. Time: that of
+/// The input is read whether or not the options set a program; `run_by_cargo` runs that instead of reading. Time: that of
 /// `parse` and of the build.
 pub fn run<R: Read, W: Write>(
     alloc: Global,
