@@ -100,7 +100,7 @@ finds_at n (json.string s) d is = subst (λ o. Finds None (option_and_then (foun
 finds_at n (json.array js) d is = let p = array_made (of_items js) d is in subst (λ e. Finds (tree.get_item n js) (found.at n e)) (sym p.1.1) (finds_item n js p.0 p.1.0)
 finds_at n (json.object ms) d is = nothing serde.object (found.at n) (λ _. refl) (of_members ms serde.no_members) d is
 
--- what stands under a key, once members were put to older ones
+-- what is under a key, after members were added to older ones
 abbrev Puts : Option Json → Option Data → Option Data → Type 0
 Puts None old new = new ≡ old
 Puts (Some j) old new = (d : Data) × ((of_json j ≡ Some d) × (new ≡ Some d))

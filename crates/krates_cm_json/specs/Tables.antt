@@ -1,5 +1,5 @@
--- The tables of the document: which keys each type has, how what stands under each is read, and so
--- which fault is true of a value that isn't read. One row a key.
+-- The tables of the document: which keys each type has, how the data under each is read, and so
+-- which fault a value has that isn't read. One row for each key.
 use Rattle.std.specs.Prelude.{[], true, codes, None}
 use Rattle.serde_json.specs.Data.{null}
 use Rattle.krates_cm.specs.Document.{VersionModel, RequirementModel, DepKindInfoModel, NodeDepModel, NodeModel, ResolveModel, DependencyModel, TargetModel, PackageModel, MetadataModel}

@@ -1,4 +1,4 @@
-//! Values that leave their texts where they stand.
+//! Values that borrow their texts from the text that was parsed.
 
 ghost use Rattle.std.specs.Prelude.{◌≡◌, option_map};
 ghost use Rattle.json.specs.Find.{as_array};

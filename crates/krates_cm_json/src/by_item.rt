@@ -1,5 +1,5 @@
-//! Reading a document item by item: each package and each node of the graph is read as a tree, made a value of its type, and its
-//! tree given up before the next one is read. So the tree of the whole document never stands in memory.
+//! Reading a document item by item: each package and each node of the graph is read as a tree and turned into a value of its type, and
+//! the tree is dropped before the next one is read. So the tree of the whole document is never in memory.
 //!
 //! What is read so is what the text has. `None` says nothing of the text: a key that comes twice, or keys in another order, are
 //! left to those who read the whole.
@@ -77,8 +77,8 @@ fn push<T: Drop>(list: &mut Vec<T>, item: T) -> Option<()>
     list.push(item).ok()
 }
 
-/// Adds the next members of an object to others, up to a key or to the end of the object; whether the key was found. It gives
-/// up at a key that was given before.
+/// Adds the next members of an object to others, up to a key or to the end of the object, and returns whether the key was found.
+/// `None` at a key that was there before.
 fn has_key_behind<'t>(
     alloc: Global,
     reader: &mut Reader<'t>,
@@ -135,7 +135,7 @@ fn with_empty_list<'t>(
     })
 }
 
-/// The graph that stands next, node by node.
+/// The graph that comes next, read node by node.
 fn next_resolve(alloc: Global, reader: &mut Reader<'_>) -> Option<Resolve>
     ensures { IfSome result
         (λ r. ReadsNext 126 (resolve []) reader.old (resolve_view r) reader.new) }
@@ -158,7 +158,7 @@ fn next_resolve(alloc: Global, reader: &mut Reader<'_>) -> Option<Resolve>
     })
 }
 
-/// The document that stands next, package by package and node by node.
+/// The document that comes next, read package by package and node by node.
 fn next_document(alloc: Global, reader: &mut Reader<'_>) -> Option<Metadata>
     ensures { IfSome result
         (λ m. ReadsNext 127 (metadata []) reader.old (metadata_view m) reader.new) }

@@ -20,7 +20,7 @@ pub trait FromValue: Sized + Drop {
     /// What is read from the data under a key, and which faults are true of it.
     ghost reads: { List ℕ → Data → Reading Model };
 
-    /// Reads the value that stands under `key`, which a refusal may name.
+    /// Reads the value under `key`, which a refusal may name.
     fn from_json_at<J: JsonRef>(
         alloc: Global,
         value: J,
