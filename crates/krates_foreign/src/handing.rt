@@ -31,7 +31,7 @@ fn hand(status: Status, text: &[u8], room: &mut [u8]) -> Answer
     Answer { status, length }
 }
 
-/// Hands an answer over: its text, or what is printed of the refusal, stands at the front of the room, and behind it the room is as
+/// Hands an answer over: its text, or what is printed for the refusal, is put at the front of the room, and after it the room is as
 /// it was. The answer has the status and the length of the text.
 ///
 /// Where the room is too short for the text, it is as it was, the status is that of `TooShort`, and the length is the room that the text

@@ -15,7 +15,7 @@ use std::fmt;
 /// Why a call has no answer. Of several that are true the first counts, but memory may run out at each of them.
 #[derive(Debug, Drop)]
 pub enum CallRefusal {
-    /// The words are no UTF-8, or aren't options, or ask for more than a setting.
+    /// The words aren't UTF-8, or aren't options, or say more than a setting.
     Words,
     /// The id of the crate that is to be explained can't be read.
     Id,

@@ -8,7 +8,7 @@ ghost use Rattle.krates_foreign.specs.Status.{number_of};
 pub enum Status {
     /// The answer was handed over.
     Answered,
-    /// The words aren't options, or ask for more than a setting.
+    /// The words aren't options, or say more than a setting.
     Words,
     /// The id of the crate that is to be explained can't be read.
     Id,
