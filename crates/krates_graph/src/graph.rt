@@ -1,8 +1,8 @@
 //! A directed graph that only grows: nodes and edges are numbered in the order in which they were
 //! added. Two edges may join the same nodes, and an edge may join a node to itself.
 //!
-//! For each node the numbers of its outgoing and of its incoming edges are kept beside the edges, so
-//! walking them costs no search. No contract speaks of this: callers see two lists and two limits.
+//! For each node the numbers of its outgoing and incoming edges are kept in addition to the edges, so
+//! walking them takes no search. No contract mentions this: callers see two lists and two limits.
 ghost use Rattle.std.specs.Prelude.{◌≡◌, [], ◌∷◌, ◌++◌, ◌<◌, ◌≤◌, ◌↔◌, All, IfOk, IfErr, OnErr, Some, length, map, option_map, slice_get};
 ghost use Rattle.krates_graph.specs.Graph.{IsFull, edges_at, numbers_at, value_in, HasEnds};
 
