@@ -20,7 +20,7 @@ pub fn document(rt: &HostRuntime, asked: &Asked) -> Result<Metadata, Failure> {
     }
 }
 
-/// The document with which it is compared, where a word asks for that. It is refused as `document` is.
+/// The document with which it is compared, where the word is for a comparison. It is refused as `document` is.
 pub fn other(rt: &HostRuntime, word: &Word) -> Result<Option<Metadata>, Failure> {
     match word {
         Word::Diff { other } if other.as_str() == "-" => Ok(Some(in_input(rt)?)),

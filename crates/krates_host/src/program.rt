@@ -31,7 +31,7 @@ pub fn refuse_words(rt: &HostRuntime, cause: &io::Error) -> ExitCode {
     ExitCode::from(NO)
 }
 
-/// Prints the help that was asked for, or says what is wrong with the words, and answers the status.
+/// Prints the help that was asked for, or says what is wrong with the words, and returns the status.
 pub fn refuse_asked(rt: &HostRuntime, error: &WordsError) -> ExitCode {
     match error {
         WordsError::Asked(text) => print(rt, text.as_str(), true),
