@@ -1,4 +1,4 @@
-//! Runs of the program over the document that a stand-in for cargo writes.
+//! Runs of the program over the document that a substitute for cargo writes.
 
 use krates_cli::{Counted, Options, RunError, program, run_by_cargo};
 use krates_samples::stand_in::DOCUMENT;
@@ -15,7 +15,7 @@ pub(crate) fn stand_in(rt: &HostRuntime) -> Result<(), Fail> {
     Ok(())
 }
 
-/// The words of a run of the program, `SELF` being the stand-in, and the status, what it tells and what it lists; of what is told
+/// The words of a run of the program, where `SELF` is the substitute; then the status, what it reports and what it lists; of what it reports
 /// only the beginning up to the mark.
 const LISTINGS: &[Row] = &[
     (
@@ -35,7 +35,7 @@ const LISTINGS: &[Row] = &[
         "--exclude a --cargo SELF",
         "1 refused: no root crates available\n|",
     ),
-    // why a crate is kept of its document, and one that isn't
+    // why a crate of its document is kept, and one that isn't
     (
         "--why path+file:///w/b#0.1.0 --cargo SELF",
         "0 |0 rule 1: crate path+file:///w/a#0.1.0\n1 rule 5: kept path+file:///w/a#0.1.0 -> path+file:///w/b#0.1.0 (dev) from 0\n2 rule 5: crate path+file:///w/b#0.1.0 from 1\n",

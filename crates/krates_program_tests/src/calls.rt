@@ -25,7 +25,7 @@ fn shown(alloc: Global, options: &Options) -> Result<String, AllocError> {
     )
 }
 
-/// What the words ask for.
+/// What the words mean.
 struct Read;
 
 impl Question for Read {

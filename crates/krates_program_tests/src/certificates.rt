@@ -68,7 +68,7 @@ fn checked(alloc: Global, line: &str, certificate: &[u8]) -> Result<String, Fail
     }
 }
 
-/// The words that ask for a certificate and its document, and behind `=>` the words and the document by which it is checked: what the
+/// The words that request a certificate and its document, and after `=>` the words and the document by which it is checked: what the
 /// checker says of the certificate as it is printed.
 struct Certified;
 
@@ -168,7 +168,7 @@ const BY_HAND: &[Row] = &[
         r#"{"kind":"derivation","setting":[],"steps":[]}"#,
         "refused: the derivation has no step",
     ),
-    // a crate that is told twice counts once
+    // a crate that is listed twice counts once
     (
         r#"{"kind":"closed","setting":[],"facts":[{"fact":"crate","krate":"path+file:///w/a#0.1.0"},{"fact":"kept","parent":"path+file:///w/a#0.1.0","child":"path+file:///w/b#0.1.0","kind":"normal","cfg":null},{"fact":"crate","krate":"path+file:///w/b#0.1.0"},{"fact":"crate","krate":"path+file:///w/b#0.1.0"}]}"#,
         "holds: nothing but these 2 crates can be reached\n",

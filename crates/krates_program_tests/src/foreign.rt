@@ -1,4 +1,4 @@
-//! Calls over bytes, as other languages make them: what stands in the room that the caller lends.
+//! Calls over bytes, as other languages make them: what is in the room that the caller lends.
 
 use krates_foreign::{CallRefusal, Status, check, graph, hand_over, list, why};
 use krates_samples::documents::{document, section};
@@ -7,7 +7,7 @@ use std::alloc::Global;
 use std::str;
 use std::test::Fail;
 
-/// What a line asks: the call, the length of the room, the words, and what stands behind `<`.
+/// What a line asks: the call, the length of the room, the words, and what comes after `<`.
 #[derive(Clone, Copy)]
 struct Asked<'l> {
     call: &'l str,
@@ -38,7 +38,7 @@ impl<'l> Asked<'l> {
         }
     }
 
-    /// What the call answers of a document under words, one a line; the id and the certificate stand in sections.
+    /// What the call answers of a document under words, one a line; the id and the certificate are in sections.
     fn called(self, alloc: Global, json: &[u8], words: &[u8]) -> Result<String, CallRefusal> {
         match self.call {
             "list" => list(alloc, json, words),
@@ -66,7 +66,7 @@ fn lines_of(alloc: Global, words: &str) -> Result<String, Fail> {
     Ok(lines)
 }
 
-/// What is handed over in a room of so many bytes, each of them a full stop before: the status, the length, and the room.
+/// What is handed over in a room of this many bytes, each of them a full stop before: the status, the length, and the room.
 fn room_of(
     alloc: Global,
     told: Result<String, CallRefusal>,

@@ -46,7 +46,7 @@ fn refuses_a_document_that_ends_too_early(rt: HostRuntime) -> Result<(), Fail> {
     Ok(())
 }
 
-/// A document whose free-form metadata is so many lists, each in the one before it.
+/// A document whose free-form metadata is this many lists, each in the one before it.
 fn nested(alloc: Global, depth: usize) -> Result<String, Fail> {
     let (opened, closed) = ("[".repeat(alloc, depth)?, "]".repeat(alloc, depth)?);
     let json = document(alloc, "a")?;

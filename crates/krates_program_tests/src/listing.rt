@@ -183,7 +183,7 @@ fn refuses_where_the_first_write_fails(rt: HostRuntime) -> Result<(), Fail> {
     hold::<Unwritten>(rt.alloc(), UNWRITTEN)
 }
 
-/// What is told of words that are no options.
+/// What is reported of words that aren't options.
 pub(crate) const USAGE: &str =
     "usage: krates-list [--workspace] [--ignore-kind KIND] [--target TRIPLE] [--exclude SPEC] [--cargo PROGRAM] [--why ID] [--all-named]\n";
 

@@ -1,4 +1,4 @@
-//! A host on which no program can be started, for runs that ask for none, and for those that ask for one in vain.
+//! A host on which no program can be started, for runs that need none, and for those that need one in vain.
 
 use std::alloc::Allocator;
 use std::io;

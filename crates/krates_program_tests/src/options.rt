@@ -1,4 +1,4 @@
-//! Options of the command line: what they leave out of a document, and which words are none.
+//! Options of the command line: what they leave out of a document, and which words aren't options.
 
 use crate::listing::{Listed, USAGE, told, words_of};
 use krates_cli::Counted;
@@ -57,7 +57,7 @@ const LEAST: &str =
 const ALL: &str =
     "0 |+ path+file:///w/a#0.1.0\n+ path+file:///w/d#d@0.10.0\n+ path+file:///w/d#d@0.9.0\n";
 
-// A feature of the only member asks for a dependency by a name to which two versions answer.
+// A feature of the only member enables a dependency by a name that two versions match.
 const NAMED: &[Row] = &[
     (
         "< a d?;x=dep:d|d@0.10.0|d@0.9.0 / nodes a d@0.10.0 d@0.9.0;x|d@0.10.0|d@0.9.0",
@@ -77,7 +77,7 @@ fn leaves_out_and_keeps_what_options_ask(rt: HostRuntime) -> Result<(), Fail> {
     hold::<Listed>(rt.alloc(), NAMED)
 }
 
-/// What is told before the usage line, or before the cause for which a program isn't found, and a mark for the rest.
+/// What is reported before the usage line, or before the cause for which a program isn't found, and a mark for the rest.
 fn beginning(told: &str) -> (&str, &str) {
     if let Some(status) = told.strip_suffix(USAGE) {
         return (status, "usage");

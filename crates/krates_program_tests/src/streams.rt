@@ -30,7 +30,7 @@ struct Pace {
 }
 
 impl Pace {
-    /// At most so many bytes in a call, of which one goes wrong.
+    /// At most this many bytes in a call, one of which goes wrong.
     fn new(most: usize, kind: Option<ErrorKind>, call: usize) -> Pace {
         let mishap = Mishap { call, kind };
         Pace {
@@ -40,7 +40,7 @@ impl Pace {
         }
     }
 
-    /// How many bytes of so many are moved by the next call.
+    /// How many of this many bytes are moved by the next call.
     fn next(&mut self, wanted: usize) -> io::Result<usize> {
         let call = self.calls;
         self.calls = call.saturating_add(1);
@@ -93,7 +93,7 @@ impl Write for Taking {
     }
 }
 
-/// A document of so many bytes: the first package needs the second for its tests, and blanks follow the first brace.
+/// A document of this many bytes: the first package needs the second for its tests, and spaces follow the first brace.
 fn document_of(alloc: Global, size: usize) -> Result<String, Fail> {
     let json = document(alloc, "a b&dev|b")?;
     let blanks = " ".repeat(alloc, size.saturating_sub(json.len()))?;
@@ -172,7 +172,7 @@ impl Course for Explaining {
     }
 }
 
-/// What is told of bytes that are no text.
+/// What is reported of bytes that aren't a text.
 const REFUSAL: &str = "refused: input is not UTF-8\n";
 
 /// Runs over bytes that are no text, whose writer of refusals goes at the pace. No document is read.
@@ -474,7 +474,7 @@ fn writes_all_lines_or_steps_or_a_beginning(rt: HostRuntime) -> Result<(), Fail>
     hold::<EachCall<Explaining>>(rt.alloc(), EXPLAINED)
 }
 
-// Twenty-eight bytes are written. The status is that of the refusal, whether it is told or not.
+// Twenty-eight bytes are written. The status is that of the refusal, whether it is reported or not.
 const TOLD: &[Row] = &[
     (
         "0 1 fails",

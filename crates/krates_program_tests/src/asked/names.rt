@@ -1,4 +1,4 @@
-//! Which crate a word of `cargo krates` means, and words that ask for nothing.
+//! Which crate a word of `cargo krates` means, and words that can't be answered.
 
 use crate::asked::{Answered, CargoTold};
 use krates_samples::table::{Row, hold};
@@ -110,7 +110,7 @@ const NAMES: &[Row] = &[
     ),
 ];
 
-/// Words that ask for nothing.
+/// Words that can't be answered.
 const WORDS: &[Row] = &[
     (
         "",
