@@ -115,7 +115,7 @@ fn scope_of(usage: Use) -> &'static str {
     }
 }
 
-/// The list of a licence that is an expression, in which an old `/` stands for `OR` (Cargo Book, "The license and license-file fields").
+/// The list of a licence that is an expression, in which an old `/` means `OR` (Cargo Book, "The license and license-file fields").
 fn expression_json(alloc: Global, expression: &str) -> Result<Value, AllocError> {
     let expression = string(expression.replace(alloc, "/", " OR "));
     let licence = JsonObject::new(alloc).put("expression", expression);

@@ -60,7 +60,7 @@ fn place_of(krate: &Package) -> Option<&str> {
     }
 }
 
-/// The url of a source: what stands behind its kind.
+/// The url of a source: the part after its kind.
 pub(crate) fn url_of(source: &Source) -> &str {
     match source.repr.as_str().split_once('+') {
         Some((_, url)) => url,

@@ -27,7 +27,7 @@ pub struct Difference<'a> {
 }
 
 impl<'a> Difference<'a> {
-    /// What stands between two graphs. The only refusal is running out of memory. Time O((n + e) log (n + e)) for n crates and e
+    /// What differs between two graphs. The only refusal is running out of memory. Time O((n + e) log (n + e)) for n crates and e
     /// edges of both.
     pub fn between(
         alloc: Global,

@@ -285,7 +285,7 @@ impl Reporter<'_> {
 
 /// What is printed of what was built. Nothing large is owned here, so that no refusal has to let it go.
 impl Reporter<'_> {
-    /// What a word that asks for the graph alone is answered: the kept crates, the names that several of them have, their licences, or
+    /// The answer to a word about the graph alone: the kept crates, the names that several of them have, their licences, or
     /// the drawn graph, number by number.
     fn in_graph(&self, krates: &Krates) -> Result<Report, ReportError> {
         match &self.asked.word {
@@ -419,7 +419,7 @@ impl Reporter<'_> {
         Ok(is_unreachable(metadata, &builder, facts, &kid)?)
     }
 
-    /// The certificate that is asked for, as JSON.
+    /// The requested certificate, as JSON.
     fn certificate_in(
         &self,
         divided: &Divided,
@@ -430,7 +430,7 @@ impl Reporter<'_> {
         Ok(Report::yes(text))
     }
 
-    /// The certificate that is asked for.
+    /// The requested certificate.
     fn certificate_of(
         &self,
         divided: &Divided,
@@ -449,7 +449,7 @@ impl Reporter<'_> {
         }
     }
 
-    /// The steps that lead to the crate that is asked for, if one is and it is kept.
+    /// The steps that lead to the crate in question, if there is one and it is kept.
     fn derivation(
         &self,
         divided: &Divided,

@@ -43,7 +43,7 @@ fn fact_of(step: Option<&Step>) -> Option<&Fact> {
     }
 }
 
-/// What stands behind a dependency that isn't normal.
+/// What follows a dependency that isn't normal.
 fn purpose(kind: DepKind) -> &'static str {
     match kind {
         DepKind::Normal => "",
@@ -120,7 +120,7 @@ impl StepSentence<'_> {
         }
     }
 
-    /// Adds the feature that asks for an optional dependency.
+    /// Adds the feature that enables an optional dependency.
     fn push_asking(&self, lines: &mut String) -> Result<(), AllocError> {
         match fact_of(self.from) {
             Some(Fact::Feature { name, .. }) => write!(lines, ", for its feature `{name}`"),
