@@ -12,15 +12,15 @@ use Rattle.krates_text.specs.Text.{BeginsWith}
 
 -- ---- a declared path
 
--- how the source of a package begins that lies in a directory
+-- how the source of a package in a directory begins
 abbrev pub path_start : Text
 path_start = codes "path+file://"
 
--- '\', which stands between the names of a path on Windows
+-- '\', which separates the names of a path on Windows
 abbrev pub backslash : ℕ
 backslash = 92
 
--- what stands before, between and after the backslashes, empty texts too
+-- the parts before, between and after the backslashes, empty ones too
 abbrev pub between_backslashes : Text → List Text
 between_backslashes path = slice_split (λ byte. byte == backslash) path
 
@@ -45,7 +45,7 @@ pub record IsPathOf (path source : Text) : Type 0 where
 
 -- ---- a declared source
 
--- what stands before the last '#', or the whole text where it has none
+-- the part before the last '#', or the whole text where it has none
 abbrev pub IsWithoutCommit : Text → Text → Type 0
 IsWithoutCommit text front = ((commit : Text) × LastCut hash_sign text front commit) ⊎ (Lacks hash_sign text × (front ≡ text))
 

@@ -64,7 +64,7 @@ pub record NodeAt (r : Resolved) (i : Id) (place : ℕ) : Type 0 where
   pub at : slice_get r.graph.nodes place ≡ Some node
   pub id : ReadsAs node.id i
 
--- a package with the id stands at this place of the document
+-- a package with the id is at this place of the document
 pub record PackageAt (r : Resolved) (i : Id) (place : ℕ) : Type 0 where
   pub pkg : PackageModel
   pub at : slice_get r.metadata.packages place ≡ Some pkg
@@ -77,7 +77,7 @@ pub record DepAt (r : Resolved) (parent child : Id) (place index : ℕ) : Type 0
   pub at : slice_get node.node.deps index ≡ Some dep
   pub id : ReadsAs dep.pkg child
 
--- the id stands at this place of the list
+-- the id is at this place of the list
 pub record StandsAt (ids : List Identity) (id : Id) (place : ℕ) : Type 0 where
   pub there : Identity
   pub at : slice_get ids place ≡ Some there
