@@ -10,7 +10,7 @@
 //! - `crates.io`: it is a package of crates.io, and has an id of that registry;
 //! - `lib=NAME`: the library of the package has this name.
 //!
-//! The name of a declared dependency is followed by `?` where it is optional and by `!` where it asks for default features. It
+//! The name of a declared dependency is followed by `?` where it is optional and by `!` where it uses default features. It
 //! has more options: `normal`, `dev` and `build` (its kind), `on=TARGET`, `with=FEATURES`, `from=SOURCE`, `at=PATH` and
 //! `as=NAME` (its new name).
 //!
@@ -20,10 +20,10 @@
 //!   its `dep_kinds`. Without this section each package has a node, which needs what the package declares and lists the
 //!   features of its manifest.
 //! - `members`: the words of the members; without it `a` is the only one.
-//! - `root`: the word of the root; without it there is none.
-//! - `no graph` and `null graph`: there is no resolved graph, or null stands in its place.
+//! - `root`: the word of the root; without it the graph has no root.
+//! - `no graph` and `null graph`: there is no resolved graph, or it is null.
 //!
-//! Any other section is skipped here: it says how the document is used. A tilde anywhere stands for a blank.
+//! Any other section is skipped here: it says how the document is used. A tilde anywhere means a space.
 
 use crate::text::Text;
 use krates_cm::{DependencyKind, Metadata, PackageId};
@@ -344,7 +344,7 @@ fn push_listed(json: &mut Text, listed: Listed, items: &str) {
     }
 }
 
-/// Writes the resolved graph, or null in its place, or neither.
+/// Writes the resolved graph, or null instead, or neither.
 fn push_graph(json: &mut Text, line: &str, packages: &str) {
     if section(line, "null graph").is_some() {
         json.push_str(",\"resolve\":null");

@@ -1,11 +1,11 @@
 //! What the sections of a line set in a builder or a setting.
 //!
 //! - `workspace on` and `workspace off`: whether every member is a root.
-//! - `names all` and `names least`: whether a name in a feature reference means all dependencies that answer to it.
+//! - `names all` and `names least`: whether a name in a feature reference means all dependencies that match it.
 //! - `include PATHS`: the crates with these manifests are roots.
 //! - `ignore KIND SCOPE`: this kind of dependency is ignored for the crates of the scope.
 //! - `without SPECS`: the packages that one of these fits are left out.
-//! - `for TARGETS`: the targets, each a triple, and behind plus signs the features that it has; or behind it, each behind a
+//! - `for TARGETS`: the targets, each a triple, and after plus signs the features that it has; or after it, each after a
 //!   semicolon, the lines by which rustc describes it.
 //!
 //! Any other section sets nothing. Here the words after the names are read; whoever has a builder or a setting sets them.

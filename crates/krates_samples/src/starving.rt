@@ -20,8 +20,8 @@ pub trait Call: Debug {
     /// Makes the call, with little memory.
     fn answer(&self, alloc: Global, given: &mut Self::Given) -> Self::Answer;
 
-    /// Tells whether there was enough memory for this answer, after which what the call was made on is as given here. Fails at
-    /// an answer that is neither want of memory, where what has to be unchanged is, nor the one with ample memory.
+    /// Returns whether there was enough memory for this answer, after which what the call was made on is as given here. Fails at
+    /// an answer that is neither a refusal for lack of memory that leaves unchanged what it has to, nor the one with ample memory.
     fn is_granted(
         &self,
         alloc: Global,
@@ -46,12 +46,12 @@ pub fn refused(is_unchanged: bool) -> Result<bool, Fail> {
     Ok(false)
 }
 
-/// The call was refused for another reason than want of memory, so it fails its test.
+/// The call was refused for another reason than lack of memory, so it fails its test.
 pub fn other_refusal() -> Result<bool, Fail> {
     Err(Fail::new("a refusal for another reason"))
 }
 
-/// A question, which changes nothing and is refused for want of memory alone: whether its answer is the one with ample memory.
+/// For a question, which changes nothing and is refused only if memory runs out: whether its answer is the one with ample memory.
 pub fn answered(answer: &Result<bool, AllocError>) -> Result<bool, Fail> {
     match answer {
         Ok(is_ample) => granted(*is_ample),
@@ -152,14 +152,14 @@ fn output(rt: &HostRuntime, name: &str) -> Result<Output, Fail> {
     output_of(rt, &mut shell, this.as_str(), name)
 }
 
-/// Fails, and names the call, which is told last, with what was told of it.
+/// Fails, and names the call, which is printed last, with what was printed about it.
 fn fail(alloc: Global, told: &str, why: &[u8]) -> Result<(), Fail> {
     let why = String::from_utf8_lossy(alloc, why)?;
     let (_, call) = told.rsplit_once('\n').unwrap_or(("", told));
     Err(Fail::new(format_args!("with little memory, {call}{why}")))
 }
 
-/// Starts this program again with little memory, for the test of this name, and tells what it told.
+/// Starts this program again with little memory, for the test of this name, and prints what it printed.
 fn start(rt: &HostRuntime, name: &str) -> Result<(), Fail> {
     let output = output(rt, name)?;
     let told = String::from_utf8_lossy(rt.alloc(), output.stdout.as_slice())?;
