@@ -32,7 +32,7 @@ pub record StepsSay (steps : List Step) (verdict : Verdict) : Type 0 where
 
 -- ---- of a list of facts
 
--- no id stands in the list twice
+-- no id is in the list twice
 abbrev pub StandOnce : List Id → Type 0
 StandOnce [] = ⊤
 StandOnce (id ∷ ids) = (Contains ids id → ⊥) × StandOnce ids

@@ -53,7 +53,7 @@ impl Refusal {
 #[derive(Clone, Copy)]
 struct Words<'a>(&'a [String]);
 
-/// Each word behind a blank, or ` no options` where there are none.
+/// Each word after a space, or ` no options` where there are none.
 impl fmt::Display for Words<'_> {
     ghost output = { λ words. Some (words_text (map text_view words.0.now)) };
 
