@@ -15,7 +15,7 @@ use std::alloc::{AllocError, Global};
 pub struct Choice {
     /// Whether every member of the workspace is a root, also where the graph has a root of its own: `--workspace`.
     pub workspace: bool,
-    /// Whether a name in a feature reference means all dependencies that answer to it: `--all-named`.
+    /// Whether a name in a feature reference means all dependencies that match it: `--all-named`.
     pub all_named: bool,
     /// The dependencies of these kinds are ignored, whichever crate has them: `--edges` and `--ignore-kind`.
     pub ignored: Vec<DepKind>,
@@ -30,8 +30,8 @@ pub struct Choice {
     pub cfgs: Vec<String>,
     /// Whether the host is a target too: `--host`.
     pub host: bool,
-    /// The targets, each with its features. Words know only their triples; whoever runs rustc or reads its descriptions adds
-    /// them. Where there are none, any target is meant.
+    /// The targets, each with its features. Words have only their triples; whoever runs rustc or reads its descriptions adds
+    /// them. Where there are none, every target is meant.
     pub targets: Vec<(Target, Vec<String>)>,
 }
 

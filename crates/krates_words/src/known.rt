@@ -28,7 +28,7 @@ pub(crate) struct KnownOption {
     pub(crate) help: &'static str,
 }
 
-/// What stands behind a word, beside options.
+/// What follows a word, apart from options.
 #[derive(Clone, Copy)]
 pub(crate) enum Names {
     /// Nothing.
@@ -50,7 +50,7 @@ pub(crate) struct KnownWord {
     pub(crate) alias: Option<&'static str>,
     /// What it answers.
     pub(crate) about: &'static str,
-    /// What stands behind it.
+    /// What follows it.
     pub(crate) names: Names,
     /// The option that it has alone.
     pub(crate) own: Option<KnownOption>,
@@ -58,7 +58,7 @@ pub(crate) struct KnownWord {
     pub(crate) has_json: bool,
 }
 
-/// Asks for JSON.
+/// Requests JSON.
 pub(crate) const JSON: KnownOption = KnownOption {
     name: "json",
     short: None,
@@ -128,7 +128,7 @@ pub(crate) const OF_TARGETS: [KnownOption; 3] = [
     },
 ];
 
-/// What cargo is told.
+/// The options that cargo is given.
 pub(crate) const OF_CARGO: [KnownOption; 7] = [
     KnownOption {
         name: "manifest-path",

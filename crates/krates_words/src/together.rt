@@ -36,7 +36,7 @@ fn check_descriptions(alloc: Global, targets: usize, cfgs: usize) -> Result<(), 
     Ok(())
 }
 
-/// The path of a manifest ends in `Cargo.toml`, since cargo is asked for that file in the folder above its end.
+/// Refuses a manifest path that doesn't end in `Cargo.toml`, since cargo is run in the path's folder with that file.
 fn check_manifest(alloc: Global, path: Option<&str>) -> Result<(), WordsError> {
     match path {
         Some(path) if !ends_with(path, "Cargo.toml") => Err(WordsError::wrong(
