@@ -8,13 +8,13 @@ The word is one of these. With --check nothing is written; it may be left out wh
 
     believed    writes docs/HEADLINE.md, the definitions that the contract of the headline reaches; the check says
                 whether the page is what it would write
-    readme      says whether the examples of README.md and docs/GUIDE.md stand in code that the gate runs, or with
-                --compile whether each of them compiles as it stands, in a minute
+    readme      says whether the examples of README.md and docs/GUIDE.md are in code that the gate runs, or with
+                --compile whether each of them compiles unchanged, in a minute
     contracts   lists the public calls that docs/CONTRACTS.md has no line for
     untested    lists the public calls that no worked example shows
     links       lists the links of the pages that lead nowhere
     pictures    draws docs/pictures, by Graphviz's `dot`; the check, which needs no Graphviz, says whether each
-                picture is of what stands
+                picture is up to date
     all         makes every check, as the gate does
 
 The module of the word, in scripts/docs, says more. The status is 0 where a page is written, or nothing is wrong with
@@ -29,7 +29,7 @@ MODULES = {it.__name__.rpartition(".")[2]: it for it in (believed, readme, contr
 
 
 def main(words):
-    """Does what the words ask; the status."""
+    """Does what the words ask, and returns the status."""
     word, rest = (words or [""])[0], words[1:]
     if word == "all" and rest in ([], ["--check"]):
         return 0 if all([module.check() for module in MODULES.values()]) else 1

@@ -3,7 +3,7 @@
 Looked for are the public calls of all library crates but those of tests, as `krates_sources.public_calls` has them. A
 line of a table is for the calls that its first cell has between backquotes, and a paragraph or an item for the one
 with which it begins. A file of code that a line names, by its name alone, or of definitions, as `specs/Name`, has to
-stand in some crate.
+be in some crate.
 """
 import re
 
@@ -31,7 +31,7 @@ def gone():
 
 
 def check():
-    """Whether each public call has a line and each named file stands; prints those that don't."""
+    """Whether each public call has a line and each named file exists; prints those for which that isn't so."""
     words = named()
     missing = [call for source in libraries() for call in public_calls(source) if call.name not in words]
     for call in missing:

@@ -1,6 +1,6 @@
-"""Draws the pictures of docs/pictures, by Graphviz's `dot`, or says whether each is of what stands.
+"""Draws the pictures of docs/pictures, by Graphviz's `dot`, or says whether each is up to date.
 
-What stands are crates.txt and the lists of this module.
+They are made from crates.txt and the lists of this module.
 
 A reader needs neither this module nor Graphviz, and neither does the check: the pictures are committed, and each ends
 with the checksum of the text that it was drawn from.
@@ -42,12 +42,12 @@ ROOMS = {
 
 
 def shown(name):
-    """Whether a crate is part of the way from bytes to bytes: neither tests nor what tests stand on."""
+    """Whether a crate is part of the way from bytes to bytes: neither tests nor what tests need."""
     return not name.endswith("_tests") and name not in {"krates_samples", "fake_cargo"}
 
 
 def reaches(stands_on, start):
-    """All crates on which this one stands, over any number of steps."""
+    """All crates that this one needs, over any number of steps."""
     seen, left = set(), list(stands_on[start])
     while left:
         name = left.pop()
@@ -58,7 +58,7 @@ def reaches(stands_on, start):
 
 
 def direct(stands_on, name):
-    """The crates on which this one stands and no crate between them does."""
+    """The crates that this one needs, without those that it needs only through others."""
     below = stands_on[name]
     return [one for one in below if not any(one in reaches(stands_on, other) for other in below)]
 
@@ -155,7 +155,7 @@ LAYERS = [
     ]),
 ]
 
-# Which box says what of which, and whether the first stands above the second.
+# Which box says what of which, and whether the first is above the second.
 BETWEEN_LAYERS = [
     ("definitions", "contracts", "give the words of", True),
     ("contracts", "bodies", "are met by", True),
@@ -206,7 +206,7 @@ def draw(name, text):
 
 
 def check():
-    """Whether each picture is of what stands; prints those that aren't."""
+    """Whether each picture is up to date; prints those that aren't."""
     stale = [name for name, text in PICTURES.items() if is_stale(name, text() + "\n")]
     for name in stale:
         print(f"docs/pictures/{name}.svg isn't of what stands: run scripts/docs.py pictures", file=sys.stderr)
