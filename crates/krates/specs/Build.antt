@@ -85,7 +85,7 @@ pub record AreMadeOfThose {N : Type 0} (made : Package → N → Type 0) (all : 
 abbrev pub HasMember : MetadataModel → Id → Type 0
 HasMember m i = HasGraphWith m (λ g. IsMember (resolved m g) i)
 
--- the kept crate of this number is a member
+-- the kept crate with this number is a member
 pub record IsMemberAt (m : MetadataModel) (ids : List Identity) (n : ℕ) : Type 0 where
   pub member : Id
   pub listed : HasMember m member

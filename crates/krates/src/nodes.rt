@@ -100,7 +100,7 @@ pub(crate) fn store_nodes<N: FromPackage + Drop, E: Drop>(
     store_features(features, graph)
 }
 
-/// Adds the features to a graph, in their order, behind the nodes that it has.
+/// Adds the features to a graph, in their order, after the nodes that it has.
 fn store_features<N: Drop, E: Drop>(
     features: Vec<PlannedFeature>,
     graph: &mut Graph<Node<N>, E>,
