@@ -216,7 +216,7 @@ const IDS: &[Row] = &[
         "git+https://h/a?branch=x%2Fy#1.0.0",
         "a 1.0.0 (git+https://h/a?branch=x/y#)",
     ),
-    // or its blank would begin the version
+    // or its space would begin the version
     (
         "git+https://h/r?tag=x%20y#a@1.0.0",
         "a 1.0.0 (git+https://h/r?tag=x y#)",

@@ -7,7 +7,7 @@ use krates_text::target::Target;
 use std::alloc::{AllocError, Global};
 use std::test::Fail;
 
-/// Where an expression is asked, a target by its triple and behind a plus sign the one feature that is enabled there; the
+/// Where an expression is asked, a target by its triple and after a plus sign the one feature that is enabled there; the
 /// expression, and its value. Of the target `x` nothing is known.
 const VALUES: &[Row] = &[
     (

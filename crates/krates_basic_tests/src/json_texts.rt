@@ -24,7 +24,7 @@ const TEXTS: &[Row] = &[
     ("1e308", "1e+308"),
     ("1e309", "not read"),
     ("-1e309", "not read"),
-    // What isn't JSON, or goes on behind its value.
+    // What isn't JSON, or goes on after its value.
     ("", "not read"),
     ("[1", "not read"),
     ("1 2", "not read"),

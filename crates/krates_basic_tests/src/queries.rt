@@ -114,7 +114,7 @@ const SOURCES: &[Row] = &[
     (r#""git+path+x""#, "Some(Git), local: false"),
     (r#""path+git+x""#, "Some(Path), local: true"),
     (r#""x+path+y""#, "Some(Other), local: false"),
-    // the word is whole, and in small letters, and may have nothing behind it
+    // the word is whole, and in small letters, and may have nothing after it
     (r#""gitx+https://h""#, "Some(Other), local: false"),
     (r#""gi+https://h""#, "Some(Other), local: false"),
     (r#"" path+file:///w/x""#, "Some(Other), local: false"),

@@ -133,7 +133,7 @@ impl Question for OfMetadata {
     }
 }
 
-/// What the refusal prints up to the first colon and the blank behind that, where it has one.
+/// What the refusal prints up to the first colon and the space after that, where it has one.
 struct Begun;
 
 impl Question for Begun {

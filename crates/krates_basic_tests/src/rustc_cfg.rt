@@ -77,7 +77,7 @@ const OTHER_LINES: &[Row] = &[
         r#"t;target_os="a";target_os="b";target_env="c";target_env="";target_family="unix";target_family="wasm";target_family="unix""#,
         r#"TargetInfo { triple: "t", arch: "", os: "b", env: "", abi: "", vendor: "", pointer_width: "", endian: "", panic: "", families: ["unix", "wasm", "unix"], atomics: [] } []"#,
     ),
-    // lines of another form say nothing: without quotes, with blanks, with something behind, or with more before the key
+    // lines of another form say nothing: without quotes, with spaces, with something after, or with more before the key
     (
         r#"t;target_os=linux;target_os = "linux"; target_os="linux";target_os="linux" ;xtarget_os="linux";target_os;target_os=";target_os_x="linux""#,
         r#"TargetInfo { triple: "t", arch: "", os: "", env: "", abi: "", vendor: "", pointer_width: "", endian: "", panic: "", families: [], atomics: [] } []"#,
@@ -89,7 +89,7 @@ const OTHER_LINES: &[Row] = &[
     ),
 ];
 
-/// The target of a line: its triple, and behind each `;` a line of rustc's.
+/// The target of a line: its triple, and after each `;` a line of rustc's.
 fn target_of(alloc: Global, line: &str) -> Result<(TargetInfo, Vec<String>), AllocError> {
     let (triple, lines) = line.split_once(";").unwrap_or((line, ""));
     let text = lines.replace(alloc, ";", "\n")?;
