@@ -219,13 +219,13 @@ const OPEN_EDGES: &[Row] = &[
     ),
 ];
 
-/// Adds the name of a package, behind a minus sign where it is excluded.
+/// Adds the name of a package, after a minus sign where it is excluded.
 fn push_package(text: &mut Text, setting: &Setting, pkg: &Package) {
     text.push_str(if setting.excludes(pkg) { "-" } else { "+" });
     text.push_str(pkg.name.as_str())
 }
 
-/// The names of packages, each behind a minus sign where it is excluded.
+/// The names of packages, each after a minus sign where it is excluded.
 fn signed(alloc: Global, setting: &Setting, packages: &[Package]) -> Result<String, AllocError> {
     let mut told = Text::new(alloc);
     for pkg in packages {

@@ -13,7 +13,7 @@ use krates_samples::text::Text;
 use std::alloc::Global;
 use std::test::Fail;
 
-/// Adds a package behind a mark: its name, and its word or id where that is another.
+/// Adds a package after a mark: its name, and its word or id where that is another.
 pub(crate) fn push_package(text: &mut Text, mark: &str, pkg: &Package) {
     push_marked(text, mark, pkg.name.as_str());
     let word = word_of(pkg.id.repr.as_str());
@@ -22,7 +22,7 @@ pub(crate) fn push_package(text: &mut Text, mark: &str, pkg: &Package) {
     }
 }
 
-/// The packages that aren't kept, each behind a minus sign.
+/// The packages that aren't kept, each after a minus sign.
 #[derive(Drop)]
 pub(crate) struct Reported {
     text: Text,
@@ -45,7 +45,7 @@ impl OnFilter for Reported {
     }
 }
 
-/// Adds the kept crates in order, each behind a plus sign.
+/// Adds the kept crates in order, each after a plus sign.
 pub(crate) fn push_krates(text: &mut Text, krates: &Krates) {
     for krate in krates.krates() {
         push_package(text, "+", krate);
@@ -116,7 +116,7 @@ const BUILT: &[Row] = &[
     ),
     ("a|b / members", "no root crates available"),
     ("a|a / nodes a", "doubled id: path+file:///w/a#0.1.0"),
-    // the first class that is true counts: a member that is no id, or a lost root, comes behind a missing graph or a doubled id
+    // the first class that is true counts: a member that is no id, or a lost root, comes after a missing graph or a doubled id
     (
         "a|a / members x&id=x / no graph",
         "no resolution graph was provided",

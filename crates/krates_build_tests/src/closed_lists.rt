@@ -43,7 +43,7 @@ fn push_without_each(all: &mut String, given: &Given<'_, Setting>, text: &str) -
     Ok(())
 }
 
-/// What it answers of the whole list, and behind it what it answers without each of its facts.
+/// What it answers of the whole list, and after it what it answers without each of its facts.
 struct EachNeeded;
 
 impl Ask for EachNeeded {
@@ -188,7 +188,7 @@ fn push_with_each(all: &mut String, given: &Given<'_, Setting>, text: &str) -> R
     Ok(())
 }
 
-/// What it answers of the list, and behind it what it answers with each fact that drags others.
+/// What it answers of the list, and after it what it answers with each fact that drags others.
 struct Dragged;
 
 impl Ask for Dragged {

@@ -298,7 +298,7 @@ fn ask_all(alloc: Global, cmd: &mut Cmd, line: &str) -> Result<(), AllocError> {
     Ok(())
 }
 
-/// Adds the variables that a process gets, each with its value and a text behind it.
+/// Adds the variables that a process gets, each with its value and a text after it.
 pub(crate) fn push_variables(text: &mut Text, process: &Command, behind: &str) {
     for (name, value) in process.get_envs() {
         write!(text, "{name}={}{behind}", value.unwrap_or(""));

@@ -55,7 +55,7 @@ fn push_word(text: &mut Text, fact: &Fact) {
     }
 }
 
-/// Adds a step, with a semicolon behind it.
+/// Adds a step, with a semicolon after it.
 fn push_step(text: &mut Text, step: &Step) {
     write!(text, "{} ", step.rule);
     push_word(text, &step.fact);

@@ -81,7 +81,7 @@ fn feature(alloc: Global, number: u32) -> Result<Fact, Fail> {
     })
 }
 
-/// Adds a step for each feature behind the first.
+/// Adds a step for each feature after the first.
 fn push_steps(alloc: Global, derivation: &mut Derivation) -> Result<(), Fail> {
     for number in FEATURES {
         let fact = feature(alloc, number.saturating_add(1))?;

@@ -17,7 +17,7 @@ use krates_samples::text::Text;
 use std::alloc::Global;
 use std::test::Fail;
 
-/// The names of many packages, each behind this text, with blanks between them.
+/// The names of many packages, each after this text, with spaces between them.
 fn named(alloc: Global, before: &str) -> Result<String, Fail> {
     let mut names = Text::new(alloc);
     push_names(&mut names, before, " ");

@@ -28,7 +28,7 @@ impl<T: Told<N>, N: FromPackage + Drop> Question for OfGraph<T, N> {
     }
 }
 
-/// Adds a word behind a mark.
+/// Adds a word after a mark.
 pub(crate) fn push_marked(text: &mut Text, mark: &str, word: &str) {
     text.push_str(mark);
     text.push_str(word)
@@ -42,7 +42,7 @@ pub(crate) fn push_number(text: &mut Text, number: Option<NodeId>) {
     }
 }
 
-/// Adds the names of enabled features, each behind a plus sign, and all behind `set`; or what says that there is no set.
+/// Adds the names of enabled features, each after a plus sign, and all after `set`; or what says that there is no set.
 pub(crate) fn push_features(
     text: &mut Text,
     features: Option<&EnabledFeatures>,

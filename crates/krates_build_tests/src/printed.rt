@@ -35,7 +35,7 @@ fn push_copy(text: &mut Text, edge: &Edge) -> Result<(), AllocError> {
     Ok(())
 }
 
-/// Adds behind a bar the edges as their copies are printed.
+/// Adds after a bar the edges as their copies are printed.
 fn push_edges(text: &mut Text, edges: &[GraphEdge<Edge>]) -> Result<(), AllocError> {
     text.push_str("|");
     for edge in edges {

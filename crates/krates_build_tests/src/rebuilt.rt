@@ -1,6 +1,6 @@
 //! What members reach without a kind of dependency, beside what a rebuild keeps that ignores this kind.
 //!
-//! The section `ask` of a line names the kind. An answer has the crates of the first, and then those of the second, each behind a
+//! The section `ask` of a line names the kind. An answer has the crates of the first, and then those of the second, each after a
 //! plus sign.
 
 ghost use Rattle.std.specs.Prelude.{IfOk, map};

@@ -21,7 +21,7 @@ pub(crate) fn parts(alloc: Global, text: &str, between: char) -> Result<Vec<Stri
     Ok(parts)
 }
 
-/// Adds the words behind `metadata --format-version 1`, each with a bar behind it.
+/// Adds the words after `metadata --format-version 1`, each with a bar after it.
 fn push_words(text: &mut Text, words: &[String]) {
     for word in words.iter().skip(3) {
         write!(text, "{word}|");
