@@ -20,7 +20,7 @@ ghost use Rattle.krates_foreign.specs.Handing.{Hands, Tells};
 use krates_foreign::{Answer, check, graph, hand_over, list, why};
 use std::alloc::Global;
 
-/// The lines of a document's packages: behind `+ ` the kept ones, behind `- ` the others, both in the order of the ids.
+/// The lines of a document's packages: after `+ ` the kept ones, after `- ` the others, both in the order of the ids.
 #[unsafe(no_mangle)]
 pub extern "C" fn krates_list(
     alloc: Global,
