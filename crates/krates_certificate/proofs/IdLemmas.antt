@@ -64,7 +64,7 @@ name_of_piece false c piece name is h = rw is h
 name_of_piece true c piece name (inl (none, is)) h = rw is h
 name_of_piece true c piece name (inr (query, cut)) h = lacks_front c name _ (rw cut.is at h)
 
--- neither the name nor the version of an id that was read has a blank
+-- neither the name nor the version of an id that was read has a space
 abbrev HasNoBlank : Identity → Type 0
 HasNoBlank id = Lacks blank id.name × Lacks blank id.version
 
