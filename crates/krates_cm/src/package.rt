@@ -74,7 +74,7 @@ pub struct Source {
 /// (Cargo Book, "Package ID Specifications").
 #[derive(Clone, Copy, Debug, PartialEq, Eq)]
 pub enum SourceKind {
-    /// A registry whose index is a git repository, `registry`; crates.io too is written so.
+    /// A registry whose index is a git repository, `registry`; crates.io is written this way too.
     Registry,
     /// A registry whose index is read by HTTP, `sparse`.
     SparseRegistry,

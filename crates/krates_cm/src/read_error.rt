@@ -6,7 +6,7 @@ ghost use Rattle.krates_cm.specs.declared.read_error.ReadError.TheVariants.{Memo
 use std::alloc::{AllocError, AllocFailed};
 use thiserror::Error;
 
-/// What is wrong with a JSON value that isn't read. If several refusals are true of a value, it is left open which one is named.
+/// What is wrong with a JSON value that isn't read. If several refusals apply to a value, it isn't specified which one is returned.
 #[derive(Clone, Copy, Debug, Error)]
 pub enum ReadError {
     /// An object lacks this key.
