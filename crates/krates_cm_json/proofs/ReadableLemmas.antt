@@ -71,14 +71,14 @@ object_made : (o : Option serde.Members) (d : Data) → option_map serde.object 
 object_made None d is = absurd (cc)
 object_made (Some ms) d is = (ms, (refl, ap (λ o. unwrap_or o serde.null) (sym is)))
 
--- the data of an item, and of those behind it
+-- the data of an item, and of those after it
 item_made : (o : Option Data) (p : Option serde.Items) (ds : serde.Items) → option_and_then (λ d. option_map (serde.item d) p) o ≡ Some ds
     → (d : Data) × ((es : serde.Items) × ((o ≡ Some d) × ((p ≡ Some es) × (ds ≡ serde.item d es))))
 item_made None p ds is = absurd (cc)
 item_made (Some d) None ds is = absurd (cc)
 item_made (Some d) (Some es) ds is = (d, (es, (refl, (refl, ap (λ o. unwrap_or o serde.no_items) (sym is)))))
 
--- the data of a member, and that of those behind it
+-- the data of a member, and that of those after it
 member_made : (o : Option Data) (more : Data → Option serde.Members) (r : serde.Members) → option_and_then more o ≡ Some r → (d : Data) × ((o ≡ Some d) × (more d ≡ Some r))
 member_made None more r is = absurd (cc)
 member_made (Some d) more r is = (d, (refl, is))
