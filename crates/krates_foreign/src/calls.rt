@@ -18,7 +18,7 @@ use krates_cli::{Listed, Options, OptionsError, kid_of, listing_of};
 use std::alloc::Global;
 use std::str;
 
-/// The lines of a document's packages, as `krates-list` writes them: behind `+ ` the kept ones, behind `- ` the others, both in the
+/// The lines of a document's packages, as `krates-list` writes them: after `+ ` the kept ones, after `- ` the others, both in the
 /// order of the ids. The words are options of `krates-list`, one in each line, and give only a setting.
 ///
 /// It is refused as `Words`, `Utf8`, `Parse` or `Build`, in this order, each only where that is true; as `Build` also where the graph
@@ -115,7 +115,7 @@ fn drawn(alloc: Global, setting: Setting, document: &[u8]) -> Result<String, Cal
     Ok(format!(in alloc; "{nodes}{edges}")?)
 }
 
-/// The line of the verdict on a certificate: what holds, behind `holds: `, as `krates_check` writes it. The certificate has to be of
+/// The line of the verdict on a certificate: what holds, after `holds: `, as `krates_check` writes it. The certificate has to be of
 /// this setting, and is judged against the document without a search.
 ///
 /// It is refused as `Words`, `Utf8`, `Parse` or `Certificate`, in this order, each only where that is true. It may instead return
