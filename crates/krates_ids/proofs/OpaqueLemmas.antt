@@ -43,7 +43,7 @@ IsBody-hash t body x tail front source m w cut close inner =
 
 -- ---- the whole form, from the cuts that find it
 
--- the name, the version and the rest are what the blanks separate
+-- the name, the version and the rest are what the spaces separate
 form_cuts : (t n v s x y v' z : Text) → FirstCut blank t x y → FirstCut blank y v' z → (o : IsOpaqueForm t n v s) → (x ≡ n) × (v' ≡ v) × (z ≡ opening ∷ (s ++ o.end))
 form_cuts t n v s x y v' z f g o =
     let a = FirstCut-once f (record { is = o.is; lacks = o.name_whole }) in

@@ -74,7 +74,7 @@ IsSource-no_percent left front query q none =
 
 -- ---- where the name is in the source
 
--- a text is cut at `a`, and at `c` with no `a` behind that: the second cut is in what follows the first
+-- a text is cut at `a`, and at `c` with no `a` after that: the second cut is in what follows the first
 cut_inside : (a c : ℕ) → a ≢ c → (b p front q : Text) → Lacks a q → b ++ a ∷ p ≡ front ++ c ∷ q → (m : Text) × (p ≡ m ++ c ∷ q) × (front ≡ b ++ a ∷ m)
 cut_inside a c apart [] p [] q none e = absurd (apart (cc))
 cut_inside a c apart [] p (d ∷ front) q none e = (front, cc, cc)

@@ -17,7 +17,7 @@ pub record Identity : Type 0 where
   pub name : Text
   pub version : Text
   pub source : Text
-  -- whether the text as it was written has a blank
+  -- whether the text as it was written has a space
   pub is_opaque : Bool
 
 -- the id of nothing: an empty text with three empty parts
@@ -37,7 +37,7 @@ pub record EndsFromHash (t end : Text) : Type 0 where
 abbrev pub IsOpaqueEnd : Text → Text → Type 0
 IsOpaqueEnd t end = (Lacks hash_sign t × (end ≡ closing ∷ [])) ⊎ EndsFromHash t end
 
--- a text with blanks: name and version end at the first two of them, and the source ends where the end begins
+-- a text with spaces: name and version end at the first two of them, and the source ends where the end begins
 pub record IsOpaqueForm (t name version source : Text) : Type 0 where
   pub end : Text
   pub is : t ≡ name ++ blank ∷ (version ++ blank ∷ opening ∷ (source ++ end))
@@ -75,7 +75,7 @@ pub record IsVersionAlone (left fragment name version : Text) : Type 0 where
   pub no_query : Lacks question_mark fragment
   pub name_in_left : NameInLeft left name
 
--- a text without a blank, cut at its last '#': the fragment is NAME "@" VERSION, or the version alone
+-- a text without a space, cut at its last '#': the fragment is NAME "@" VERSION, or the version alone
 pub record IsStableForm (t left fragment name version : Text) : Type 0 where
   pub no_blank : Lacks blank t
   pub cut : LastCut hash_sign t left fragment
@@ -136,7 +136,7 @@ pub data Fault : Type 0 where
   no_stable_form : Fault
   bad_escape : Fault
 
--- the fault is true of the text: it has a blank and is not of the opaque form; it has none and is not of the stable form;
+-- the fault is true of the text: it has a space and is not of the opaque form; it has none and is not of the stable form;
 -- or it is of the stable form, and a '%' in the query of its git source begins no escape
 abbrev pub IsFault : Text → Fault → Type 0
 IsFault t no_opaque_form = Has blank t × ((name version source : Text) → IsOpaqueForm t name version source → ⊥)

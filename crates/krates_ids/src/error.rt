@@ -20,7 +20,7 @@ pub enum Error {
     InvalidPkgSpec(&'static str),
     /// No root is left to start from.
     NoRootKrates,
-    /// A text of the document has to be an id and isn't read, or is the id of a dependency without a semantic version.
+    /// A text of the document must be an id and isn't one, or is the id of a dependency without a semantic version.
     InvalidId(String),
     /// Two packages, two nodes or two dependencies of one node have this id.
     Doubled(Kid),

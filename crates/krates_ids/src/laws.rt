@@ -44,8 +44,8 @@ pub fn one_specification()
         → IsSpecFault t refusal → IsSpecFault t other → refusal ≡ other }
 {}
 
-/// A package specification that was read is printed as a text that reads as exactly it, whatever the text was; two
-/// that differ are printed otherwise. So `PkgSpec::from_str` of the printed text returns an equal one, unless memory
+/// A package specification that was read is printed as a text that reads as exactly that specification, whatever the text was; two
+/// that differ are printed differently. So `PkgSpec::from_str` of the printed text returns an equal one, unless memory
 /// runs out.
 pub fn printed_specification()
     ensures again { (t : Text) (a : Specification)

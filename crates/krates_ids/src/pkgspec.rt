@@ -16,7 +16,7 @@ use krates_cm::{Package, Source};
 use semver::Version;
 use std::alloc::{AllocError, Global};
 
-/// Which packages are meant: those of a name, and perhaps of a version and from a url.
+/// Which packages are meant: those with a name, and perhaps with a version and from a url.
 #[derive(Debug, Drop)]
 pub struct PkgSpec {
     /// The name of the packages.
@@ -68,7 +68,7 @@ impl PkgSpec {
     /// Whether the package is meant: its name is equal, its version is equal in all five parts where one is given, and the url
     /// of its source is equal where it has a source and a url is given.
     ///
-    /// The url of a source is what follows its first `+`, or all of it, up to its first `?`, or else its first `#`. It takes no
+    /// The url of a source is what follows its first `+`, or all of it, up to its first `?`, or else its first `#`. Matching takes no
     /// memory, and time O(length of the texts that are compared).
     ///
     /// ```text
