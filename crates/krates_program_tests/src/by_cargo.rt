@@ -7,7 +7,7 @@ use std::alloc::Global;
 use std::test::Fail;
 use std::{env, str};
 
-/// Writes the document behind a warning, as cargo does, if words follow the name of the test.
+/// Writes the document after a warning, as cargo does, if words follow the name of the test.
 pub(crate) fn stand_in(rt: &HostRuntime) -> Result<(), Fail> {
     if env::args(rt)?.nth(2).is_some() {
         println!(rt; "a warning\n{DOCUMENT}")?;

@@ -63,7 +63,7 @@ fn count_kept(alloc: Global, options: &Options, line: &str) -> Result<String, Fa
     Ok(format!(in alloc; "{}", krates.len())?)
 }
 
-/// How many crates a builder keeps for which the words are set; a line has its words, and behind `<` the document.
+/// How many crates a builder keeps for which the words are set; a line has its words, and after `<` the document.
 struct Kept;
 
 impl Question for Kept {

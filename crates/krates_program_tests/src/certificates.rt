@@ -59,7 +59,7 @@ fn judged(
     }
 }
 
-/// What the checker says of a certificate under the words of a line, about the document behind `<`.
+/// What the checker says of a certificate under the words of a line, about the document after `<`.
 fn checked(alloc: Global, line: &str, certificate: &[u8]) -> Result<String, Fail> {
     let (words, document) = line.split_once(" < ").unwrap_or((line, ""));
     match check_words_of(alloc, &words_of(alloc, words)?) {
@@ -144,7 +144,7 @@ const CERTIFIED: &[Row] = &[
     ),
 ];
 
-/// A certificate, without a name behind its document: what the checker says of it about the document `a b|b`.
+/// A certificate, without a name after its document: what the checker says of it about the document `a b|b`.
 struct ByHand;
 
 impl Question for ByHand {

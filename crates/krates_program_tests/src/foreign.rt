@@ -30,7 +30,7 @@ impl<'l> Asked<'l> {
         }
     }
 
-    /// The bytes of a section behind the document.
+    /// The bytes of a section after the document.
     fn bytes_of(self, name: &str) -> &'l [u8] {
         match section(self.document, name) {
             Some(text) => text.as_bytes(),
@@ -56,7 +56,7 @@ impl<'l> Asked<'l> {
     }
 }
 
-/// The words between blanks, one a line.
+/// The words between spaces, one a line.
 fn lines_of(alloc: Global, words: &str) -> Result<String, Fail> {
     let mut lines = String::new(alloc);
     for word in words.split_whitespace() {
@@ -78,7 +78,7 @@ fn room_of(
     Ok(format!(in alloc; "{} {} {room}", answer.status, answer.length)?)
 }
 
-/// What a call hands over: a line has the call, the length of the room and the words, and behind `<` the document, or `no text`, which
+/// What a call hands over: a line has the call, the length of the room and the words, and after `<` the document, or `no text`, which
 /// is no UTF-8.
 struct Handed;
 

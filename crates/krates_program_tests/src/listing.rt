@@ -9,7 +9,7 @@ use std::io::{ErrorKind, Read, Write};
 use std::test::Fail;
 use std::{io, str};
 
-/// The words of a line, with a blank for each tilde.
+/// The words of a line, with a space for each tilde.
 pub(crate) fn words_of(alloc: Global, line: &str) -> Result<Vec<String>, Fail> {
     let mut words = Vec::new(alloc);
     for word in line.split_whitespace() {
@@ -44,7 +44,7 @@ pub(crate) fn outcome<R: Read + Drop>(
     Ok(format!(in alloc; "{told}|{lines}")?)
 }
 
-/// What a run tells and writes; a line has its words, and behind `<` the document that it reads, or the text itself, which begins
+/// What a run tells and writes; a line has its words, and after `<` the document that it reads, or the text itself, which begins
 /// with `{`.
 pub(crate) struct Listed;
 

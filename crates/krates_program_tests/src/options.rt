@@ -40,7 +40,7 @@ const TARGETS: &[Row] = &[
         "--target x86_64-unknown-linux-gnu --target x86_64-pc-windows-msvc < a b&on=cfg(unix)|b",
         BOTH,
     ),
-    // the word behind an option is its value, whatever it is
+    // the word after an option is its value, whatever it is
     ("--target --workspace < a b&on=cfg(unix)|b", WITHOUT_B),
 ];
 
@@ -142,7 +142,7 @@ const NO_PROGRAMS: &[Row] = &[
         "--why path+file:///w/b#0.1.0 --cargo x",
         "1 refused: failed to start `cargo metadata`, 2 left|",
     ),
-    // the word behind an option is its value, whatever it is
+    // the word after an option is its value, whatever it is
     (
         "--workspace --cargo --cargo",
         "1 refused: failed to start `cargo metadata`, 2 left|",

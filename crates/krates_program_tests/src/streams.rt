@@ -257,7 +257,7 @@ fn each_call<C: Course>(
     Ok(String::from_str(alloc, first)?)
 }
 
-// The buffer of a run has 16,384 bytes; the last call of each reader finds the end. A document without blanks has 777 bytes.
+// The buffer of a run has 16,384 bytes; the last call of each reader finds the end. A document without spaces has 777 bytes.
 const FAILED_READS: &[Row] = &[
     (
         "0 1 fails",
