@@ -12,7 +12,7 @@ use Rattle.krates_rules.specs.Setting.{SettingModel}
 use Rattle.krates_drawing.specs.declared.node.Node.{Node}
 use Rattle.krates_drawing.specs.declared.node.Node.TheVariants.{Krate, Feature}
 
--- the drawn node that a node represents: a crate with its mapping, or a feature of the crate of a number
+-- the drawn node that a node represents: a crate with its mapping, or a feature of the crate with a number
 abbrev pub planned_node : {N : Type 0} → Node N → PlannedNode
 planned_node (Krate id krate features mapping) = PlannedCrate (id_of id) mapping.items
 planned_node (Feature krate_index name) = PlannedFeature krate_index (text_view name)

@@ -1,4 +1,4 @@
-//! What a graph holds in place of packages.
+//! What a graph holds instead of packages.
 
 ghost use Rattle.std.specs.Prelude.{◌≡◌, IfOk};
 ghost use Rattle.krates_cm.specs.Document.{Text, text_view};

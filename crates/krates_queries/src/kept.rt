@@ -15,10 +15,10 @@ use krates_selection::{KeptStep, Work};
 use std::alloc::Global;
 use std::marker::Model;
 
-/// How much work a build was, and why all that it keeps is kept.
+/// How much work a build took, and why all that it keeps is kept.
 #[derive(Drop)]
 pub struct Findings {
-    /// How much work it was.
+    /// How much work it took.
     pub work: Work,
     /// The steps by which all that it keeps is kept, its crates by number.
     pub steps: Vec<KeptStep>,
@@ -63,7 +63,7 @@ impl<N, E> Model for Krates<N, E> {
 }
 
 impl<N, E> Krates<N, E> {
-    /// This graph, with this many crates, of which these are members, for a workspace at this path, and how it was found.
+    /// The kept crates of this graph, as many as stated, with these members, for a workspace at this path, and how they were found.
     ///
     /// Time: O(1).
     pub fn new(
@@ -172,7 +172,7 @@ impl<N, E> Krates<N, E> {
         }
     }
 
-    /// How much work it was to find them: how many crates are kept, how many features are enabled, and how many
+    /// How much work it took to find them: how many crates are kept, how many features are enabled, and how many
     /// references these have. Each count stays at its greatest value. Time O(1).
     ///
     /// ```text

@@ -37,7 +37,7 @@ pub struct JoinedKrate<'a, N> {
     pub edge_id: EdgeId,
 }
 
-/// Adds the crate of a number, with the first edge by which it is a neighbour; nothing if it isn't one.
+/// Adds the crate with a number, with the first edge by which it is a neighbour; nothing if it isn't one.
 fn push_joined<'a, N>(
     nodes: &'a [Node<N>],
     neighbours: &[Neighbour],
@@ -60,14 +60,14 @@ fn push_joined<'a, N>(
         node_id: number,
         edge_id,
     };
-    // What `?` makes of the refusal would have to own references.
+    // No `?` here: what it makes of the refusal would have to own references.
     match found.push(joined) {
         Ok(()) => Ok(()),
         Err(_) => Err(AllocError),
     }
 }
 
-/// The crates of these numbers that are neighbours, each with the first edge by which it is one.
+/// The crates with these numbers that are neighbours, each with the first edge by which it is one.
 pub(crate) fn joined_krates<'a, N>(
     alloc: Global,
     nodes: &'a [Node<N>],

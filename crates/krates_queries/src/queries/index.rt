@@ -10,7 +10,7 @@ use krates_drawing::node::Node;
 use krates_graph::graph::NodeId;
 use std::ops::Index;
 
-/// The value held for the package of the crate with a number, which has to be below `len()`. Time O(1).
+/// The value held for the package of the crate with a number, which must be below `len()`. Time O(1).
 ///
 /// ```text
 /// let first = &krates[NodeId::new(0)];

@@ -32,7 +32,7 @@ impl<N, E> Krates<N, E> {
     {
         let nodes = self.graph().raw_nodes();
         let number = mapped_number(nodes.get(node.index())?, place)?;
-        // What `?` makes of no crate would have to own references.
+        // No `?` here: what it makes of no crate would have to own references.
         let Some(found) = krate_at(nodes, number) else {
             return None;
         };

@@ -46,7 +46,7 @@ impl<N, E> Krates<N, E> {
     }
 }
 
-/// What the node of a number says.
+/// What the node with a number says.
 fn subject_of<N>(number: usize, node: &Node<N>) -> CrateOrFeature<'_>
     ensures { subject_view result ≡ node_says number node.now }
 {
