@@ -5,7 +5,7 @@ use krates::path::parent;
 use krates::{Kid, Package};
 use std::fmt;
 
-/// `NAME vVERSION`, as `cargo tree` writes it, with ` (proc-macro)` behind a library of procedural macros, and behind a package that
+/// `NAME vVERSION`, as `cargo tree` writes it, with ` (proc-macro)` after a library of procedural macros, and after a package that
 /// isn't from a registry where it is: its directory or the url of its git repository, in brackets.
 #[derive(Clone, Copy)]
 pub struct ShortName<'a>(pub &'a Package);

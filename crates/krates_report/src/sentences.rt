@@ -24,7 +24,7 @@ fn first_used<'a>(derivation: &'a Derivation, step: &Step) -> Option<&'a Step> {
     derivation.steps.get(*used)
 }
 
-/// The step of a number, with what it uses first.
+/// The step with a number, with what it uses first.
 fn sentence_at(derivation: &Derivation, number: usize) -> Option<StepSentence<'_>> {
     let step = derivation.steps.get(number)?;
     let from = first_used(derivation, step);

@@ -12,7 +12,7 @@ pub trait Shown {
     fn json(&self, alloc: Global) -> Result<Value, AllocError>;
 }
 
-/// What is printed of an answer: its text, or its JSON, indented, as one value with a line break behind it.
+/// What is printed of an answer: its text, or its JSON, indented, as one value with a line break after it.
 pub fn printed<T: Shown>(alloc: Global, answer: &T, is_json: bool) -> Result<String, AllocError> {
     if !is_json {
         return answer.text(alloc);
@@ -20,7 +20,7 @@ pub fn printed<T: Shown>(alloc: Global, answer: &T, is_json: bool) -> Result<Str
     pretty(alloc, answer.json(alloc))
 }
 
-/// The indented text of a value, with a line break behind it, if there was memory to make the value.
+/// The indented text of a value, with a line break after it, if there was memory to make the value.
 pub(crate) fn pretty(
     alloc: Global,
     value: Result<Value, AllocError>,

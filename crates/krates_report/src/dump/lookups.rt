@@ -69,7 +69,7 @@ pub(crate) fn push_ids(
     Ok(())
 }
 
-/// Adds what is found of a feature of this name, of the crate of a number.
+/// Adds what is found of a feature of this name, of the crate with a number.
 fn push_feature(
     lines: &mut String,
     krates: &Krates,
