@@ -49,7 +49,7 @@ pub record IsPathOf (path source : Text) : Type 0 where
 abbrev pub IsWithoutCommit : Text → Text → Type 0
 IsWithoutCommit text front = ((commit : Text) × LastCut hash_sign text front commit) ⊎ (Lacks hash_sign text × (front ≡ text))
 
--- the declared source is git's, and the id is opaque, as a text with a blank is: then the id's source has no commit
+-- the declared source is git's, and the id is opaque, as a text with a space is: then the id's source has no commit
 abbrev pub LosesCommit : Text → Text → Type 0
 LosesCommit id declared = BeginsWith git declared × Has blank id
 

@@ -28,7 +28,7 @@ fact_text (facts.Kept parent child kind cfg) =
 fact_text (facts.Toggled parent child name) =
     codes "toggled " ++ (text_view name ++ (codes " of " ++ (child.text ++ (codes " by " ++ parent.text))))
 
--- further numbers, each behind a comma
+-- further numbers, each after a comma
 abbrev pub further_uses : List ℕ → Text
 further_uses [] = []
 further_uses (used ∷ uses) = codes ", " ++ (decimal used ++ further_uses uses)
