@@ -1,10 +1,10 @@
 //! A small language of documents: one line says what `cargo metadata` writes of a workspace.
 //!
 //! A line has sections with ` / ` between them. The first has the packages, with bars between them. Each is a word for the
-//! package, a word for each dependency that it declares, and behind a semicolon the features of its manifest, each a name, `=`
+//! package, a word for each dependency that it declares, and after a semicolon the features of its manifest, each a name, `=`
 //! and references with commas between them: `a b?;x=b/y,z`.
 //!
-//! A word is a name, `@` and a version where it isn't 0.1.0, and options, each behind `&`:
+//! A word is a name, `@` and a version where it isn't 0.1.0, and options, each after `&`:
 //!
 //! - `id=ID`: its id is this text, and not the one that cargo gives to a crate at `/w/NAME`;
 //! - `crates.io`: it is a package of crates.io, and has an id of that registry;
@@ -53,7 +53,7 @@ pub fn section<'a>(line: &'a str, name: &str) -> Option<&'a str> {
     None
 }
 
-/// What a word has behind this key, up to its next option.
+/// What a word has after this key, up to its next option.
 fn option_of<'a>(word: &'a str, key: &str) -> Option<&'a str> {
     let (_, options) = word.split_once('&')?;
     for part in options.split('&') {

@@ -16,7 +16,7 @@ use krates_text::target::{Target, TargetInfo};
 use std::alloc::Global;
 use std::test::Fail;
 
-/// The texts between blanks.
+/// The texts between spaces.
 pub fn words_of(alloc: Global, text: &str) -> Result<Vec<&str>, Fail> {
     let mut words = Vec::new(alloc);
     for word in text.split_whitespace() {
@@ -63,7 +63,7 @@ impl FromText for PkgSpec {
     }
 }
 
-/// The specifications between blanks.
+/// The specifications between spaces.
 pub fn package_specs(alloc: Global, text: &str) -> Result<Vec<PkgSpec>, Fail> {
     all_of(alloc, text, ' ')
 }
@@ -87,7 +87,7 @@ impl FromText for (Target, Vec<String>) {
     }
 }
 
-/// The targets between blanks.
+/// The targets between spaces.
 pub fn targets_of(alloc: Global, text: &str) -> Result<Vec<(Target, Vec<String>)>, Fail> {
     all_of(alloc, text, ' ')
 }
