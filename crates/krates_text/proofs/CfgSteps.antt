@@ -117,7 +117,7 @@ pub ends_whole : (fs : List Frame) (place : Place) (rest : List ℕ) (total : Re
 ends_whole fs place [] total none whole = ap result_of (sym whole)
 ends_whole fs place (c ∷ rest) total none whole = absurd (omega arith)
 
--- anywhere but behind the last `)` that is a fault
+-- anywhere but after the last `)` that is a fault
 pub unfinished : (place : places.Place) → ((p : Predicate) → place ≢ stands.AtEnd p) → finished (place_of place) ≡ Err syntax'
 unfinished stands.AtPredicate other = refl
 unfinished (stands.InWord w) other = refl

@@ -111,6 +111,6 @@ abbrev pub result_of : Result State Fault → Result Tree Fault
 result_of (Ok s) = finished s.place
 result_of (Err e) = Err e
 
--- what the text behind `cfg(` reads as
+-- what the text after `cfg(` reads as
 abbrev pub read : List ℕ → Result Tree Fault
 read text = result_of (run (at [] at_predicate) text)

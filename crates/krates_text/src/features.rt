@@ -1,4 +1,4 @@
-//! Feature references: what an entry in the list of a feature in a manifest enables.
+//! Feature references: what an entry in a feature's list in a manifest enables.
 //!
 //! Source: the Cargo Book, "Features".
 ghost use Rattle.std.specs.Prelude.{◌≡◌};

@@ -20,7 +20,7 @@ enum Place {
     /// Where a predicate may begin.
     AtPredicate,
     InWord(String),
-    /// In the blanks after a word.
+    /// In the white space after a word.
     AfterWord(String),
     /// After the `=` that follows this key.
     AtString(String),
@@ -30,7 +30,7 @@ enum Place {
     AtEnd(Predicate),
 }
 
-/// Reads the text behind `cfg(`, up to its end, as a predicate.
+/// Reads the text after `cfg(`, up to its end, as a predicate.
 pub(crate) fn read(alloc: Global, text: &str) -> Result<Predicate, CfgError>
     ensures { GivesTree result (read text.now) }
 {
