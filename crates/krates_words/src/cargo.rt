@@ -15,7 +15,7 @@ use std::alloc::{AllocError, Global};
 pub struct CargoWords {
     /// The manifest of the workspace: `--manifest-path`. It ends in `Cargo.toml`.
     pub manifest_path: Option<String>,
-    /// The names of features, several in one text with commas or blanks between them: `--features`.
+    /// The names of features, several in one text with commas or spaces between them: `--features`.
     pub features: Vec<String>,
     /// Whether all features are enabled: `--all-features`.
     pub all_features: bool,

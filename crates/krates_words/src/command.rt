@@ -96,14 +96,14 @@ pub(crate) fn with_args<'w>(
     Ok(command)
 }
 
-/// A crate behind a word.
+/// A crate after a word.
 fn krate<'w>(alloc: Global) -> Arg<'w> {
     Arg::new(alloc, "SPEC")
         .help("The package: its name, NAME@VERSION, or its id")
         .action(ArgAction::Set)
 }
 
-/// A document behind a word.
+/// A document after a word.
 fn document<'w>(alloc: Global) -> Arg<'w> {
     Arg::new(alloc, "FILE")
         .help("The other document, as --metadata takes it")

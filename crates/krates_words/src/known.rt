@@ -18,9 +18,9 @@ pub(crate) enum Takes {
 /// An option.
 #[derive(Clone, Copy)]
 pub(crate) struct KnownOption {
-    /// The name behind `--`, by which it is read back.
+    /// The name after `--`, by which it is read back.
     pub(crate) name: &'static str,
-    /// The letter behind `-`.
+    /// The letter after `-`.
     pub(crate) short: Option<char>,
     /// What it takes.
     pub(crate) takes: Takes,
