@@ -76,7 +76,7 @@ impl<S: Drop + 'static> Builder<S> {
         self
     }
 
-    /// Whether every member of the workspace is a root, also where the graph has a root of its own; the last call
+    /// Whether every member of the workspace is a root, even where the graph has a root of its own; the last call
     /// counts. It changes nothing where `include_workspace_crates` has set manifests. Never refused. Time O(1).
     ///
     /// ```text

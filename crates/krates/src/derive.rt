@@ -22,7 +22,7 @@ pub use krates_rules::{Derivation, Fact, Step};
 /// follows by its rule from the facts of the earlier steps that it uses, in the order of the rule. So the fact of each step,
 /// that of the last among them, has a derivation from the roots.
 ///
-/// With an index each package is looked at as the index corrects it; the index isn't asked anything.
+/// With an index each package is looked at as the index corrects it; the index isn't asked again.
 ///
 /// It is refused as `Document`, `Empty` or `Step`, the first of these that applies; `Step` names the first step that doesn't
 /// follow. It may instead return `Memory`.
@@ -53,7 +53,7 @@ pub fn check(
 /// follows by one rule from facts of the list is in it, and nothing lost follows. So each fact that has a derivation from
 /// the roots is in it: a package whose crate isn't in the list is unreachable.
 ///
-/// With an index each package is looked at as the index corrects it; the index isn't asked anything.
+/// With an index each package is looked at as the index corrects it; the index isn't asked again.
 ///
 /// It is refused as `Document`, or else as `Open`. It may instead return `Memory`.
 ///
