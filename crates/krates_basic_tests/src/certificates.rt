@@ -106,7 +106,7 @@ impl Question for Read {
 }
 
 const TEXTS: &[Row] = &[
-    // other keys are passed over, and of a doubled key the last value counts
+    // other keys are skipped, and of a doubled key the last value counts
     (
         r#"{"by":"me","kind":"closed","kind":"derivation","setting":["-x"],"steps":[{"rule":255,"fact":{"fact":"crate","krate":"path+file:///w/a#0.1.0"},"uses":[]},{"rule":7,"fact":{"fact":"toggled","parent":"path+file:///w/a#0.1.0","child":"path+file:///w/b#0.1.0","name":"j"},"uses":[0,0,9]}]}"#,
         "[\"-x\"]\n0 rule 255: crate path+file:///w/a#0.1.0\n1 rule 7: toggled j of path+file:///w/b#0.1.0 by path+file:///w/a#0.1.0 from 0, 0, 9\n",
@@ -158,7 +158,7 @@ const TEXTS: &[Row] = &[
         r#"{"kind":"derivation","setting":[],"steps":[{"rule":-1,"fact":{"fact":"crate","krate":"path+file:///w/a#0.1.0"},"uses":[]}]}"#,
         "wrong type at key: rule",
     ),
-    // texts that are no id
+    // texts that aren't an id
     (
         r#"{"kind":"closed","setting":[],"facts":[{"fact":"crate","krate":"a"}]}"#,
         "no package id at key: krate",

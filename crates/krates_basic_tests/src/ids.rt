@@ -154,7 +154,7 @@ const OPAQUE: &[Row] = &[
     ("a 0.1.0 ()", "opaque, as written: a | 0.1.0 | "),
 ];
 
-/// Texts that are no ids, and why.
+/// Texts that aren't ids, and why.
 const REFUSED: &[Row] = &[
     ("a 0.1.0 (", "bad opaque id: a 0.1.0 ("),
     ("a 0.1.0", "bad opaque id: a 0.1.0"),

@@ -150,7 +150,7 @@ const TARGETS: &[Row] = &[
     ),
 ];
 
-/// JSON that is no target, and why.
+/// JSON that isn't a target, and why.
 const TARGETS_REFUSED: &[Row] = &[
     (
         r#"{"name":"t","kind":["library"],"src_path":"s"}"#,

@@ -89,7 +89,7 @@ fn of_build(alloc: Global, name: &str) -> Result<Error, Fail> {
     }
 }
 
-/// The refusal of bytes that are no text.
+/// The refusal of bytes that aren't a text.
 fn not_utf8(is_of_errors: bool) -> MetadataError {
     match str::from_utf8(b"\xff") {
         Err(error) if is_of_errors => MetadataError::ErrUtf8(error),

@@ -72,7 +72,7 @@ const OTHER_LINES: &[Row] = &[
         r#"none"#,
         r#"TargetInfo { triple: "none", arch: "", os: "", env: "", abi: "", vendor: "", pointer_width: "", endian: "", panic: "", families: [], atomics: [] } []"#,
     ),
-    // the last line of a key counts, also where it is empty; of families and features each
+    // the last line of a key counts, even where it is empty; of families and features each
     (
         r#"t;target_os="a";target_os="b";target_env="c";target_env="";target_family="unix";target_family="wasm";target_family="unix""#,
         r#"TargetInfo { triple: "t", arch: "", os: "b", env: "", abi: "", vendor: "", pointer_width: "", endian: "", panic: "", families: ["unix", "wasm", "unix"], atomics: [] } []"#,

@@ -102,7 +102,7 @@ const NO_VERSION: &str = "package spec was invalid: failed to parse version";
 
 const ENDS_WITH_SLASH: &str = "package spec was invalid: url ends with /";
 
-/// Texts that are no specification, and why.
+/// Texts that aren't a specification, and why.
 const REFUSED: &[Row] = &[
     ("https://crates.io#1.2.3", NO_PATH),
     ("https://crates.io", NO_PATH),
