@@ -100,7 +100,7 @@ const BUILT: &[Row] = &[
     ("a b|b a", "+a+b"),
     ("a b|b / members a a", "+a+b"),
     ("a b|b / nodes a b|b|c", "+a+b"),
-    // an optional edge isn't kept, also where a weak reference alone leads over it
+    // an optional edge isn't kept, even where a weak reference alone leads over it
     ("a b?|b", "+a-b"),
     ("a b?;b=dep:b w=b?/j|b;j= / nodes a b;w|b;j", "+a-b"),
     // the root, where there is one, and not the members
@@ -116,7 +116,7 @@ const BUILT: &[Row] = &[
     ),
     ("a|b / members", "no root crates available"),
     ("a|a / nodes a", "doubled id: path+file:///w/a#0.1.0"),
-    // the first class that is true counts: a member that is no id, or a lost root, comes after a missing graph or a doubled id
+    // the first class that is true counts: a member that isn't an id, or a lost root, comes after a missing graph or a doubled id
     (
         "a|a / members x&id=x / no graph",
         "no resolution graph was provided",

@@ -77,7 +77,7 @@ const DIRECT: &[Row] = &[
     ("a b b&dev|b / nodes a b&normal&dev|b", " 0>1 by 0 1<0 by 0"),
 ];
 
-/// The nodes that are features of the second one, and after a bar the edges that are no dependency for development.
+/// The nodes that are features of the second one, and after a bar the edges that aren't a dependency for development.
 struct Own;
 
 impl Told<Package> for Own {

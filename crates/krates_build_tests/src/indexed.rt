@@ -1,4 +1,4 @@
-//! Builds with an index: whether and for what it is asked, and which packages the filter is handed.
+//! Builds with an index: whether and for what it is asked, and which packages the filter is given.
 
 ghost use Rattle.std.specs.Prelude.{⊤};
 
@@ -57,7 +57,7 @@ impl Question for AskedFor {
 const ASKED_FOR: &[Row] = &[
     // it is asked once
     ("a b|b", "+a+b, asked 1"),
-    // also where a package is lost, or no crate is kept
+    // even where a package is lost, or no crate is kept
     (
         "a b|b / nodes a b",
         "lost node: path+file:///w/b#0.1.0, asked 1",

@@ -173,7 +173,7 @@ const LOOKED_UP: &[Row] = &[
     // the members: in the order of the ids, and each once
     ("b a|c|a / members b a / ask members", " a b"),
     ("a|b / members a a / ask members", " a"),
-    // one that isn't kept: it is no root, or is excluded
+    // one that isn't kept: it isn't a root, or is excluded
     ("a|b / members b a / root a / ask members", " a"),
     ("a|b / members a b / without a / ask members", " b"),
     // none is kept

@@ -103,7 +103,7 @@ fn push_krates(text: &mut Text, krates: &Krates<Named, IsDependency>) {
     }
 }
 
-/// The kept crates and the edges, or the refusal; and then the names that the closure was handed.
+/// The kept crates and the edges, or the refusal; and then the names that the closure was given.
 fn told_of(
     alloc: Global,
     built: &Result<Krates<Named, IsDependency>, Error>,
@@ -118,7 +118,7 @@ fn told_of(
     Ok(text.whole()?)
 }
 
-/// The names of the kept crates, whether each edge is a dependency, or the refusal; and then the names that a closure was handed.
+/// The names of the kept crates, whether each edge is a dependency, or the refusal; and then the names that a closure was given.
 struct Own;
 
 impl Question for Own {

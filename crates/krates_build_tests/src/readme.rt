@@ -81,7 +81,7 @@ fn the_example_of_the_readme(rt: HostRuntime) -> Result<(), Fail> {
     hold::<OfLine<Example>>(rt.alloc(), TOLD)
 }
 
-/// The packages that the workspace of a manifest needs, with all its features, one a line.
+/// The packages that the workspace of a manifest needs, with all its features, one per line.
 fn needed(rt: &HostRuntime, cargo: &str, manifest: &str) -> Result<String, Error> {
     let alloc = rt.alloc();
     let mut cmd = Cmd::new(alloc);

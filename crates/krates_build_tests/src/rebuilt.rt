@@ -82,12 +82,12 @@ const BESIDE: &[Row] = &[
         "a b&dev;x=b/y|b;y= / nodes a b&dev;x|b;y / ask dev",
         "+a+b beside +a",
     ),
-    // a member that is no root: it is found, and isn't kept again
+    // a member that isn't a root: it is found, and isn't kept again
     (
         "a b&dev|b / members a b / root a / ask dev",
         "+a+b beside +a",
     ),
-    // a root that is no member: it is kept again, and isn't found
+    // a root that isn't a member: it is kept again, and isn't found
     ("a|b / members a / root b / ask dev", " beside +b"),
 ];
 

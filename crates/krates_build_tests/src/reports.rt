@@ -92,7 +92,7 @@ const FOR_TESTS: &[Row] = &[
     ("a b&dev c|b c|c", "b, "),
     // a member counts as needed, though another needs it for its tests alone
     ("a b&dev|b c|c / members a b", ""),
-    // what a build script needs is no test's
+    // what a build script needs isn't a test's
     ("a b&build c&dev|b|c", "c, "),
 ];
 
