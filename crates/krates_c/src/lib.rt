@@ -8,7 +8,7 @@
 //!                                  uint8_t *room, size_t room_length);
 //! ```
 //!
-//! Options are those of `krates-list`, one word a line, without `--cargo` and `--why`. Each call ends with a status and a length. Status 0:
+//! Options are those of `krates-list`, one word per line, without `--cargo` and `--why`. Each call ends with a status and a length. Status 0:
 //! the answer is in the first bytes of the room, as many as the length says. 1 to 7: it is refused, and they say why. 8: there
 //! is too little room, and the length says how much is needed; nothing was written, and the call can be made again. 9: memory ran
 //! out, and nothing was written. Past the length the room is always as it was.
