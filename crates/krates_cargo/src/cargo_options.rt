@@ -19,9 +19,9 @@ use std::marker::Model;
 /// How cargo may treat the file `Cargo.lock` and the network (Cargo Book, "cargo metadata", "Manifest Options").
 #[derive(Clone, Copy, Debug)]
 pub struct LockOptions {
-    /// Both of the others.
+    /// As both of the others.
     pub frozen: bool,
-    /// The file has to be up to date.
+    /// The file must be up to date.
     pub locked: bool,
     /// The network isn't used.
     pub offline: bool,
@@ -31,7 +31,7 @@ pub struct LockOptions {
 ///
 /// The setters may be called in any order. Names of features and other options are added to those that are set; in
 /// everything else the last call counts. Each returns the value, so that calls chain. Those that add can run out of
-/// memory, and then leave all as it was.
+/// memory, and then change nothing.
 ///
 /// ```text
 /// let mut cmd = Cmd::new(alloc);
@@ -71,7 +71,7 @@ impl Model for Cmd {
 }
 
 impl Cmd {
-    /// Nothing is asked yet. Time O(1).
+    /// Nothing is set yet. Time O(1).
     ///
     /// ```text
     /// let mut cmd = Cmd::new(alloc);
@@ -201,8 +201,8 @@ impl Cmd {
         self.features.append(&mut names).is_ok()
     }
 
-    /// Adds further options to those that are set. The only refusal is running out of memory, and then all is as it
-    /// was. Time O(options).
+    /// Adds further options to those that are set. The only refusal is running out of memory, and then nothing has
+    /// changed. Time O(options).
     ///
     /// ```text
     /// cmd.other_options(vec![in alloc; String::from_str(alloc, "--quiet")?]?)?;
@@ -235,7 +235,7 @@ impl Cmd {
     /// looks for its configuration from there. An empty directory becomes `.`.
     ///
     /// It is refused as `NoManifestParent` exactly where a manifest is set whose path has no parent. It may instead
-    /// return `Memory`. Time O(n log n) of the features.
+    /// return `Memory`. Time O(n log n) for n features.
     ///
     /// ```text
     /// let command = cmd.into_command()?;
