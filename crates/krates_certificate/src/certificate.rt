@@ -19,7 +19,7 @@ use krates_rules::{Derivation, Fact, Step};
 use serde_json::Value;
 use std::alloc::{AllocError, Global};
 
-/// What one party hands to another, who trusts no search, to be checked against a document.
+/// What one party gives to another, who trusts no search, to be checked against a document.
 #[derive(Debug, Drop)]
 pub enum Certificate {
     /// A list of steps, each of which follows by a rule from earlier ones.
@@ -42,7 +42,7 @@ impl Certificate {
     /// Reads a certificate: the JSON value of the text (RFC 8259), then the certificate of that value. Texts are borrowed
     /// until they are copied.
     ///
-    /// Returns `NotJson` if the text isn't JSON, and otherwise what is wrong with its value. It may instead tell that memory ran
+    /// Returns `NotJson` if the text isn't JSON, and otherwise what is wrong with its value. It may instead report that memory ran
     /// out. Time O(n) in the length of the text.
     ///
     /// ```text
@@ -57,7 +57,7 @@ impl Certificate {
         if let Some(certificate) = parse_in_place(alloc, text)? {
             return Ok(certificate);
         }
-        // Why it is refused, `serde_json` and its values tell.
+        // `serde_json` and its values say why it is refused.
         let value = Value::from_str(alloc, text)?;
         Certificate::from_value(alloc, &value)
     }

@@ -9,7 +9,7 @@ use krates_cm::ReadError;
 use std::alloc::{AllocError, AllocFailed};
 use thiserror::Error;
 
-/// What is wrong with a certificate that isn't read. If several refusals are true of it, it is left open which one is named.
+/// What is wrong with a certificate that isn't read. If several refusals apply to it, it isn't specified which one is returned.
 #[derive(Clone, Copy, Debug, Error)]
 pub enum CertificateError {
     /// The text isn't JSON (RFC 8259), or nests deeper than is read.

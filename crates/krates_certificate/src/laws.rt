@@ -12,7 +12,7 @@ pub fn written_is_read()
     ensures certificate { WrittenIsRead CertificateWritten IsCertificate IsWritable IsSameCertificate }
 {}
 
-/// Data is read as one part at most.
+/// Data is read as at most one part.
 pub fn one_reading()
     ensures fact { ReadsOnce IsFact }
     ensures step { ReadsOnce IsStep }
