@@ -30,7 +30,7 @@ use std::alloc::{AllocError, Global};
 /// rule from the facts of the earlier steps that it uses, in the order of the rule. So the fact of each step is derivable from
 /// the roots, that of the last among them (`laws::accepted_lists` of the rules).
 ///
-/// With an index each package counts as the index corrects it; the index isn't asked anything.
+/// With an index each package counts as the index corrects it; the index isn't asked again.
 ///
 /// It is refused as `Document`, `Empty` or `Step`, the first of these that applies; `Step` names the first step that doesn't
 /// follow. It may instead return `Memory`.
@@ -59,7 +59,7 @@ pub fn check(
 /// one rule from facts of the list is in it, and nothing lost follows. So each fact that is derivable from the roots is
 /// in it (`laws::closed_lists` of the rules): a package whose crate isn't in it is unreachable.
 ///
-/// With an index each package counts as the index corrects it; the index isn't asked anything.
+/// With an index each package counts as the index corrects it; the index isn't asked again.
 ///
 /// It is refused as `Document`, otherwise as `Open`. It may instead return `Memory`.
 ///
