@@ -69,7 +69,7 @@ text_unlisted a text m errors.Utf8 document unlisted = absurd unlisted
 text_unlisted a text m (errors.Parse cause) document unlisted = absurd unlisted
 text_unlisted a text m errors.Write document unlisted = absurd unlisted
 
--- nor a run of cargo that wrote it; it is no failed write
+-- nor a run of cargo that wrote it; it isn't a failed write
 pub cargo_unlisted : (a : Request) (m : Metadata) (e : RunError) → IsSomeAnswer (metadata_view m) → IsUnlisted a m e → CargoRefusal a e × (e ≡ errors.Write → ⊥)
 cargo_unlisted a m (errors.Build cause) written unlisted = (record { metadata = m; written = written; holds = unlisted }, λ is. subst NoWrite is tt)
 cargo_unlisted a m errors.Memory written unlisted = (tt, λ is. subst NoWrite is tt)
@@ -99,7 +99,7 @@ pub cargo_refused : {A : Type 0} (a : Request) (m : Metadata) (r : Result A RunE
 cargo_refused a m (Ok x) written unlisted = unlisted
 cargo_refused a m (Err e) written unlisted = cargo_unlisted a m e written unlisted
 
--- a run of cargo without a document has no listing, and is no failed write
+-- a run of cargo without a document has no listing, and isn't a failed write
 pub cargo_unrun : (a : Request) (cause : cm.Error) (e : RunError) → IsUnrun cause → ParseErrorBecomes cause e → CargoRefusal a e × (e ≡ errors.Write → ⊥)
 cargo_unrun a cause (errors.Parse same) unrun becomes = (
   record { unrun = subst IsUnrun (sym becomes.0) unrun; not_memory = λ is_memory. becomes.1 (sym becomes.0 ∙ is_memory) },

@@ -104,18 +104,18 @@ no_id_value option value is none wish (exclude h) = differ option (codes "--excl
 no_id_value option value is none wish cargo = differ option (codes "--cargo") (codes "--why") refl is refl refl
 no_id_value option value is none wish (why {krate = krate} h) = none krate h
 
--- a value that is no specification is refused, and running out of memory stays that
+-- a value that isn't a specification is refused, and running out of memory stays that
 pub spec_refused : (option value : Text) (cause same : OptionsError) → option ≡ codes "--exclude" → IsUnread ((spec : Specification) → IsSpec value spec.name spec.version spec.url → ⊥) cause
     → same ≡ cause → IsUnread (IsNoValue option value) same
 spec_refused option value errors.Unknown same is none e = subst (IsUnread (IsNoValue option value)) (sym e) (no_spec_value option value is none)
 spec_refused option value errors.Memory same is none e = subst (IsUnread (IsNoValue option value)) (sym e) tt
 
--- a text with a fault is no id
+-- a text with a fault isn't an id
 pub no_id : (word : Text) (id : PackageId) (fault : Fault) → ((t : Text) (i : Identity) (f : Fault) → Reads t i → IsFault t f → ⊥) → id_view id ≡ word → IsFault (id_view id) fault
     → (krate : Identity) → Reads word krate → ⊥
 no_id word id fault law same is krate reads = law (id_view id) krate fault (subst (λ (t : Text). Reads t krate) (sym same) reads) is
 
--- a value that is no id is refused
+-- a value that isn't an id is refused
 pub id_refused : (option value : Text) (cause same : OptionsError) → option ≡ codes "--why" → IsUnread ((krate : Identity) → Reads value krate → ⊥) cause
     → same ≡ cause → IsUnread (IsNoValue option value) same
 id_refused option value errors.Unknown same is none e = subst (IsUnread (IsNoValue option value)) (sym e) (no_id_value option value is none)
@@ -318,7 +318,7 @@ one_read all old new left words rest split adds before = record {
 pub all_read : (all : List Text) (o : OptionsModel) (left : List Text) → left ≡ [] → AreReadTo all o left → IsCommandLine all o
 all_read all o left none are = subst (λ a. IsCommandLine all a) (joined_plain o) (are.whole plain_options (subst (λ l. IsCommandLine l plain_options) (sym none) no_words))
 
--- words of which some are left that begin with no option are no command line
+-- words of which some are left that begin with no option aren't a command line
 unknown_left : (all : List Text) (o : OptionsModel) (option : Text) (left values : List Text) → left ≡ option ∷ values → BeginsUnknown (option ∷ values) → AreReadTo all o left → IsUnknown all
 unknown_left all o option left values split unknown are p line = let (q, line_left) = are.back p line in never option values q unknown (line_begins (option ∷ values) q (subst (λ l. IsCommandLine l q) split line_left))
 

@@ -18,7 +18,7 @@ use std::alloc::{AllocError, AllocFailed, Global};
 /// What is asked of a run.
 #[derive(Debug, Drop)]
 pub struct Options {
-    /// Whether every member of the workspace is a root, also where the graph has a root of its own: `--workspace`.
+    /// Whether every member of the workspace is a root, even where the graph has a root of its own: `--workspace`.
     pub workspace: bool,
     /// The dependencies of these kinds are ignored, whichever crate has them: `--ignore-kind`.
     pub ignored: Vec<DepKind>,
@@ -37,7 +37,7 @@ pub struct Options {
 /// Why words aren't read as options.
 #[derive(Debug, Drop)]
 pub enum OptionsError {
-    /// A word is no option, an option has no value, or its value is no kind, no package specification or no package id.
+    /// A word isn't an option, an option has no value, or its value isn't a kind, a package specification or a package id.
     Unknown,
     /// Memory ran out.
     Memory,
@@ -75,7 +75,7 @@ impl Options {
         }
     }
 
-    /// The setting that is meant, without the package texts, the program and the crate that is to be explained. The
+    /// The setting that these options mean: what they say about the packages, without the program and the crate to be explained. The
     /// only error is running out of memory. Time O(length of the options).
     ///
     /// ```text
@@ -167,7 +167,7 @@ fn pkg_spec(alloc: Global, word: &str) -> Result<PkgSpec, OptionsError>
     }
 }
 
-/// The package id that a word is. It is refused as `Unknown` exactly where the word is none, or as `Memory`. Time O(length of the word).
+/// The package id that a word is. It is refused as `Unknown` exactly where the word isn't one, or as `Memory`. Time O(length of the word).
 ///
 /// ```text
 /// let krate = kid_of(alloc, "path+file:///w/b#0.1.0")?;
