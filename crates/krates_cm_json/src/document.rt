@@ -57,7 +57,7 @@ pub fn parse(alloc: Global, text: &str) -> Result<Metadata, Error>
     if let Some(metadata) = parse_in_place(alloc, text)? {
         return Ok(metadata);
     }
-    // Why it is refused, `serde_json` and its values tell.
+    // `serde_json` and its values say why it is refused.
     let value = Value::from_str(alloc, text)?;
     Ok(Metadata::from_value(alloc, &value)?)
 }

@@ -11,7 +11,7 @@ use serde_json::Value;
 use std::alloc::{AllocError, Global};
 use std::collections::BTreeMap;
 
-/// A JSON value (RFC 8259), wherever it is kept. It is handed on by value, as a reference is.
+/// A JSON value (RFC 8259), wherever it is kept. It is passed by value, as a reference is.
 ///
 /// Each look-up that doesn't say otherwise takes O(1), and answers `None` where the value is of another kind.
 pub trait JsonRef: Copy + Drop {

@@ -22,7 +22,7 @@ pub(crate) fn expect_object<J: JsonRef>(value: J, key: &'static str) -> Result<(
     }
 }
 
-/// Reads a field that has to be there.
+/// Reads a field that must be there.
 pub(crate) fn required<T: FromValue, J: JsonRef>(
     alloc: Global,
     object: J,
