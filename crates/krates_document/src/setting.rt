@@ -69,7 +69,7 @@ impl Setting {
         self.ignored = self.ignored.with(kind, scope);
     }
 
-    /// Whether every member of the workspace is a root, also where the graph has a root of its own. The last call
+    /// Whether every member of the workspace is a root, even where the graph has a root of its own. The last call
     /// counts. Time O(1).
     pub fn workspace(&mut self, is_on: bool)
         ensures { self.new ≡ record self.old { workspace = is_on } }
