@@ -1,4 +1,4 @@
--- The setting that words give, one word in each line, and the words that a certificate under this setting has.
+-- The setting that words give, one word per line, and the words that a certificate under this setting has.
 use Rattle.std.specs.Prelude.{◌≡◌, ◌++◌, IsUtf8, List, None, codes, map, ⊤}
 use Rattle.std.specs.Str.Lines.{lines}
 use Rattle.krates_cm.specs.Document.{Text}

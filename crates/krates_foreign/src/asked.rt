@@ -10,7 +10,7 @@ use krates_cli::{Options, OptionsError, laws, options_of};
 use std::alloc::{AllocError, Global};
 use std::str;
 
-/// The options that the words are, one word in each line: those of `krates-list` that concern the setting. It is refused as `Words` where
+/// The options that the words are, one word per line: those of `krates-list` that concern the setting. It is refused as `Words` where
 /// they aren't UTF-8, aren't options, or set a program or a crate to be explained, and only there. It may instead
 /// return `Memory`.
 pub(crate) fn options_in(alloc: Global, words: &[u8]) -> Result<Options, CallRefusal>

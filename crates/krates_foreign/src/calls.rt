@@ -19,7 +19,7 @@ use std::alloc::Global;
 use std::str;
 
 /// The lines of a document's packages, as `krates-list` writes them: after `+ ` the kept ones, after `- ` the others, both in the
-/// order of the ids. The words are options of `krates-list`, one in each line, and give only a setting.
+/// order of the ids. The words are options of `krates-list`, one per line, and give only a setting.
 ///
 /// It is refused as `Words`, `Utf8`, `Parse` or `Build`, in this order, each only where that is true; as `Build` also where the graph
 /// has more nodes or edges than can be numbered. It may instead return `Memory`. Time: that of reading and of the build.

@@ -19,9 +19,9 @@ pub enum CallRefusal {
     Words,
     /// The id of the crate that is to be explained can't be read.
     Id,
-    /// The document is no UTF-8.
+    /// The document isn't UTF-8.
     Utf8,
-    /// The text is no document.
+    /// The text isn't a document.
     Parse(ParseError),
     /// The document has no graph of crates under the setting.
     Build(BuildError),
