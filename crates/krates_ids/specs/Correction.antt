@@ -77,7 +77,7 @@ abbrev pub dependency_reference : Text → Text
 dependency_reference name = codes "dep:" ++ name
 
 -- The corrected features: those of the manifest keep their values, and those that only the index has are added; then a simple
--- reference to a name that is no feature so far makes it one, which enables the dependency of that name; there are no others.
+-- reference to a name that isn't a feature so far makes it one, which enables the dependency of that name; there are no others.
 pub record IsCorrection (manifest index corrected : FeaturesModel) : Type 0 where
   pub has_joined : (name : Text) (values : List Text) → joined manifest index name ≡ Some values → named corrected name ≡ Some values
   pub referred : (name : Text) → joined manifest index name ≡ None → Refers (joined manifest index) name
