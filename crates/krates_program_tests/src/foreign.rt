@@ -38,7 +38,7 @@ impl<'l> Asked<'l> {
         }
     }
 
-    /// What the call answers of a document under words, one a line; the id and the certificate are in sections.
+    /// What the call answers of a document under words, one per line; the id and the certificate are in sections.
     fn called(self, alloc: Global, json: &[u8], words: &[u8]) -> Result<String, CallRefusal> {
         match self.call {
             "list" => list(alloc, json, words),
@@ -56,7 +56,7 @@ impl<'l> Asked<'l> {
     }
 }
 
-/// The words between spaces, one a line.
+/// The words between spaces, one per line.
 fn lines_of(alloc: Global, words: &str) -> Result<String, Fail> {
     let mut lines = String::new(alloc);
     for word in words.split_whitespace() {
@@ -79,7 +79,7 @@ fn room_of(
 }
 
 /// What a call hands over: a line has the call, the length of the room and the words, and after `<` the document, or `no text`, which
-/// is no UTF-8.
+/// isn't UTF-8.
 struct Handed;
 
 impl Question for Handed {

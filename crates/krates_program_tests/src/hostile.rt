@@ -12,7 +12,7 @@ use krates_samples::stand_in::DOCUMENT;
 use std::alloc::Global;
 use std::test::Fail;
 
-/// Whether a run over these bytes is refused since they are no JSON.
+/// Whether a run over these bytes is refused since they aren't JSON.
 fn is_no_json(alloc: Global, bytes: &[u8]) -> bool {
     let mut input = Counted::new(bytes);
     let mut output = Counted::new(Vec::new(alloc));

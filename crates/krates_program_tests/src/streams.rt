@@ -175,7 +175,7 @@ impl Course for Explaining {
 /// What is reported of bytes that aren't a text.
 const REFUSAL: &str = "refused: input is not UTF-8\n";
 
-/// Runs over bytes that are no text, whose writer of refusals goes at the pace. No document is read.
+/// Runs over bytes that aren't a text, whose writer of refusals goes at the pace. No document is read.
 struct Telling;
 
 impl Course for Telling {
