@@ -21,7 +21,7 @@ pub struct Tree<'a> {
 }
 
 impl<'a> Tree<'a> {
-    /// The tree below roots of what they need. The only refusal is running out of memory.
+    /// The tree of what roots need, below them. The only refusal is running out of memory. Time: that of `DirectLinks::dependencies` and `tree`.
     pub fn of_dependencies(
         alloc: Global,
         krates: &'a Krates,
@@ -36,7 +36,7 @@ impl<'a> Tree<'a> {
         })
     }
 
-    /// The tree below roots of those that need them. The only refusal is running out of memory.
+    /// The tree of those that need roots, below them. The only refusal is running out of memory. Time: that of `DirectLinks::dependents` and `tree`.
     pub fn of_dependents(
         alloc: Global,
         krates: &'a Krates,
@@ -115,7 +115,7 @@ fn are_last(alloc: Global, lines: &[TreeLine]) -> Result<Vec<bool>, AllocError> 
     Ok(are_last)
 }
 
-/// Makes a list this long: cut, or filled up with no.
+/// Makes a list this long: cut, or padded with no.
 fn fit(flags: &mut Vec<bool>, len: usize) -> Result<(), AllocError> {
     flags.truncate(len);
     for _ in flags.len()..len {
