@@ -1,4 +1,4 @@
--- What is printed of facts, of steps, and of derivations, one step in each line.
+-- What is printed of facts, of steps, and of derivations, one step per line.
 use Rattle.std.specs.Prelude.{ℕ, ◌+◌, List, [], ◌∷◌, ◌++◌, Option, Some, None, codes, option_map}
 use Rattle.std.specs.Fmt.{decimal}
 use Rattle.krates_cm.specs.Document.{Text, text_view}

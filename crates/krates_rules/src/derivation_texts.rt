@@ -1,4 +1,4 @@
-//! How facts, steps and derivations are printed: ids by their texts, and a derivation as one step in each line.
+//! How facts, steps and derivations are printed: ids by their texts, and a derivation as one step per line.
 
 ghost use Rattle.std.specs.Prelude.{◌≡◌, Some};
 ghost use Rattle.krates_rules.specs.DerivationTexts.{derivation_lines, fact_text, kind_suffix};
