@@ -1,13 +1,13 @@
-//! Which words and options are known, and what help says of them.
+//! Which words and options are known, and what help says about them.
 
 /// What an option takes.
 #[derive(Clone, Copy)]
 pub(crate) enum Takes {
     /// Nothing: it is set or not.
     Nothing,
-    /// One value, which help calls so.
+    /// One value, which help calls by this name.
     One(&'static str),
-    /// One value at each of its uses, which help calls so.
+    /// One value at each of its uses, which help calls by this name.
     Each(&'static str),
     /// Kinds of dependencies at each of its uses, as `cargo tree` names them.
     Edges,
@@ -52,7 +52,7 @@ pub(crate) struct KnownWord {
     pub(crate) about: &'static str,
     /// What follows it.
     pub(crate) names: Names,
-    /// The option that it has alone.
+    /// The option that only it has.
     pub(crate) own: Option<KnownOption>,
     /// Whether it has an answer as JSON.
     pub(crate) has_json: bool,
@@ -174,7 +174,7 @@ pub(crate) const OF_CARGO: [KnownOption; 7] = [
     },
 ];
 
-/// The document that is read in place of running cargo.
+/// The document that is read instead of running cargo.
 pub(crate) const METADATA: KnownOption = KnownOption {
     name: "metadata",
     short: None,
