@@ -1,4 +1,4 @@
--- That a crate can't be kept, whatever the search did.
+-- Why a crate can't be kept, whatever the search did.
 use Rattle.std.specs.Prelude.{Bool, true, false, List, Contains}
 use Rattle.krates_checkers.specs.CheckRefusals.{IsClosedRefused}
 use Rattle.krates_checkers.specs.declared.check_error.CheckError.{CheckError}
