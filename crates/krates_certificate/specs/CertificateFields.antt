@@ -47,12 +47,12 @@ abbrev pub IdFault : Text → Data → Fault → Type 0
 IdFault key d fault = FieldFault text key d fault
     ⊎ ((s : Text) × Field text key s d × ((id : Identity) → Reads s id → ⊥) × (fault ≡ bad_id key))
 
--- or the text there is none of the names
+-- or the text there isn't one of the names
 abbrev pub NameFault : {A : Type 0} → (A → Text) → Text → Data → Fault → Type 0
 NameFault {A} name key d fault = FieldFault text key d fault
     ⊎ ((s : Text) × NameField key s d × ((x : A) → s ≡ name x → ⊥) × (fault ≡ unknown_name key))
 
--- or the number there is no number of a rule
+-- or the number there isn't the number of a rule
 abbrev pub RuleFault : Data → Fault → Type 0
 RuleFault d fault = FieldFault whole (codes "rule") d fault
     ⊎ ((n : ℕ) × Field whole (codes "rule") n d × (255 < n) × (fault ≡ too_large (codes "rule")))

@@ -1,4 +1,4 @@
--- The tables of a certificate: which data is which fact, step and certificate, and which fault is true of other data. One row a key.
+-- The tables of a certificate: which data is which fact, step and certificate, and which fault is true of other data. One row per key.
 use Rattle.std.specs.Prelude.{◌≡◌, ◌⊎◌, Some, None, codes}
 use Rattle.serde_json.specs.Data.{Data}
 use Rattle.serde_json.specs.Read as json

@@ -50,7 +50,7 @@ pub(crate) fn id<J: JsonRef>(
     }
 }
 
-/// Whether an id wasn't read since memory ran out.
+/// Whether an id wasn't read because memory ran out.
 pub(crate) fn is_of_memory(error: &IdError) -> bool
     ensures { IsTrue result ↔ IsOfMemory error.now }
 {
