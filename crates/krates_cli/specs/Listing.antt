@@ -1,4 +1,4 @@
--- The listing of a document: what is written for a text that is read, where this is asked.
+-- The listing of a document: what is written for a text that is read, by what is asked.
 use Rattle.std.specs.Prelude.{◌≡◌, ◌↔◌, List, Option, Contains, IsUtf8, MatchOption, map}
 use Rattle.std.specs.Io.KnownBytes.{Appends}
 use Rattle.krates_cm.specs.Document.{Text, metadata_view}

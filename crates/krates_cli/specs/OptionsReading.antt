@@ -25,7 +25,7 @@ pub record AddsValue (option value : Text) (old new : OptionsModel) : Type 0 whe
   pub asks : AsksWith option value wish
   pub added : new ≡ and_wish old wish
 
--- the words begin with an option, for which is added what it asks, and these words follow
+-- the words begin with an option, what it asks is added, and these words follow
 pub record AddsFirst (words : List Text) (old new : OptionsModel) (rest : List Text) : Type 0 where
   pub wish : Wish
   pub asks : AsksFirst words wish rest
