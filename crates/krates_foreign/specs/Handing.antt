@@ -1,4 +1,4 @@
--- How an answer is handed over in the room that the caller lends.
+-- How an answer is put into the room that the caller lends.
 use Rattle.std.specs.Prelude.{◌≡◌, ◌⊎◌, ◌++◌, ◌<◌, ◌≤◌, [], IfSome, Ok, Err, Result, String, drop, length, string_bytes}
 use Rattle.std.specs.declared.alloc.Global.{Global}
 use Rattle.krates_cm.specs.Document.{Text}
