@@ -1,4 +1,4 @@
--- The features of a package, corrected by what the index of crates.io knows of it: an index may have features that the
+-- The features of a package, corrected by what the index of crates.io knows about it: an index may have features that the
 -- manifest lacks, and an optional dependency is a feature of its name.
 use Rattle.std.specs.Prelude.{◌≡◌, ◌≢◌, ℕ, ◌<◌, List, [], ◌∷◌, ◌++◌, Option, Some, None, codes, slice_get, map, option_map}
 use Rattle.std.specs.Option.{option_or}

@@ -20,7 +20,7 @@ pub record Identity : Type 0 where
   -- whether the text as it was written has a space
   pub is_opaque : Bool
 
--- the id of nothing: an empty text with three empty parts
+-- the empty id: an empty text with three empty parts
 abbrev pub empty_identity : Identity
 empty_identity = record { text = []; name = []; version = []; source = []; is_opaque = false }
 
@@ -67,7 +67,7 @@ pub record NameInLeft (left name : Text) : Type 0 where
   pub cut : LastCut slash left before piece
   pub name_is : IsNameOfPiece (is_git left) piece name
 
--- a fragment that is the version alone, beside a left part that has the name
+-- a fragment that is the version alone, with a left part that has the name
 pub record IsVersionAlone (left fragment name version : Text) : Type 0 where
   pub version_is : version ≡ fragment
   pub no_at : Lacks at_sign fragment
@@ -137,7 +137,7 @@ pub data Fault : Type 0 where
   bad_escape : Fault
 
 -- the fault is true of the text: it has a space and is not of the opaque form; it has none and is not of the stable form;
--- or it is of the stable form, and a '%' in the query of its git source begins no escape
+-- or it is of the stable form, and a '%' in the query of its git source doesn't begin an escape
 abbrev pub IsFault : Text → Fault → Type 0
 IsFault t no_opaque_form = Has blank t × ((name version source : Text) → IsOpaqueForm t name version source → ⊥)
 IsFault t no_stable_form = Lacks blank t × ((left fragment name version : Text) → IsStableForm t left fragment name version → ⊥)
