@@ -145,7 +145,7 @@ pub record OpensTooMany (text : List ℕ) : Type 0 where
   pub rest : List ℕ
   pub is : text ≡ opened ++ (name ++ (blanks ++ 40 ∷ rest))
 
--- a beginning of the text opens one form too many, with no fault before
+-- a beginning of the text opens one form too many, without a fault before it
 pub record IsTooDeep (text : List ℕ) : Type 0 where
   pub behind : List ℕ
   pub is : text ≡ codes "cfg(" ++ behind

@@ -72,7 +72,7 @@ pub fn same(a: &str, b: &str) -> bool
     ends_with(a, b) && ends_with(b, a)
 }
 
-/// The path without what trails its last component, and, first, the part before that component.
+/// The path without what follows its last component, and, first, the part before that component.
 fn split_last(path: &str) -> (&str, &str)
     ensures { SplitsLast path.now result.0.now result.1.now }
 {
