@@ -16,7 +16,7 @@ use Rattle.krates_verdict.specs.declared.verdict.Verdict.TheVariants as verdicts
 
 -- ---- of a list of steps
 
--- what this many steps say of which the last has the fact
+-- what this many steps say, the last of which has the fact
 abbrev pub said_last : Fact → ℕ → Verdict
 said_last (facts.Crate krate) steps = verdicts.Kept krate steps
 said_last (facts.Feature krate name) steps = verdicts.Follows (facts.Feature krate name) steps

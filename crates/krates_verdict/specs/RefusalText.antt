@@ -34,7 +34,7 @@ abbrev pub words_text : List Text → Text
 words_text [] = codes " no options"
 words_text (word ∷ words) = behind_blanks (word ∷ words)
 
--- what a checker has against a certificate
+-- why a checker refuses a certificate
 abbrev pub check_text : CheckError → Text
 check_text causes.Document = codes "the document has no resolved graph, or an id that can't be read or stands twice"
 check_text causes.Empty = codes "the derivation has no step"

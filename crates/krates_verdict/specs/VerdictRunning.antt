@@ -1,4 +1,4 @@
--- What a run reads, what it writes of it, and why it writes nothing.
+-- What a run reads, what it then writes, and why it writes nothing.
 use Rattle.std.specs.Prelude.{◌≡◌, IfSome, IsUtf8, Option, ⊤}
 use Rattle.std.specs.Io.KnownBytes.{Appends}
 use Rattle.krates_cm.specs.Document.{Text}
