@@ -145,7 +145,7 @@ impl Question for Edges {
     }
 }
 
-/// What comes of two nodes and two edges in a graph of these limits.
+/// The result of adding two nodes and two edges in a graph of these limits.
 fn told_of_two(alloc: Global, graph: &mut Graph<char, char>) -> Result<String, Fail> {
     let node = graph.add_node('x')?;
     let no_node = graph.add_node('y');
@@ -207,7 +207,7 @@ fn edges_of_a_node_come_by_number_and_refusals_are_printed(rt: HostRuntime) -> R
     hold::<Printed>(rt.alloc(), TEXTS)
 }
 
-/// Whether a node and an edge of it are added under the next numbers, or the one that isn't is given back and changes nothing.
+/// Whether a node and an edge of it are added under the next numbers, or the one that isn't is returned and changes nothing.
 fn grows_or_stays(graph: &mut Graph<u32, u32>, value: u32) -> bool {
     let nodes = graph.node_count();
     let edges = graph.edge_count();

@@ -62,7 +62,7 @@ const PASSING: &[Row] = &[
         "true",
     ),
     ("x86_64-unknown-linux-gnu | cfg(target_has_atomic)", "false"),
-    // at a target of which nothing is known
+    // at a target about which nothing is known
     ("x | x", "true"),
     ("x | y", "false"),
     ("x | cfg(unix)", "false"),

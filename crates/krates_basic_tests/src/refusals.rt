@@ -1,5 +1,5 @@
 //! What each refusal prints. Those of cfg expressions, ids, specifications and JSON values are beside the texts that are
-//! refused so.
+//! refused with them.
 
 use crate::ids::kid;
 use krates_cm::{Error as MetadataError, ReadError, UnknownName};

@@ -1,4 +1,4 @@
-//! Package specifications: what they are read as, why a text is none, and which packages they match.
+//! Package specifications: what they are read as, why a text isn't one, and which packages they match.
 
 use crate::packages::package;
 use krates_cm::Package;
@@ -185,7 +185,7 @@ fn described(alloc: Global, spec: &PkgSpec) -> Result<String, AllocError> {
     }
 }
 
-/// The specification that a text is, or why it is none.
+/// The specification that a text is, or why it isn't one.
 struct Read;
 
 impl Question for Read {
