@@ -165,7 +165,7 @@ const REFERENTS: &[Row] = &[
     ("referent m z", "z"),
     ("referent m b-c", "b-c"),
     ("referent m q", "none"),
-    // a crate without dependencies, and one that isn't of the document
+    // a crate without dependencies, and one that isn't in the document
     ("referent n z", "none"),
     ("referent q z", "none"),
     // what is meant under a setting
@@ -194,7 +194,7 @@ const DECLARED_EDGES: &[Row] = &[
     ("declared m b-c normal cfg(windows)", "Some(3)"),
     // declared for this kind, but not listed
     ("declared m z normal", "None"),
-    // for another target, the other way round, and of a crate that isn't of the document
+    // for another target, the other way round, and of a crate that isn't in the document
     ("declared m b-c normal", "None"),
     ("declared z m build", "None"),
     ("declared q m build", "None"),

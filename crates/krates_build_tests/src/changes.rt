@@ -10,7 +10,7 @@ use krates_samples::text::Text;
 use std::alloc::Global;
 use std::test::Fail;
 
-/// What is changed of a step.
+/// What is changed in a step.
 #[derive(Clone, Copy)]
 enum Change {
     /// It has the number of the next rule.

@@ -1,4 +1,4 @@
-//! What a build hands out to explain what it keeps: each derivation is accepted, and all facts together are a closed list.
+//! What a build returns to explain what it keeps: each derivation is accepted, and all facts together are a closed list.
 
 use crate::builders::krates_of;
 use crate::facts::{push_steps, told};

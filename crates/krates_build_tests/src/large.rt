@@ -1,4 +1,4 @@
-//! Documents and lists that are larger than any number in the sources: no answer hangs on a size.
+//! Documents and lists that are larger than any number in the sources: no answer depends on a size.
 
 ghost use Rattle.std.specs.Prelude.{◌≡◌, None};
 

@@ -1,4 +1,4 @@
-//! Long lists that are set of builders and commands, and long texts, in the way of `large`.
+//! Long lists that are set of builders and commands, and long texts, as in `large`.
 
 ghost use Rattle.std.specs.Prelude.{◌≡◌, OnOk};
 

@@ -1,10 +1,10 @@
-//! Worked examples of documents: which are admitted, what the questions of the rules are answered and what is selected; what builds answer
+//! Worked examples of documents: which are admitted, the answers to the questions of the rules, and what is selected; what builds answer
 //! where the answer is known; and what the two checkers do.
 //!
 //! The checkers are asked about lists of steps and lists of facts, written by hand, whose answers are known, and about what a build
 //! explains; drawn graphs, how many nodes and edges there may be, and for the reports that people want.
 //!
-//! Calls with little memory: a call answers that memory ran out only where a growth was refused, and changes nothing then that has to be
+//! Calls with little memory: a call answers that memory ran out only where a growth was refused, and then changes nothing that has to be
 //! unchanged. No clause can say that memory suffices, so it is shown here: under every small budget a call is refused or answered as with
 //! ample memory. And what the library answers of documents and lists that are larger than any number in the sources.
 //!

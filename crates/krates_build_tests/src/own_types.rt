@@ -72,7 +72,7 @@ impl FromEdge for IsDependency {
     }
 }
 
-/// Builds a document, and hands the names of the packages that aren't kept to a closure, which gathers them. The section `names` of
+/// Builds the graph of a document, and passes the names of the packages that aren't kept to a closure, which gathers them. The section `names` of
 /// the line says whether a name means all dependencies that match it.
 fn built(
     alloc: Global,

@@ -1,4 +1,4 @@
-//! What is printed of nodes and of edges: an answer has each node and a comma, a bar, and each edge and a semicolon.
+//! What is printed for nodes and for edges: an answer has each node and a comma, a bar, and each edge and a semicolon.
 
 ghost use Rattle.std.specs.Prelude.{Some, string_bytes};
 

@@ -172,9 +172,9 @@ const CRATES: &[Row] = &[
 const EDGES: &[Row] = &[
     ("a b dev", "wanted of 3, Some(Development)"),
     ("a b build / ignore dev", "wanted of 3, Some(Build)"),
-    // what it is declared as doesn't hang on what is ignored
+    // what it is declared as doesn't depend on what is ignored
     ("a b dev / ignore dev", "nothing of 3, Some(Development)"),
-    // listed, and not declared so
+    // listed, and not declared that way
     ("a b normal", "undeclared of 3, None"),
     ("a c normal cfg(windows)", "wanted of 1, Some(Normal)"),
     // not listed for every target, or not at all

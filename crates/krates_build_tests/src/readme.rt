@@ -47,7 +47,7 @@ fn bounded(
     }
 }
 
-/// What the example tells of the document and the builder of a line.
+/// What the example reports of the document and the builder of a line.
 struct Example;
 
 impl Ask for Example {

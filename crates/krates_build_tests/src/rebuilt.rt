@@ -1,4 +1,4 @@
-//! What members reach without a kind of dependency, beside what a rebuild keeps that ignores this kind.
+//! What members reach without a kind of dependency, compared with what a rebuild that ignores this kind keeps.
 //!
 //! The section `ask` of a line names the kind. An answer has the crates of the first, and then those of the second, each after a
 //! plus sign.

@@ -56,7 +56,7 @@ const DEPENDENTS: &[Row] = &[
     ("a b|b / of c", ""),
 ];
 
-/// Adds a crate that isn't the next one that is needed; answers whether it is.
+/// Adds a crate that isn't the next one that is needed, and returns whether it is.
 fn push_other(text: &mut Text, krate: &Package, next: Option<&&Package>) -> bool {
     match next {
         Some(next) if next.id == krate.id => true,
@@ -90,7 +90,7 @@ const FOR_TESTS: &[Row] = &[
     // but not what is needed otherwise too
     ("a b&dev d|b c d|c|d", "b, c, "),
     ("a b&dev c|b c|c", "b, "),
-    // a member counts as needed, though another needs it for its tests alone
+    // a member counts as needed, though another needs it only for its tests
     ("a b&dev|b c|c / members a b", ""),
     // what a build script needs isn't a test's
     ("a b&build c&dev|b|c", "c, "),

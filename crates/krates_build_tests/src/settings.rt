@@ -76,7 +76,7 @@ const SETTINGS: &[Row] = &[
         r#"a b&on=cfg(target_feature~=~"atomics")|b / for x"#,
         "+a-b",
     ),
-    // a triple beside the table: of itself it has no property, and as rustc describes it those that cargo goes by
+    // a triple outside of the table: by itself it has no property, and as rustc describes it those that cargo uses
     (
         r#"a b&on=cfg(windows) c&on=cfg(all(windows,~target_env~=~"gnu")) d&on=cfg(unix) e&on=x86_64-pc-windows-gnu f&on=cfg(target_os~=~"freebsd") g&on=cfg(target_feature~=~"sse3")|b|c|d|e|f|g / for x86_64-pc-windows-gnu"#,
         "+a+e-b-c-d-f-g",

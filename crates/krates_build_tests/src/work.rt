@@ -1,4 +1,4 @@
-//! How much work a build was: how many crates, features and references were looked at.
+//! How much work a build took: how many crates, features and references were looked at.
 
 use crate::of_graph::{OfGraph, Told};
 use krates::{Krates, Package};
