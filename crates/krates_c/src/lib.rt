@@ -50,7 +50,7 @@ pub extern "C" fn krates_graph(
     hand_over(alloc, told, room)
 }
 
-/// The lines of a derivation of the crate with this id, a step a line.
+/// The lines of a derivation of the crate with this id, one step per line.
 #[unsafe(no_mangle)]
 pub extern "C" fn krates_why(
     alloc: Global,
