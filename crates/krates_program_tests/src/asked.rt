@@ -65,7 +65,7 @@ fn told_of(alloc: Global, answer: Result<Report, ReportError>) -> Result<String,
     }
 }
 
-/// What the words of a line are answered, of the documents after `<`, with `//` between them.
+/// The answer to the words of a line, about the documents after `<`, with `//` between them.
 pub(crate) fn answered_of(alloc: Global, line: &str) -> Result<String, Fail> {
     let (words, documents) = line.split_once(" < ").unwrap_or((line, ""));
     match asked_of(alloc, &words_of(alloc, words)?) {

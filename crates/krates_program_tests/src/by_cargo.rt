@@ -90,14 +90,14 @@ fn listed(rt: &HostRuntime, words: &[String]) -> Result<String, Fail> {
     )
 }
 
-/// What a run of the program with these words tells and lists.
+/// What a run of the program with these words reports and lists.
 fn listing(rt: &HostRuntime, line: &str) -> Result<String, Fail> {
     let mut words = Vec::new(rt.alloc());
     push_words(&mut words, rt, line)?;
     listed(rt, words.as_slice())
 }
 
-/// Compares what such a run tells and lists with what is known.
+/// Compares what such a run reports and lists with what is known.
 fn hold_listing(rt: &HostRuntime, line: &str, answer: &str) -> Result<(), Fail> {
     let told = listing(rt, line)?;
     compare(line, told.as_str(), answer)

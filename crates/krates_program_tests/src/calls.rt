@@ -1,4 +1,4 @@
-//! The calls of which the program is made, each by itself.
+//! The calls that make up the program, one by one.
 
 use crate::listing::words_of;
 use krates::{Builder, Kid, Krates, NoneFilter};

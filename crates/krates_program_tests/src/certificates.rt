@@ -1,4 +1,4 @@
-//! Certificates as `cargo krates` writes them, and what the program says that checks them.
+//! Certificates as `cargo krates` writes them, and what the program that checks them says.
 
 use crate::asked::{Answered, add_targets, answered_of, document_of};
 use crate::listing::words_of;

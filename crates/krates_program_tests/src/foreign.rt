@@ -48,7 +48,7 @@ impl<'l> Asked<'l> {
         }
     }
 
-    /// What is handed over of a document.
+    /// What is handed over for a document.
     fn handed(self, alloc: Global, json: &[u8]) -> Result<String, Fail> {
         let words = lines_of(alloc, self.words)?;
         let told = self.called(alloc, json, words.as_bytes());

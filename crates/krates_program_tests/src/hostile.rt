@@ -20,7 +20,7 @@ fn is_no_json(alloc: Global, bytes: &[u8]) -> bool {
     matches!(result, Err(RunError::Parse(MetadataError::Json(_))))
 }
 
-/// Whether the program refuses these bytes as no JSON, with status 1 and nothing listed.
+/// Whether the program refuses these bytes because they aren't JSON, with status 1 and nothing listed.
 fn is_refused(alloc: Global, bytes: &[u8]) -> Result<bool, Fail> {
     let told = outcome(alloc, &[], bytes)?;
     Ok(

@@ -1,4 +1,4 @@
-//! Whole runs of the command line: from a document, or what is none, to the lines, the refusal and the status.
+//! Whole runs of the command line: from a document, or what isn't one, to the lines, the refusal and the status.
 
 use crate::no_programs::NoPrograms;
 use krates_cli::{Counted, Options, RunError, program, refuse_words, run};
@@ -44,7 +44,7 @@ pub(crate) fn outcome<R: Read + Drop>(
     Ok(format!(in alloc; "{told}|{lines}")?)
 }
 
-/// What a run tells and writes; a line has its words, and after `<` the document that it reads, or the text itself, which begins
+/// What a run reports and writes; a line has its words, and after `<` the document that it reads, or the text itself, which begins
 /// with `{`.
 pub(crate) struct Listed;
 

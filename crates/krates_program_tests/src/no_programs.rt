@@ -5,7 +5,7 @@ use std::io;
 use std::io::ErrorKind;
 use std::process::{Child, Command, ExitStatus, OpenProcess, Processes, Stdio};
 
-/// Programs of which none is found.
+/// Programs that aren't found.
 #[derive(Drop)]
 pub(crate) struct NoPrograms;
 

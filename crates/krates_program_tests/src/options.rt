@@ -88,7 +88,7 @@ fn beginning(told: &str) -> (&str, &str) {
     }
 }
 
-/// How a run with these words over two bytes begins to tell, how many of the bytes it leaves unread, and what it writes.
+/// How a run with these words over two bytes begins to report, how many of the bytes it leaves unread, and what it writes.
 fn run_unread(alloc: Global, words: &[String]) -> Result<String, Fail> {
     let mut input = Counted::new(b"{}".as_slice());
     let mut output = Counted::new(Vec::new(alloc));
@@ -119,7 +119,7 @@ const NO_OPTIONS: &[Row] = &[
     ("--exclude a@", "2 usage, 2 left|"),
     ("--target", "2 usage, 2 left|"),
     ("--cargo", "2 usage, 2 left|"),
-    // no id: no word, none with a version, another word, and escapes of what is none or may not be escaped
+    // not an id: no word, none with a version, another word, and escapes of what isn't one or may not be escaped
     ("--why", "2 usage, 2 left|"),
     ("--why a", "2 usage, 2 left|"),
     ("--why x#1/2", "2 usage, 2 left|"),

@@ -110,7 +110,7 @@ fn extent(text: &str, taken: &[u8]) -> &'static str {
     }
 }
 
-/// What runs of one kind tell at a pace.
+/// What runs of one kind report at a pace.
 trait Course {
     /// The status and the refusal, how much was written, and how many calls have failed.
     fn run(alloc: Global, json: &str, pace: Pace) -> Result<String, Fail>;
@@ -136,7 +136,7 @@ impl Course for Reading {
     }
 }
 
-/// What a run with these words tells whose writer goes at the pace, how much of the text was written, and how many calls failed.
+/// What a run with these words whose writer goes at the pace reports, how much of the text was written, and how many calls failed.
 fn written(
     alloc: Global,
     words: &[String],
@@ -197,7 +197,7 @@ impl Course for Telling {
     }
 }
 
-/// What runs tell of which one call goes wrong, each call in turn, and how many calls there are. A line has the size of the
+/// What runs report in which one call goes wrong, each call in turn, and how many calls there are. A line has the size of the
 /// document, how many bytes a call moves at most, and how it goes wrong.
 struct EachCall<C> {
     course: C,
@@ -223,7 +223,7 @@ fn kind_of(mishap: &str) -> Option<ErrorKind> {
     }
 }
 
-/// How many calls there are, with what the first run tells, where none goes wrong any more; what the run tells where that is
+/// How many calls there are, with what the first run reports, where none goes wrong any more; what the run reports where that is
 /// something else than the first one; and nothing where it is the same.
 fn end_of<C: Course>(
     alloc: Global,
@@ -241,7 +241,7 @@ fn end_of<C: Course>(
     Ok(Some(told))
 }
 
-/// Lets each call but the first go wrong in turn, up to the run in which none does any more.
+/// Makes each call except the first go wrong in turn, up to the run in which none does any more.
 fn each_call<C: Course>(
     alloc: Global,
     json: &str,

@@ -1,10 +1,10 @@
-//! Runs that write why a crate is kept, in place of a list of the packages. Each of these crates is kept for one reason.
+//! Runs that write why a crate is kept, instead of a list of the packages. Each of these crates is kept for one reason.
 
 use crate::listing::{Listed, outcome, words_of};
 use krates_samples::table::{Row, compare, hold};
 use std::test::Fail;
 
-/// Why a crate is kept that the only member needs for its tests.
+/// Why a crate that the only member needs for its tests is kept.
 pub(crate) const STEPS: &str =
     "0 rule 1: crate path+file:///w/a#0.1.0\n1 rule 5: kept path+file:///w/a#0.1.0 -> path+file:///w/b#0.1.0 (dev) from 0\n2 rule 5: crate path+file:///w/b#0.1.0 from 1\n";
 
