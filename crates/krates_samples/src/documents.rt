@@ -6,7 +6,7 @@
 //!
 //! A word is a name, `@` and a version where it isn't 0.1.0, and options, each after `&`:
 //!
-//! - `id=ID`: its id is this text, and not the one that cargo gives to a crate at `/w/NAME`;
+//! - `id=ID`: its id is this text instead of the one that cargo gives to a crate at `/w/NAME`;
 //! - `crates.io`: it is a package of crates.io, and has an id of that registry;
 //! - `lib=NAME`: the library of the package has this name.
 //!
@@ -110,7 +110,7 @@ pub fn word_of(id: &str) -> &str {
     if own == name { version } else { id }
 }
 
-/// Divides the next item of a JSON list or object from the one before it, if there is one.
+/// Separates the next item of a JSON list or object from the one before it, if there is one.
 fn divide(json: &mut Text) {
     if !json.as_str().ends_with(['[', '{']) {
         json.push_str(",");

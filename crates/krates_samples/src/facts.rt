@@ -5,7 +5,7 @@
 //! - `a>b`, `a>b:dev` and `a>b:dev:TARGET`: the edge is kept.
 //! - `a>b/f`: a feature of the first crate toggles one of the second.
 //!
-//! A step is the number of its rule, its fact, and the numbers of the steps that it uses, as `4 a>b 1`; a semicolon divides steps.
+//! A step is the number of its rule, its fact, and the numbers of the steps that it uses, as `4 a>b 1`; a semicolon separates steps.
 
 use crate::documents::{kid_of, kind_named};
 use crate::settings::{FromText, all_of};

@@ -30,7 +30,7 @@ pub trait Call: Debug {
     ) -> Result<bool, Fail>;
 }
 
-/// There was enough: the answer is the one with ample memory, or the call fails its test.
+/// There was enough memory: the answer is the one with ample memory, or the call fails its test.
 pub fn granted(is_ample: bool) -> Result<bool, Fail> {
     if !is_ample {
         return Err(Fail::new("an answer that ample memory doesn't give"));
@@ -38,7 +38,7 @@ pub fn granted(is_ample: bool) -> Result<bool, Fail> {
     Ok(true)
 }
 
-/// Memory was wanting: what has to be unchanged is, or the call fails its test.
+/// Memory ran out: what must be unchanged is, or the call fails its test.
 pub fn refused(is_unchanged: bool) -> Result<bool, Fail> {
     if !is_unchanged {
         return Err(Fail::new("something changed at a refusal"));
@@ -65,7 +65,7 @@ const RESERVE: usize = 1 << 18;
 /// How many blocks of memory are taken at most.
 const BLOCKS: usize = 20_000;
 
-/// All memory but a budget, which is given back where this is dropped.
+/// All memory but a budget, which is freed when this is dropped.
 #[derive(Drop)]
 struct Little {
     blocks: Vec<Vec<u8>>,
@@ -111,7 +111,7 @@ impl Little {
 }
 
 /// Whether this budget is enough for the call, or all memory, where there is no budget. The answer is judged only once the memory is
-/// given back.
+/// freed.
 fn is_enough<C: Call>(alloc: Global, call: &C, budget: Option<usize>) -> Result<bool, Fail> {
     let mut given = call.given(alloc)?;
     let little = Little::but(alloc, budget)?;
@@ -130,7 +130,7 @@ fn steps_to_enough<C: Call>(alloc: Global, call: &C) -> Result<usize, Fail> {
     Err(Fail::new("no budget is enough"))
 }
 
-/// What the process is started with: little memory, of which each freed block is at hand again, whatever its size.
+/// What the process is started with: little memory, in which each freed block can be used again, whatever its size.
 const SCRIPT: &str =
     "ulimit -v 100000; exec env GLIBC_TUNABLES=glibc.malloc.tcache_count=0:glibc.malloc.mxfast=0:glibc.malloc.mmap_max=0:glibc.malloc.arena_max=1:glibc.malloc.trim_threshold=1000000000 \"$0\" \"$1\" now";
 

@@ -1,4 +1,4 @@
-//! A text that is written without an error to hand on.
+//! A text that is written without an error to return.
 
 use std::alloc::{AllocError, Global};
 use std::fmt::Display;
