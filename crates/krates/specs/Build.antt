@@ -139,13 +139,13 @@ pub record HasTooMany (m : MetadataModel) (s : SettingModel) : Type 0 where
   pub is_outline : IsOutlineFor m s outline
   pub many : (2 ^ 32 ≤ length (planned_nodes outline)) ⊎ (2 ^ 32 ≤ length (planned_edges outline))
 
--- why nothing is built of a document that can be resolved: too much is drawn, or nothing is selected; memory may always run out
+-- why nothing is built from a document that can be resolved: too much is drawn, or nothing is selected; memory may always run out
 abbrev pub GraphRefusal : MetadataModel → SettingModel → Error → Type 0
 GraphRefusal m s errors.TooMany = HasTooMany m s
 GraphRefusal m s errors.Memory = ⊤
 GraphRefusal m s e = RefusesSelection m s e
 
--- The document can't be resolved as it is given, for this cause; or it can, but nothing is built of it as it is resolved, for this
+-- The document can't be resolved as it is given, for this cause; or it can, but nothing is built from it as it is resolved, for this
 -- cause. So a cause of the first kind counts before one of the second; memory may always run out.
 abbrev pub BuildRefusal : {S : Type 0} → Answering S → Option S → Metadata → SettingModel → Error → Type 0
 BuildRefusal may_answer index m s e = AdmissionRefusal (metadata_view m) e

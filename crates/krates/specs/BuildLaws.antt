@@ -110,7 +110,7 @@ KeepsPackages = (p : Metadata) (wide narrow : SettingModel) → IsNarrower wide 
 
 -- ---- what a name means
 
--- What is kept of q where a name means the least that matches it is a part of what is kept of p where it means all: both are
+-- What q keeps where a name means only the least that matches it is a part of what p keeps where it means all: both are
 -- what is looked at of one document. So where both builds succeed, the crates, features and edges of the first are in the second.
 pub record KeepsNamedPart (p q : Metadata) (s : SettingModel) : Type 0 where
   -- each fact that is derivable where it means the least is derivable where it means all, lost facts too
