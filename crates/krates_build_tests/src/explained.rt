@@ -116,7 +116,7 @@ const REAL: &[Row] = &[
     ("gitter", "21 nodes true, 32 facts true"),
 ];
 
-/// What is built of the document of a line, where its section `built` sets something more or something else.
+/// What is built from the document of a line, where its section `built` sets something more or something else.
 fn built(alloc: Global, line: &str) -> Result<Box<Krates>, Fail> {
     let set = section(line, "built ").unwrap_or("");
     let line = format!(in alloc; "{line} / {set}")?;

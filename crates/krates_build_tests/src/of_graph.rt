@@ -1,4 +1,4 @@
-//! Questions to the graph that is built of a line, and what several of them add to their answers.
+//! Questions to the graph that is built from a line, and what several of them add to their answers.
 
 use crate::builders::krates_of;
 use krates::{EnabledFeatures, FromPackage, Krates, NodeId, Package};
