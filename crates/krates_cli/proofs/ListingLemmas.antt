@@ -120,7 +120,7 @@ lines_listed (pkg ∷ packages) [] h = absurd h
 lines_listed (pkg ∷ packages) (l ∷ values) h =
     ap (λ (id : PackageId). id_line (codes "+ ") id ++ listed_lines values) h.0 ∙ ap (λ ls. line (codes "+ ") pkg ++ ls) (lines_listed packages values h.1)
 
--- what is built without an index is built of the document as it is given
+-- what is built without an index is built from the document as it is given
 pub built_as_given : {S F N E : Type 0} (may_answer : Answering S) (index : Option S) (s meant : SettingModel) (m : Metadata) (filters : F → Package → F → Type 0) (made : Package → N → Type 0) (made_edge : Edge → E → Type 0) (kept : KeptCrates N E) (before after : F)
     → index ≡ None → s ≡ meant
     → Sees may_answer index m (λ seen. IsBuilt filters made made_edge seen s before after kept) → IsBuilt filters made made_edge m meant before after kept

@@ -22,9 +22,9 @@ pub fn one_command_line()
     laws::one_reading();
 }
 
-/// Where words request a listing, and what is to be read has one, a run is refused only where a call fails, memory
-/// runs out, or more crates are kept than can be numbered. So it succeeds exactly where there is a listing, these
-/// aside. Where the crate to be explained isn't kept of what is read, a run is refused for that, these aside too.
+/// Where words request a listing, and what is to be read has one, a run is refused only if a call fails, memory
+/// runs out, or more crates are kept than can be numbered. So, apart from these cases, it succeeds exactly where there is a
+/// listing. Where the crate to be explained isn't kept, a run is refused for that, again apart from these cases.
 pub fn listed_or_refused()
     ensures text { (a : Request) (bytes lines : Text) (cause : RunError)
         → IsUtf8 bytes → IsListing a bytes lines → RunRefusal a bytes cause → IsOutside cause }
