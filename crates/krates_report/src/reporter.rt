@@ -63,7 +63,7 @@ impl Others {
         }
     }
 
-    /// The graph that is built of a document under a setting, and the packages that it doesn't keep.
+    /// The graph that is built from a document under a setting, and the packages that it doesn't keep.
     fn divided(
         mut self,
         alloc: Global,
