@@ -35,7 +35,7 @@ pub fn verdicts_are_true()
 }
 
 /// Bytes that are a certificate which holds are refused only where the reader or the writer fails, or memory runs out: no other
-/// refusal is true of them. So a run over them succeeds, these aside.
+/// refusal is true of them. So, apart from these cases, a run over them succeeds.
 pub fn held_or_refused()
     ensures { (s : SubjectModel) (bytes : Text) (verdict : Verdict) (cause : Refusal)
         → IsVerdictOf s bytes verdict → IsRefusalOf s bytes cause → IsOutside cause }
