@@ -183,7 +183,7 @@ fn spec_text(alloc: Global, pkg: &Package) -> Result<String, AllocError> {
     format!(in alloc; "{}@{}", pkg.name, pkg.version)
 }
 
-/// Adds that of each of these.
+/// Adds `NAME@VERSION` of each of these.
 fn push_specs(
     alloc: Global,
     packages: &[&Package],
