@@ -78,7 +78,7 @@ fn push<T: Drop>(list: &mut Vec<T>, item: T) -> Option<()>
 }
 
 /// Adds the next members of an object to others, up to a key or to the end of the object, and returns whether the key was found.
-/// `None` at a key that was there before.
+/// `None` at the key that was found before.
 fn has_key_behind<'t>(
     alloc: Global,
     reader: &mut Reader<'t>,
