@@ -69,7 +69,7 @@ fn of_cargo(rt: &HostRuntime, words: &CargoWords) -> Result<Metadata, Failure> {
     }
 }
 
-/// Refuses a manifest whose folder isn't there, since cargo is run in it.
+/// Refuses a manifest that can't be found, since cargo is run in its folder.
 fn check_manifest(rt: &HostRuntime, words: &CargoWords) -> Result<(), Failure> {
     let Some(path) = &words.manifest_path else {
         return Ok(());
