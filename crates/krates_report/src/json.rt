@@ -1,6 +1,6 @@
 //! JSON objects and lists, value by value.
 //!
-//! That memory ran out for a value is reported where the object or the list is finished, and not at each value: so a long object is made
+//! That memory ran out for a value is reported when the object or the list is finished, not at each value, so a long object can be built
 //! without an exit for each key.
 
 use serde_json::{Map, Value, push, put};
