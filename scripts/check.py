@@ -7,7 +7,7 @@
     scripts/check.py over-gate CRATE --archive FILE
 
     sources     compiles a crate of the repository whose top is FOLDER, with --test its tests too, over the sources of
-                the libraries below it; nothing is proved but the functions that --only names, and what they call
+                the libraries below it; nothing is proved except the functions that --only names, and what they call
     over-gate   checks a crate over the libraries that the gate left in this folder, in a minute or two; the words are
                 the compiler's own, as --only FUNCTION, --test, --allow-holes. With --build it makes the crate's library
                 anew, for the crates above it, and with --archive the archive of a static library
@@ -23,7 +23,7 @@ from krates_sources import crates, do_word, wrong_words
 
 
 def check_sources(given):
-    """Checks a crate over sources, as the words ask; the status."""
+    """Checks a crate over sources, as the words ask, and returns the status."""
     names = [word for word in given if word != "--test"]
     parts, only = names[2:], names[3::2]
     if len(names) < 2 or names[0].startswith("-") or names[1].startswith("-"):
@@ -39,7 +39,7 @@ def check_sources(given):
 
 
 def check_over_gate(given):
-    """Checks a crate over what the gate left, or makes what is asked of it; the status."""
+    """Checks a crate over what the gate left, or makes what is asked of it, and returns the status."""
     if not given:
         return wrong_words(__doc__, "a crate is missing")
     if given[0] not in crates():

@@ -7,7 +7,7 @@
 A document is FOLDER/NAME/metadata.json, which may be compressed, as metadata.json.gz. Where no folder is given, the
 documents are the two small ones of scripts/documents. The word is one of these:
 
-    lists          the lines of krates-list with the files NAME/*.list that stand beside a document
+    lists          the lines of krates-list with the files NAME/*.list that lie beside a document
     graphs         the graphs that cargo-krates draws with the files NAME/*.graph
     queries        what each query answers with a plain reading of the drawn graph
     why            the steps that say why krates-list keeps a crate with a reading of the rules
@@ -42,7 +42,7 @@ WORDS = {
 
 
 def main(given):
-    """Does what the words ask; the status."""
+    """Does what the words ask, and returns the status."""
     word, rest = (given or [""])[0], given[1:]
     folder = pathlib.Path(rest[0]) if rest else ROOT / "scripts" / "documents"
     counts = [int(count) for count in rest[1:] if count.isdecimal()]

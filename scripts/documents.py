@@ -7,7 +7,7 @@
     make     prints a document with COUNT packages, for measuring; with `plain` one that has no features and no optional
              dependencies
     damage   makes COUNT damaged documents, 20,000 where none is given, of those in a folder, FOLDER/NAME/metadata.json,
-             which may be compressed, as metadata.json.gz; hands each to krates-list, and looks at how it ends
+             which may be compressed, as metadata.json.gz; gives each to krates-list, and looks at how it ends
 
 The module of the word, in scripts/documents, says more; the two small documents beside it are those that
 scripts/compare.py takes by default. The program is the one that `rt run` builds in crates/krates_list, or $KRATES_LIST.
@@ -22,7 +22,7 @@ from krates_sources import do_word, wrong_words
 
 
 def make_one(given):
-    """Prints a document, as the words ask; the status."""
+    """Prints a document, as the words ask, and returns the status."""
     count, rest = (given or [""])[0], given[1:]
     if not count.isdecimal():
         return wrong_words(__doc__, f"no count: {count}" if count else "a count is missing")
@@ -33,7 +33,7 @@ def make_one(given):
 
 
 def damage_some(given):
-    """Tries damaged documents, as the words ask; the status."""
+    """Tries damaged documents, as the words ask, and returns the status."""
     folder, rest = (given or [""])[0], given[1:]
     if not folder:
         return wrong_words(__doc__, "a folder is missing")

@@ -35,7 +35,7 @@ WORDS = {
 
 
 def main(given):
-    """Does what the words ask; the status."""
+    """Does what the words ask, and returns the status."""
     word, names = (given or [""])[0], given[1:]
     if word == "changed-answers":
         word += " --compiled" * ("--compiled" in names)

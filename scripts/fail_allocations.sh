@@ -4,12 +4,12 @@
 #     scripts/fail_allocations.sh [DOCUMENT [OPTION..]]
 #
 # The document is crates/krates_list/stdin where none is given; options go to the program. Each run has to end with status 1,
-# nothing listed and the line 'refused: out of memory', or as the run with ample memory does. A run that ends otherwise is told,
+# nothing listed and the line 'refused: out of memory', or as the run with ample memory does. A run that ends otherwise is reported,
 # by the number of the request. The last line says how many requests there were, and how the runs ended; the status is 0 where
 # all of them ended as they have to, and 1 otherwise.
 #
 # The program is crates/krates_list/out/krates_list, which `rt run` in that folder builds, or $KRATES_LIST. A small library that
-# stands before the C library refuses the request, since `rt try --fail-alloc` takes one number, and proves and builds anew for
+# is loaded before the C library refuses the request, since `rt try --fail-alloc` takes one number, and proves and builds anew for
 # each; so a C compiler is needed, $CC or cc.
 
 set -euo pipefail
@@ -71,7 +71,7 @@ void *realloc(void *block, size_t size) {
 C
 "${CC:-cc}" -O1 -shared -fPIC -o "$room/refusing.so" "$room/refusing.c" -ldl
 
-# One run with the request of this number refused, 0 for none. Its status is answered.
+# One run with the request of this number refused, 0 for none. Returns its status.
 run() {
     local status=0
     REFUSED=$1 COUNTED=$2 LD_PRELOAD=$room/refusing.so "$program" "${@:3}" \

@@ -13,7 +13,7 @@ rows are the crates:
     edits   its must-fail edits are tried
     tests   its tests are proved, compiled and run
 
-The time of a process is that of its last reading, so it misses at most half a second of each. Below the table stands the time of
+The time of a process is that of its last reading, so it misses at most half a second of each. Below the table is the time of
 all processes as the system counts it, and the time that passed.
 
 Each processor proves a crate by itself (`RT_JOBS`). Left to itself, the gate has several processors share one proof where others would be
@@ -51,7 +51,7 @@ def processes():
 
 
 def place_of(pid):
-    """The crate and the phase that a process works for, as its words or its folder tell."""
+    """The crate and the phase that a process works for, as its words or its folder show."""
     words = text_of(f"/proc/{pid}/cmdline").split("\0")
     try:
         folder = os.readlink(f"/proc/{pid}/cwd")

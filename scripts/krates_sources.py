@@ -20,13 +20,13 @@ PRIVATE = re.compile(r"^mod (\w+);", re.MULTILINE)
 
 
 def wrong_words(usage, cause):
-    """Says what is wrong with the words of a command, and how it is used; the status of that."""
+    """Says what is wrong with the words of a command, and how it is used, and returns the status for that."""
     print(f"{cause}\n\n{usage.strip()}", file=sys.stderr)
     return 2
 
 
 def do_word(usage, words, given):
-    """Does what the first word of a command asks, with those behind it; the status."""
+    """Does what the first word of a command asks, with those after it, and returns the status."""
     word = (given or [""])[0]
     if word not in words:
         return wrong_words(usage, f"no such word: {word}" if word else "a word is missing")
@@ -37,7 +37,7 @@ def crates(root=ROOT):
     """The crates of a repository in the order of its crates.txt, each with the libraries that its line names."""
     lines = [line.split("#")[0] for line in (root / "crates.txt").read_text(encoding="utf-8").splitlines()]
     pairs = [line.split(":") for line in lines if ":" in line]
-    # behind the name may stand what is made of the crate
+    # after the name may be what is made from the crate
     return {name.split()[0]: rest.split() for name, rest in pairs}
 
 
@@ -75,7 +75,7 @@ class Call:
 
 
 def is_reached(source, path):
-    """Whether each module on the way from the crate's root to the file is public or given again."""
+    """Whether each module on the way from the crate's root to the file is public or re-exported."""
     at = source / "lib.rt"
     for module in path.relative_to(source).with_suffix("").parts:
         text = at.read_text(encoding="utf-8")
@@ -93,7 +93,7 @@ def is_nowhere_private(source, path):
 
 
 def given_again(source):
-    """The words of what a crate gives again by `pub use`."""
+    """The words of what a crate re-exports by `pub use`."""
     texts = (path.read_text(encoding="utf-8") for path in files(source))
     return {word for text in texts for items in GIVEN_AGAIN.findall(text) for word in re.findall(r"\w+", items)}
 
@@ -102,8 +102,8 @@ def public_calls(source):
     """The public calls of a library crate, file by file in the order of their lines.
 
     A public call is a `pub fn` that another crate may reach: a method, of whichever type, or a function that a
-    `pub use` gives again, or that stands in a file whose modules, from the crate's root on, are all public or given
-    again, or none of them private.
+    `pub use` re-exports, or that is in a file whose modules, from the crate's root on, are all public or re-exported,
+    or none of them private.
     """
     names = given_again(source)
     for path in files(source):

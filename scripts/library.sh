@@ -4,7 +4,7 @@
 #     scripts/library.sh copy FOLDER
 #     scripts/library.sh bindings [COUNT]
 #
-#     copy       copies the crate `krates` and all crates on which it stands into a repository of your own, whose top is FOLDER
+#     copy       copies the crate `krates` and all crates that it needs into a repository of your own, whose top is FOLDER
 #     bindings   makes the static library that Rust and C call, and tries it from both, at the end with COUNT damaged documents,
 #                400,000 where none is given; run it behind `rt ci`, in the same folder
 #

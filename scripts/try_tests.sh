@@ -32,7 +32,7 @@ for crate in "${crates[@]}"; do
     fi
 done
 
-# Runs the program that a crate is, and tells it as a test is told.
+# Runs the program that a crate is, and reports it as a test is reported.
 try_program() {
     local words=() data=() file status=0
     [ ! -f args ] || mapfile -t words < args

@@ -1,4 +1,4 @@
-/* Hands damaged documents and certificates over, in one process: each call has to end with a status that it has, and what is refused has
+/* Passes damaged documents and certificates to the library, in one process: each call has to end with a status that it has, and what is refused has
  * no answer.
  *
  *     damaged_documents COUNT SEED DOCUMENT..

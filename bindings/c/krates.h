@@ -1,12 +1,12 @@
 /* krates, proved: which crates of a document of `cargo metadata` are needed, answered by the static library of `crates/krates_c`.
  *
- * Each call takes a document, options and, where it says so, one thing more, and hands its answer over in the room that the caller
+ * Each call takes a document, options and, where it says so, one thing more, and writes its answer to the room that the caller
  * lends. A pointer goes with the length of what it points to in bytes; it is never null, also where that length is 0, and what a
  * room has overlaps nothing else. The library keeps no pointer, and any number of threads may call it at once.
  *
- * The options are words, one a line: `--workspace`; `--ignore-kind` and `normal`, `build` or `dev`; `--target` and a triple;
+ * The options are words, one in each line: `--workspace`; `--ignore-kind` and `normal`, `build` or `dev`; `--target` and a triple;
  * `--exclude` and a package specification; `--all-named`. Seven targets are known by their triple, which docs/GUIDE.md lists: of any
- * other triple nothing is known, so that what stands behind a cfg like `cfg(unix)` is left out.
+ * other triple nothing is known, so that what is under a cfg like `cfg(unix)` is left out.
  *
  * The archive takes its memory by the three functions at the end of this file. Link the toolchain's `liblibc_c.a`, which has
  * them over malloc, or your own.
@@ -36,7 +36,7 @@ enum krates_status {
     KRATES_MEMORY = 9,      /* memory ran out: nothing was written */
 };
 
-/* Of 1 to 7 the room holds a text that says why, in UTF-8. Behind `length` the room is always as it was. */
+/* Of 1 to 7 the room holds a text that says why, in UTF-8. Past `length` the room is always as it was. */
 struct krates_answer {
     uint32_t status;
     size_t length;
@@ -49,10 +49,10 @@ struct krates_answer krates_list(
     uint8_t *room, size_t room_length);
 
 /* The graph: a line for each node, by number from 0, and then a line for each edge, by number from 0. A TEXT is a length in bytes, a
- * colon and so many bytes.
+ * colon and that many bytes.
  *
  *     crate TEXT ENTRY..                               a kept crate, by its id; an entry for each declared dependency of its
- *                                                      package: a blank and the number of the crate that it means, or ` -`
+ *                                                      package: a space and the number of the crate that it means, or ` -`
  *     feature CRATE TEXT                               an enabled feature: the number of its crate, and its name
  *     edge SOURCE TARGET dep KIND [TEXT]               a crate needs a crate; TEXT is the target that the edge is for
  *     edge SOURCE TARGET depfeature KIND [TEXT]        a crate needs a feature of a crate
@@ -63,7 +63,7 @@ struct krates_answer krates_graph(
     const uint8_t *options, size_t options_length,
     uint8_t *room, size_t room_length);
 
-/* A derivation of the crate with this package id, one step a line, as `krates-list --why ID` writes it. */
+/* A derivation of the crate with this package id, one step in each line, as `krates-list --why ID` writes it. */
 struct krates_answer krates_why(
     const uint8_t *document, size_t document_length,
     const uint8_t *options, size_t options_length,
@@ -77,8 +77,8 @@ struct krates_answer krates_check(
     const uint8_t *certificate, size_t certificate_length,
     uint8_t *room, size_t room_length);
 
-/* What the archive calls for memory: a block of this size, with this alignment, a power of two up to 16, also where the size is 0. Of a
- * block whose size changes, `kept` bytes count. Where there is no memory, nothing changes, and mostly the call that asked ends as
+/* What the archive calls for memory: a block of this size, with this alignment, a power of two up to 16, even where the size is 0. Of a
+ * block whose size changes, `kept` bytes count. Where there is no memory, nothing changes, and usually the call that asked ends as
  * KRATES_MEMORY. */
 struct krates_block {
     bool is_there;

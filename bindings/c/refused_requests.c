@@ -1,10 +1,10 @@
 /* Refuses each request for memory in turn: of each call, the first, then the second, and so on, until the call makes no more. Each
- * answer has to be that with ample memory, or that memory ran out and nothing was written; behind the length the room is as it was,
+ * answer has to be that with ample memory, or that memory ran out and nothing was written; past the length the room is as it was,
  * and each block is given back.
  *
  *     refused_requests DOCUMENT..
  *
- * The archive's three functions for memory stand here, in place of the toolchain's.
+ * The archive's three functions for memory are here, instead of the toolchain's.
  */
 #include "krates.h"
 

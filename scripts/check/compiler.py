@@ -1,4 +1,4 @@
-"""What both words need: the toolchain's folder, and what its compiler is told of every crate."""
+"""What both words need: the toolchain's folder, and what its compiler is given for every crate."""
 import pathlib
 import shutil
 import subprocess

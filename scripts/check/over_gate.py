@@ -1,7 +1,7 @@
 """Checks a crate over the libraries that the gate left in this folder, in a minute or two.
 
-The gate leaves statements alone, of which `rt` makes nothing else: `rt check` and `rt lib` first build each library
-below a crate anew, for an hour. The compiler takes them. What a check keeps stands in crates/CRATE/out/over_gate, for
+The gate leaves only statements, from which `rt` makes nothing else: `rt check` and `rt lib` first build each library
+below a crate anew, for an hour. The compiler takes them. What a check keeps is in crates/CRATE/out/over_gate, for
 the next one. Nothing of this counts for the gate.
 
 The status is the compiler's, and 2 where a library isn't there: run `rt ci` first, in this folder.
@@ -25,7 +25,7 @@ def is_static(name):
 
 
 def libraries(name):
-    """The compiler's words for what the crate stands on: the libraries of the toolchain and those of the repository, all as built."""
+    """The compiler's words for what the crate needs: the libraries of the toolchain and those of the repository, all as built."""
     known = crates()
     found = below(known, name)
     missing = [one for one in found if not rlib(one).is_dir()]

@@ -1,15 +1,15 @@
-"""Writes certificates of documents, and checks them and damaged ones by the program that checks certificates alone.
+"""Writes certificates of documents, and checks them and damaged ones by the program that only checks certificates.
 
 Of each document, without an option and under `--edges no-dev` for Linux, `cargo-krates certify` writes the closed
 list of all that is kept, that of a package that isn't, and a derivation of each kept crate, of at most twelve. Each
 has to hold, with the crates and steps that it has. Then in each one fact or step is taken away, exchanged for the
 next one, or added, and it is checked with another document and under the other setting: each of these has to be
-refused, a step at a place at or behind the change; but by another document only where what it says isn't so there. At
+refused, a step at or after the place of the change; but by another document only where what it says isn't true there. At
 last COUNT damaged certificates, 1,000 where none is given and the same in every run: texts that are cut off, and
 values that are gone, of another type, doubled under their key, or exchanged. None of them may be a yes, and each has
 to end with status 1, nothing on standard output and one line on standard error.
 
-Each run that ends otherwise is told.
+Each run that ends otherwise is reported.
 """
 import copy
 import json
@@ -34,7 +34,7 @@ class Tally:
         self.counts, self.wrong = {}, []
 
     def add(self, kind, is_right, told):
-        """Adds a run, and what is told of it where it is wrong."""
+        """Adds a run, and what is reported of it where it is wrong."""
         self.counts[kind] = self.counts.get(kind, 0) + 1
         if not is_right:
             self.wrong.append(f"{kind}: {told}")
@@ -84,7 +84,7 @@ def kept(file, options):
 
 
 def is_so(file, options, certificate):
-    """Whether what a certificate says is so of a document."""
+    """Whether what a certificate says is true of a document."""
     ids, listed = set(kept(file, options)), parts(certificate)
     if certificate["kind"] == "derivation":
         return listed[-1]["fact"]["krate"] in ids
@@ -211,7 +211,7 @@ def check_document(tally, files, at, whole, rng):
 
 
 def compare(folder, count=1000):
-    """Checks certificates of each document, and damaged ones; whether all ended as they have to, and there was one."""
+    """Checks certificates of each document, and damaged ones, and returns whether all ended as they have to, and there was one."""
     rng, tally, whole = random.Random(1), Tally(), []
     with tempfile.TemporaryDirectory() as place:
         files = list(written(folder, place))

@@ -1,11 +1,11 @@
 """Compares the lists of krates-list and the graphs that cargo-krates draws with the lines that are expected of them.
 
-These stand beside it, in a file for each set of options: FOLDER/NAME/dev.list, or linux.graph, which may be
-compressed too. A file that isn't there is passed over. The lines of a graph are those that
+These are beside it, in a file for each set of options: FOLDER/NAME/dev.list, or linux.graph, which may be
+compressed too. A file that isn't there is skipped. The lines of a graph are those that
 crates/krates_report/src/dump/drawing.rt explains. Where a build is refused, the lines that are expected are `refused
 (status 1)` and the refusal, of a graph without the `error: ` before it.
 
-Prints the lines that differ, of a graph the first 20, as `diff` tells them.
+Prints the lines that differ, of a graph the first 20, as `diff` prints them.
 """
 import pathlib
 import re
@@ -39,7 +39,7 @@ def graph_of(text, options):
 
 
 def differences(wanted, answer):
-    """The lines in which `diff` tells how the answer differs; none where it is what is wanted."""
+    """The lines in which `diff` shows how the answer differs; none where it is what is expected."""
     if wanted == answer:
         return []
     with tempfile.TemporaryDirectory() as folder:
@@ -51,7 +51,7 @@ def differences(wanted, answer):
 
 
 def compare_files(folder, kind, options_of, answer_of, limit=None):
-    """Compares the files of a kind, each told in so many lines; whether nothing differs and something was compared."""
+    """Compares the files of a kind, with at most this many lines printed for each, and returns whether nothing differs and something was compared."""
     same = different = 0
     for document, text in documents(folder):
         for name, options in options_of.items():

@@ -1,4 +1,4 @@
-"""The programs that are asked, and the settings under which they are."""
+"""The programs that are asked, and the settings under which they are asked."""
 import os
 import subprocess
 
@@ -9,7 +9,7 @@ SETTINGS = {"none": [], "linux": LINUX}
 
 
 def program(crate):
-    """The program of a crate: that of the variable which is called like it, or what `rt run` builds in its folder."""
+    """The program of a crate: that of the variable with its name, or what `rt run` builds in its folder."""
     return os.environ.get(crate.upper(), str(ROOT / "crates" / crate / "out" / crate))
 
 

@@ -46,7 +46,7 @@ def leading_to(sources, node):
 
 
 def node_lines(graph, node, own_edges, sources):
-    """What is answered to each node."""
+    """What is answered for each node."""
     for source, edge in dependents(graph, node):
         yield f"dependent {node} {source} {edge} {graph.crates[source]}"
     above = leading_to(sources, node)
@@ -76,7 +76,7 @@ def filtered(graph, edges_from, members, kind):
 
 
 def id_lines(graph, document):
-    """What is answered to each id of the document: something exactly where the graph has a node of it."""
+    """What is answered for each id of the document: something exactly where the graph has a node of it."""
     number_of = {krate: number for number, krate in enumerate(graph.crates)}
     features = {number: [] for number in range(len(graph.crates))}
     for krate, name in graph.features.values():
@@ -103,14 +103,14 @@ def feature_lines(graph):
 
 
 def version_of(text):
-    """The three numbers of a version, and whether it is one before a release."""
+    """The three numbers of a version, and whether it is a pre-release."""
     core, *pre = text.split("+")[0].split("-", 1)
     return tuple(map(int, core.split("."))), bool(pre)
 
 
 def fits(wanted, version):
-    """Whether a version fits the requirement that is these three numbers: none before a release; the first of them that
-    isn't zero stays, and nothing below it comes."""
+    """Whether a version fits the requirement that is these three numbers: no pre-release does; the first of them that
+    isn't zero is the same, and the version isn't below it."""
     numbers, is_before = version
     fixed = next((place for place, number in enumerate(wanted) if number), 2)
     return not is_before and numbers >= wanted and numbers[:fixed + 1] == wanted[:fixed + 1]
@@ -162,7 +162,7 @@ def differences(text, options):
 
 
 def compare(folder):
-    """Compares the answers about each document; whether nothing differs and something was compared."""
+    """Compares the answers about each document, and returns whether nothing differs and something was compared."""
     same = different = total = 0
     for path, text in documents(folder):
         for name, options in SETTINGS.items():

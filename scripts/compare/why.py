@@ -1,9 +1,9 @@
-"""Checks what krates-list says of why a crate is kept, by a reading of the rules of its own.
+"""Checks what krates-list says of why a crate is kept, by its own reading of the rules.
 
 For each package that the program keeps of a document the steps of `--why ID` are read back, and each is looked at
-beside the document: it is numbered in turn and uses earlier steps, their facts have the form that its rule asks for,
-and what the rule asks of the document is so: that a crate is a root, a feature is listed, a reference stands in the
-manifest and its name means the crate, a dependency is declared, optional or not. No fact stands twice, each step but
+beside the document: it is numbered in turn and uses earlier steps, their facts have the form that its rule requires,
+and what the rule requires of the document is true: that a crate is a root, a feature is listed, a reference is in the
+manifest and its name means the crate, a dependency is declared, optional or not. No fact occurs twice, each step but
 the last is used by a later one, and the last says that the package is kept. For each package that isn't kept the
 program has to refuse, and to write nothing.
 
@@ -135,7 +135,7 @@ class Document:
                 yield None, False, text
 
     def referent(self, krate, name):
-        """The first dependency, by id, that answers to the name."""
+        """The first dependency, by id, that matches the name."""
         deps = self.nodes[krate]["deps"]
         answering = [dep for dep in deps if is_same_name(dep["name"], name) or self.is_renamed(dep, name)]
         return min((parts_of(dep["pkg"]) for dep in answering), default=None)
@@ -168,7 +168,7 @@ class Document:
         )
 
     def toggles(self, fact, uses, is_weak):
-        """Whether a feature of the first crate refers so to the feature of the second, over the edge."""
+        """Whether a feature of the first crate refers in this way to the feature of the second, over the edge."""
         feature, edge = uses
         return (
             feature.krate == edge.parent == fact.parent
@@ -181,7 +181,7 @@ class Document:
         )
 
     def asks(self, feature, child):
-        """Whether a feature asks for the crate: by `dep:`, or strongly for a feature of it."""
+        """Whether a feature requires the crate: by `dep:`, or strongly for a feature of it."""
         return any(
             name is not None and not weak and self.referent(feature.krate, name) == child
             for name, weak, _ in self.references(feature.krate, feature.name)
@@ -264,7 +264,7 @@ def checked(document, text, line):
 
 
 def compare(folder):
-    """Looks at the steps for each package of each document; whether every step is right and there was one."""
+    """Looks at the steps for each package of each document, and returns whether every step is right and there was one."""
     steps = faults = 0
     for path, text in documents(folder):
         document = Document(text)

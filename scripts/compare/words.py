@@ -26,7 +26,7 @@ def answer(text, words, statuses=(0,)):
 
 
 class Reading:
-    """A document under a setting, as the drawn graph and the packages tell it."""
+    """A document under a setting, as the drawn graph and the packages show it."""
 
     def __init__(self, text, options):
         """Reads the document, and the graph that the program draws of it."""
@@ -49,7 +49,7 @@ class Reading:
         return json.loads(answer(self.text, [*words, "--json", *self.options], statuses))
 
     def crate(self, number):
-        """What tells a crate in an answer."""
+        """What identifies a crate in an answer."""
         package = self.packages[self.crates[number]]
         return {key: package[key] for key in ("id", "name", "version", "source")}
 
@@ -181,7 +181,7 @@ def identity(text):
 
 
 def difference(first, second):
-    """What one reading has and another lacks; crates are told by what their ids say."""
+    """What one reading has and another lacks; crates are compared by what their ids say."""
     def lacking(one, other):
         """The crates of one reading that the other lacks."""
         there = set(map(identity, other.crates))
@@ -244,7 +244,7 @@ def differences(reading):
 
 
 def is_difference(first, other_text, other):
-    """Whether the difference from another document is told as it has to be."""
+    """Whether the difference from another document is reported as it has to be."""
     with tempfile.TemporaryDirectory() as folder:
         path = pathlib.Path(folder, "other.json")
         path.write_bytes(other_text)
@@ -252,7 +252,7 @@ def is_difference(first, other_text, other):
 
 
 def compare(folder):
-    """Compares the answers about each document; whether nothing differs and something was compared."""
+    """Compares the answers about each document, and returns whether nothing differs and something was compared."""
     total, wrong, before = 0, 0, None
     for path, text in documents(folder):
         for name, options in SETTINGS.items():

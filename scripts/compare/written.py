@@ -68,7 +68,7 @@ def ended(room, crate, *words):
 
 
 def compare(folder):
-    """Compares the documents of a folder; whether each is read as it was, and there is one."""
+    """Compares the documents of a folder, and returns whether each is read as it was, and there is one."""
     with tempfile.TemporaryDirectory() as name:
         room = pathlib.Path(name)
         write_crates(room)

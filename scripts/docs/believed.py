@@ -1,4 +1,4 @@
-"""Lists the definitions that the contract of `build_with_metadata` reaches: all that a reader has to believe of the
+"""Lists the definitions that the contract of `build_with_metadata` reaches: all that a reader has to trust in the
 headline.
 
 Writes them to docs/HEADLINE.md, or says whether the page is what it would write. The definitions of the standard
@@ -65,7 +65,7 @@ class Definition:
     """A definition of a file: its name, the sentence above it, its lines, the words in it."""
 
     def __init__(self, file, name, remark, text):
-        """Finds the words; what stands behind `--` is a remark."""
+        """Finds the words; what comes after `--` is a remark."""
         self.file, self.name, self.remark, self.text = file, name, remark, text
         self.words = set(WORD.findall("\n".join(line.split("--")[0] for line in text.split("\n"))))
 
@@ -86,7 +86,7 @@ class File:
 
 
 def without_blocks(text):
-    """The text with the definitions of its `mutual` blocks as if they stood alone."""
+    """The text with the definitions of its `mutual` blocks as if they were on their own."""
     lines, inside = [], False
     for line in text.split("\n"):
         if line in ("mutual", "abbrev mutual"):
@@ -98,7 +98,7 @@ def without_blocks(text):
 
 
 def imports_of(text):
-    """Which definition of which file each imported word names; `None` stands for the whole file."""
+    """Which definition of which file each imported word names; `None` means the whole file."""
     found = {}
     for crate, path, names, alias in IMPORT.findall(text):
         file = ROOT / "crates" / crate / "specs" / (path.split(".")[0] + ".antt")
@@ -138,7 +138,7 @@ def read(path, files={}):
 
 
 def contract():
-    """The clauses of the function, as they stand in the source, and the words in them."""
+    """The clauses of the function, as they are in the source, and the words in them."""
     text = (ROOT / SOURCE).read_text(encoding="utf-8")
     after = text[text.index("fn " + FUNCTION) :]
     clauses = []
@@ -151,7 +151,7 @@ def contract():
 
 
 def used(words, imports, own):
-    """The definitions that these words name, by the imports and the definitions of the file in which they stand."""
+    """The definitions that these words name, by the imports and the definitions of the file that they are in."""
     for word in sorted(words):
         if word in own:
             yield own[word]
@@ -165,12 +165,12 @@ def used(words, imports, own):
 
 
 def reached():
-    """All definitions that the contract reaches, each behind those that it uses."""
+    """All definitions that the contract reaches, each after those that it uses."""
     clauses, imports = contract()
     order, seen = [], set()
 
     def visit(definition):
-        """Adds a definition behind those that it uses, once."""
+        """Adds a definition after those that it uses, once."""
         key = (definition.file.path, definition.name)
         if key in seen:
             return
@@ -195,7 +195,7 @@ def lists_fields(definition):
 
 
 def is_drawn(definition):
-    """Whether the definition speaks of the drawn graph alone, or of the selection that is drawn."""
+    """Whether the definition is about the drawn graph alone, or of the selection that is drawn."""
     place = definition.file.path.relative_to(ROOT)
     crates = ("krates_drawing", "krates_graph", "krates_questions", "krates_selection")
     return place.parts[1] in crates or (place.parts[1], place.stem) in (("krates", "Node"), ("krates", "Drawn"))

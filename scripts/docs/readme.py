@@ -1,13 +1,13 @@
 """Says whether the examples of the README and the guide are code that the gate runs, and whether they compile.
 
-Each block of Rattle's code in README.md and in docs/GUIDE.md has to stand, line by line, in a file readme.rt of a
-crate of worked examples: in one piece, but for what it imports, which the file has to import too, and for lines of
+Each block of Rattle's code in README.md and in docs/GUIDE.md has to be, line by line, in a file readme.rt of a
+crate of worked examples: in one piece, except for what it imports, which the file has to import too, and for lines of
 comment.
 
 To compile them, each block is a module of its own, word by word, of a crate of tests in a copy of the working tree,
 which `rt try` compiles; nothing is proved. It takes a minute.
 
-All is well where each block is so, and each page has one.
+All is well where this holds for each block, and each page has one.
 """
 import pathlib
 import re
@@ -69,14 +69,14 @@ def lines(text):
 
 
 def stands_in(block, file):
-    """Whether the lines of the block stand in the file, in one piece, and the file imports what the block does."""
+    """Whether the lines of the block are in the file, in one piece, and the file imports what the block does."""
     wanted, there = lines(block), lines(file)
     pieces = (there[at : at + len(wanted)] for at in range(len(there)))
     return imports(block) <= imports(file) and wanted in pieces
 
 
 def compare(examples, page):
-    """Whether each block of the page stands in a source; prints those that don't."""
+    """Whether each block of the page is in a source; prints those that don't."""
     sources = [path for pattern in FILES for path in sorted(ROOT.glob(pattern))]
     files = [path.read_text(encoding="utf-8") for path in sources]
     missing = [block for block in examples if not any(stands_in(block, file) for file in files)]
@@ -92,7 +92,7 @@ def pages():
 
 
 def check():
-    """Whether each block of each page stands in a source, and each page has one."""
+    """Whether each block of each page is in a source, and each page has one."""
     return all([compare(examples, page) for page, examples in pages().items()])
 
 

@@ -7,7 +7,7 @@ is called: what is listed is untested, and what isn't may be. Laws are left out:
 compare.
 
 A call that only the crates above are to make may be shown by another instead: SHOWN_BY has that one, which a test
-names, for each such call. An entry that isn't needed any more is told.
+names, for each such call. An entry that isn't needed any more is reported.
 """
 import re
 
@@ -74,7 +74,7 @@ SHOWN_BY = {
     "why": ("Explanation::derivation_of", "step_of"),
     # what is read as a document is listed, and what is read as a certificate is judged
     "run": ("listing_of", "CertificateSubject::judge", "CertificateSubject::judge_bytes"),
-    # a refusal is handed over with its status
+    # a refusal is returned with its status
     "hand_over": ("CallRefusal::status",),
     # what a word of `cargo krates` answers is made of values, which its text and its JSON show
     "Reporter::answer": (

@@ -1,1 +1,1 @@
-"""The documents of scripts/documents.py, a module for each of its words; beside them stand the two small ones."""
+"""The documents of scripts/documents.py, a module for each of its words; the two small ones are beside them."""

@@ -1,12 +1,12 @@
-"""Damages documents of cargo metadata, hands each to krates-list, and looks at how it ends.
+"""Damages documents of cargo metadata, gives each to krates-list, and looks at how it ends.
 
 A document is FOLDER/NAME/metadata.json, which may be compressed, as metadata.json.gz. From all of them COUNT damaged ones are
 made, 20,000 where none is given, the same in every run: texts that are cut off at each 997th byte, and documents in which one
 key is gone, one value is of another type, or one id has an odd form. In each the program has to end by itself, with status 0
-or 1; with status 1 nothing stands on standard output, and standard error has one of the written refusals, on one line.
+or 1; with status 1 nothing is on standard output, and standard error has one of the written refusals, on one line.
 
 The program is crates/krates_list/out/krates_list, which `rt run` in that folder builds, or $KRATES_LIST. Each run that ends
-otherwise is told, and what was handed to it is kept in a folder that is named. At the end comes a tally by damage and ending.
+otherwise is reported, and what was given to it is kept in a folder that is named. At the end comes a tally by damage and ending.
 All is well where every run ended as it has to, and there was one.
 """
 import collections
@@ -58,7 +58,7 @@ def places(value, path=()):
 
 
 def changed(value, path, change):
-    """The value with what stands at the end of the way changed; what isn't on the way is shared."""
+    """The value with what is at the end of the way changed; what isn't on the way is shared."""
     copy = dict(value) if isinstance(value, dict) else list(value)
     if len(path) > 1:
         copy[path[0]] = changed(value[path[0]], path[1:], change)
@@ -73,7 +73,7 @@ def remove(holder, key):
 
 
 def damaged(texts, count):
-    """A name of the damage, and the damaged text, as many as are asked for."""
+    """A name of the damage, and the damaged text, as many as are requested."""
     chance = random.Random(2026)
     cuts = [("cut", text[:end]) for text in texts for end in range(0, len(text), STEP)]
     chance.shuffle(cuts)

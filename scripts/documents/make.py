@@ -4,7 +4,7 @@ Each package has six dependencies, half of them optional, on the packages that f
 references of each form. The first package is the only member and needs all others, some of them by features alone.
 
 With the word `plain` each package has five dependencies, none of them optional, and no feature: so the graph has as many nodes as
-there are packages, and five times as many edges, but for those that would lead past the last.
+there are packages, and five times as many edges, except for those that would lead past the last.
 """
 import json
 from dataclasses import dataclass

@@ -1,4 +1,4 @@
-"""Says whether the edits of crates still apply: each old text stands once in its file when its turn comes, and each line of
+"""Says whether the edits of crates still apply: each old text is once in its file when its turn comes, and each line of
 an edit is read. Nothing is proved, compiled or run.
 
 Prints each edit that doesn't apply with the text at fault, and then how many do.

@@ -1,4 +1,4 @@
-"""Changes an answer of each table of worked examples, and tells what its test says to that.
+"""Changes an answer of each table of worked examples, and reports what its test says.
 
 A table is a list of rows in a constant of a crate whose name ends in `_tests`, and the last part of a row is its
 answer. In a copy of the working tree each table gets a copy whose first row has another answer, and the test that
@@ -22,7 +22,7 @@ SAID = re.compile(r"^test (\S+) \.\.\. (\w+)\n((?:    .*\n)*)", re.MULTILINE)
 
 
 def behind(text, at):
-    """Returns the place behind the comment or literal that begins here, or this place."""
+    """Returns the place after the comment or literal that begins here, or this place."""
     if text.startswith("//", at):
         return (text + "\n").index("\n", at)
     if (raw := RAW.match(text, at)) and not re.match(r"\w", text[at - 1 : at]):
@@ -34,7 +34,7 @@ def behind(text, at):
 
 
 def closed(text, at):
-    """Returns the place behind the bracket that closes the first one from here on."""
+    """Returns the place after the bracket that closes the first one from here on."""
     depth = 0
     while True:
         if (end := behind(text, at)) > at:
@@ -47,7 +47,7 @@ def closed(text, at):
 
 
 def parts(text):
-    """Returns what stands between the commas that no bracket holds, each part with its end, before its comma."""
+    """Returns what is between the commas outside of brackets, each part with its end, before its comma."""
     found, first, at = [], 0, 0
     while at < len(text):
         end = behind(text, at)
@@ -89,7 +89,7 @@ def functions(text):
 
 
 def walks(body, table):
-    """Whether the function walks the table, or has it walked: one that hands it on otherwise makes what is asked of it."""
+    """Whether the function walks the table, or has it walked: one that passes it on otherwise makes what is asked of it."""
     return re.search(rf"\bhold\w*(::<.*?>)?\([^;]*\b{table}\b|\bin {table}\b", body)
 
 
@@ -137,7 +137,7 @@ def change(source):
 
 
 def is_refused(crate, room, is_compiled):
-    """Changes the tables of a crate and tells what its tests say; whether all that walk one failed, and any did."""
+    """Changes the tables of a crate, reports what its tests say, and returns whether all that walk one failed, and any did."""
     found, left = change(room / "crates" / crate / "src")
     how = {"cwd": room / "crates" / crate, "capture_output": True, "text": True, "errors": "replace"}
     if is_compiled:

@@ -52,7 +52,7 @@ def are_read_whole(room):
 
 
 def are_built(room, tried):
-    """Builds the libraries below these crates, before several ask for one at the same time; whether all are built."""
+    """Builds the libraries below these crates, before several ask for one at the same time, and returns whether all are built."""
     known = crates()
     for crate in dict.fromkeys(one for name in tried for one in below(known, name)):
         ran = rt(room / "crates" / crate, "lib")
@@ -75,14 +75,14 @@ def work(room, crate):
 
 
 def is_crate_refused(room, crate):
-    """Tries the edits of a crate, and prints at once what they came to; whether every one was refused."""
+    """Tries the edits of a crate, prints at once how they ended, and returns whether every one was refused."""
     said = rt(room, "must-fail", crate).stdout.splitlines()
     refused, named, proved, bad = (sum(part in line for line in said) for part in ENDINGS)
     count = len(edits_of(room, crate))
     told = [line for line in said if TOLD.search(line)]
     said = f"{refused} refused, {named} of them only by a name, {proved} proved, {bad} not applied, of {count}"
     told.append(f"{crate}: {said}")
-    # one write, since others print beside it
+    # one write, since others print at the same time
     print("".join(f"{line}\n" for line in told), end="", flush=True)
     return refused == count
 

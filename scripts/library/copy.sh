@@ -1,8 +1,8 @@
 #!/usr/bin/env bash
-# Copies the library into a repository of your own: the crate `krates` and all crates on which it stands.
+# Copies the library into a repository of your own: the crate `krates` and all crates that it needs.
 #
-# Its word is FOLDER, the top of that repository; it is made where it isn't there. Each crate's src/, specs/ and proofs/ go to FOLDER/crates, in place
-# of what stands there under its name; so do their lines in FOLDER/crates.txt. HANDLES is copied where there is none,
+# Its word is FOLDER, the top of that repository; it is made if it doesn't exist. Each crate's src/, specs/ and proofs/ go to FOLDER/crates, in place
+# of what is there under its name; so do their lines in FOLDER/crates.txt. HANDLES is copied where there is none,
 # and the licences go beside the crates, as crates/krates/LICENSE-MIT and LICENSE-APACHE. Names each crate that it copies.
 
 set -euo pipefail
@@ -17,7 +17,7 @@ named_by() {
     done
 }
 
-# The crate, and all on which it stands, each once.
+# The crate, and all that it needs, each once.
 declare -A seen=()
 found=()
 visit() {

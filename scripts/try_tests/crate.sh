@@ -17,23 +17,23 @@ for it in "$kit"/*; do
         *) ln -s "$it" "$own" ;;
     esac
 done
-# `rt` looks for its toolchain beside itself, behind any link.
+# `rt` looks for its toolchain beside itself, after following links.
 cp --remove-destination "$kit"/bin/{rt,rtlib.py} "$own/bin"
 
-# Puts a file of its own in the place of a link.
+# Replaces a link by a file of its own.
 put() {
     rm "$own/$1"
     cat > "$own/$1"
     chmod +x "$own/$1"
 }
 
-# `rt try` has the checker look for names that a check refuses, which takes as long as all else. The gate refuses them.
+# `rt try` has the checker look for names that a check refuses, which takes as long as everything else. The gate refuses them.
 put bin/rattle <<< '#!/usr/bin/env bash'
 
 # `rt try` runs an unproved program by a loader, so a program that asks for its own path gets the loader's. It also has each access to memory
 # checked, which reserves more addresses than a process gets that a test starts with little memory. Here the loader starts the program by its
 # own path, the linker takes the toolchain's loader, and those checks are left out. Any other fault, such as an index out of bounds, fails the test
-# as before, but its line isn't told.
+# as before, but its line isn't reported.
 start_by_path() {
     # Its words are two options, one with a folder, and then those of the program.
     put toolchain/lib/ld-linux-x86-64.so.2 <<'FILE'

@@ -3,7 +3,7 @@
 //!
 //!     cargo run --example krates_readme -- path/to/a/Cargo.toml
 //!
-//! With `-` in place of a manifest it reads the document of `cargo metadata` from standard input.
+//! With `-` instead of a manifest it reads the document of `cargo metadata` from standard input.
 
 use krates_proved::{EdgeKind, Graph, Node, Options, graph, list};
 use std::error::Error;

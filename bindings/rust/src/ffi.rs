@@ -116,7 +116,7 @@ pub(crate) fn check(document: &[u8], options: &[u8], certificate: &[u8], room: &
 /// The status of an answer for which there is no room.
 const TOO_SHORT: u32 = 8;
 
-/// The text that a call hands over. Where the room is too short, the call is made again with the room that it asks for.
+/// The text that a call hands over. Where the room is too short, the call is made again with the room that it needs.
 pub(crate) fn answered(room: usize, mut call: impl FnMut(&mut [u8]) -> Answer) -> Result<String, Refusal> {
     let mut room = vec![0; room];
     let mut answer = call(&mut room);

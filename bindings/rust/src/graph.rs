@@ -58,7 +58,7 @@ pub struct Edge {
     pub kind: EdgeKind,
 }
 
-/// The graph that is kept of a document: exactly the crates, enabled features and edges that follow by the rules of resolution.
+/// The kept graph of a document: exactly the crates, enabled features and edges that follow by the rules of resolution.
 ///
 /// What is asked of it here is plain Rust over what the proved library handed over; only [`nodes`](Graph::nodes) and
 /// [`edges`](Graph::edges) are proved.
@@ -70,7 +70,7 @@ pub struct Graph {
 }
 
 impl Graph {
-    /// The graph of these lines, unless they are none.
+    /// The graph of these lines; `None` if they aren't one.
     pub(crate) fn read(lines: &str) -> Option<Graph> {
         let mut reader = Reader { rest: lines };
         let (mut nodes, mut edges, mut krates) = (Vec::new(), Vec::new(), 0);
@@ -88,7 +88,7 @@ impl Graph {
         Some(Graph { nodes, edges, krates })
     }
 
-    /// How many crates are kept: their nodes are those below this number.
+    /// How many crates are kept: their nodes are those with numbers below this one.
     pub fn len(&self) -> usize {
         self.krates
     }
@@ -181,17 +181,17 @@ impl<'t> Reader<'t> {
         Some((text, end))
     }
 
-    /// A word, and the blank behind it.
+    /// A word, and the space after it.
     fn word(&mut self) -> Option<&'t str> {
         self.before([' ', '\n']).map(|(word, _)| word)
     }
 
-    /// A number, and the blank behind it.
+    /// A number, and the space after it.
     fn number(&mut self) -> Option<usize> {
         self.word()?.parse().ok()
     }
 
-    /// A text behind its length.
+    /// A text after its length.
     fn text(&mut self) -> Option<String> {
         let (length, rest) = self.rest.split_once(':')?;
         let (text, rest) = rest.split_at_checked(length.parse().ok()?)?;

@@ -48,7 +48,7 @@ pub fn list(document: &[u8], options: &Options) -> Result<Listing, Refusal> {
     }
 }
 
-/// The graph that is kept of a document.
+/// The kept graph of a document.
 ///
 /// It is refused as [`list`] is.
 ///
@@ -70,7 +70,7 @@ pub fn graph(document: &[u8], options: &Options) -> Result<Graph, Refusal> {
 /// A derivation of the crate with this package id: a line for each step, with its number, its rule, its fact and the numbers of the
 /// steps that it uses. Where there are several derivations, it may be any.
 ///
-/// It is refused as [`list`] is, as `Id` where the text is no package id, and as `NotKept` where nothing needs the crate.
+/// It is refused as [`list`] is, as `Id` where the text isn't a package id, and as `NotKept` where nothing needs the crate.
 ///
 /// ```
 /// use krates_proved::{Options, Refusal, why};

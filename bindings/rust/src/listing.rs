@@ -21,7 +21,7 @@ impl Listing {
         self.marked("- ")
     }
 
-    /// The lines, as `krates-list` writes them: each id behind `+ ` or `- `.
+    /// The lines, as `krates-list` writes them: each id after `+ ` or `- `.
     pub fn as_str(&self) -> &str {
         &self.lines
     }

@@ -1,4 +1,4 @@
-//! What is asked for.
+//! What is asked.
 
 use crate::refusal::Refusal;
 use std::fmt;
@@ -68,8 +68,8 @@ impl Options {
         self
     }
 
-    /// Whether a dependency's name in a feature reference means all dependencies that answer to it, and not the least of them
-    /// alone, by id. The last call counts.
+    /// Whether a dependency's name in a feature reference means all dependencies that match it, rather than only the least of them
+    /// by id. The last call counts.
     pub fn all_named(&mut self, is_on: bool) -> &mut Options {
         self.all_named = is_on;
         self
@@ -87,7 +87,7 @@ impl Options {
         self
     }
 
-    /// Keeps only dependencies for one of these targets, beside those that are set already: triples of [`KNOWN_TARGETS`], since
+    /// Keeps only dependencies for one of these targets, in addition to those that are set already: triples of [`KNOWN_TARGETS`], since
     /// nothing is known of any other. For another target let cargo leave out what it doesn't need:
     /// `cargo metadata --filter-platform TRIPLE`.
     pub fn include_targets<T: Into<String>>(&mut self, triples: impl IntoIterator<Item = T>) -> &mut Options {
@@ -95,7 +95,7 @@ impl Options {
         self
     }
 
-    /// The words that mean this, one a line.
+    /// The words that mean this, one in each line.
     pub(crate) fn words(&self) -> Result<String, Refusal> {
         let mut words = String::new();
         if self.workspace {
@@ -116,7 +116,7 @@ impl Options {
         Ok(words)
     }
 
-    /// The refusal of these options, which names what may be at fault: a specification is all that can be.
+    /// The refusal of these options, which names what may be at fault: only a specification can be.
     pub(crate) fn refused(&self, refusal: Refusal) -> Refusal {
         match refusal {
             Refusal::Options(_) => {

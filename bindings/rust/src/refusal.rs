@@ -2,12 +2,12 @@
 
 use std::fmt;
 
-/// Why there is no answer. Each is true of what was asked, memory apart; the first that is true counts.
+/// Why there is no answer. Each is true of what was asked, except that memory may always run out; the first that is true counts.
 #[derive(Clone, Debug, PartialEq, Eq)]
 pub enum Refusal {
     /// An option can't be meant: a specification that can't be read, a line feed in a value, or a target of which nothing is known.
     Options(String),
-    /// The text of an id is none.
+    /// The text of an id isn't one.
     Id(String),
     /// The document is not UTF-8.
     Utf8,

@@ -13,7 +13,7 @@ use krates_report::{Report, Reporter};
 use krates_words::{Asked, Choice, asked_of};
 use std::process::ExitCode;
 
-/// The answer to what is asked.
+/// The answer to the question.
 fn answer_of(rt: &HostRuntime, mut asked: Asked) -> Result<Report, AnswerFailure> {
     asked.choice.targets = targets::targets_of(rt, &asked.choice)?;
     note_host(rt, &asked.choice);
@@ -42,7 +42,7 @@ fn note_exclusions(rt: &HostRuntime, choice: &Choice, packages: &[Package]) {
     }
 }
 
-/// Prints the answer to what is asked, or says why there is none.
+/// Prints the answer to the question, or says why there is none.
 fn print_answer(rt: &HostRuntime, asked: Asked) -> ExitCode {
     match answer_of(rt, asked) {
         Ok(answer) => print(rt, answer.text.as_str(), answer.is_yes),
@@ -53,7 +53,7 @@ fn print_answer(rt: &HostRuntime, asked: Asked) -> ExitCode {
     }
 }
 
-/// Does what the words ask for.
+/// Does what the words say.
 fn run(rt: &HostRuntime, words: &[String]) -> ExitCode {
     match asked_of(rt.alloc(), words) {
         Ok(asked) => print_answer(rt, asked),
@@ -61,7 +61,7 @@ fn run(rt: &HostRuntime, words: &[String]) -> ExitCode {
     }
 }
 
-/// Does what the words ask for.
+/// Does what the words say.
 fn main(rt: HostRuntime) -> ExitCode {
     match words_of(&rt) {
         Ok(words) => run(&rt, &words),

@@ -1,4 +1,4 @@
-//! `fake-cargo`: stands in for cargo where cargo itself isn't to be run. Its last word chooses what it writes.
+//! `fake-cargo`: a substitute for cargo where cargo itself isn't to be run. Its last word chooses what it writes.
 #![tactic(auto)]
 
 use krates_samples::stand_in::{Output, answer};

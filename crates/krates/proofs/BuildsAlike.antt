@@ -30,7 +30,7 @@ use Rattle.krates.proofs.ListedAlike.{same_there, list_alike}
 use Rattle.krates_rules.proofs.Members.{Member}
 use Rattle.krates.proofs.SeenLemmas.{resolvable_seen}
 
--- ---- the names that an index is asked for
+-- ---- the names that an index is asked about
 
 record Found {X : Type 0} (test : X → Bool) (xs : List X) : Type 0 where
   item : X

@@ -140,7 +140,7 @@ are_nodes krates nodes e first s few features numbered =
       numbered = numbered;
     }
 
--- ends that stand, for other lists of the same lengths
+-- ends that are nodes, for other lists of the same lengths
 pub stand_there : (n m : ℕ) (ls ks : List PlannedEdge) → All (HasEnds n) ls → n ≡ m → ls ≡ ks → All (HasEnds m) ks
 stand_there n m ls ks h e f = subst (λ xs. All (HasEnds m) xs) f (subst (λ x. All (HasEnds x) ls) e h)
 

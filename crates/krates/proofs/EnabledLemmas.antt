@@ -51,7 +51,7 @@ name_at (l ∷ ls) (suc n) f m = let w = name_at ls n f m in record { names = w.
 
 -- ---- one set is replaced
 
--- what stands at a place after one list is replaced, from what stood there before
+-- what is at a place after one list is replaced, from what was there before
 set_names : (ls : List (List Text)) (k : ℕ) (l : List Text) (name : Text) → k < length ls → ((d : List Text) (f : Text) → Member l f ↔ (Member (get_or ls k d) f ⊎ (name ≡ f)))
     → (n : ℕ) (f : Text) → NameAt (slice_set ls k l) n f ↔ (NameAt ls n f ⊎ ((k ≡ n) × (name ≡ f)))
 set_names [] k l name lt gets n f = absurd (omega (arith, lt))

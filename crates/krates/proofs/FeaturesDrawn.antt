@@ -1,4 +1,4 @@
--- The features of a drawn graph stand in the order of the outline, and are those enabled for the crates.
+-- The features of a drawn graph are in the order of the outline, and are those enabled for the crates.
 use Rattle.std.proofs.Common.{◌≡◌, ◌↔◌, ◌∙◌, ℕ, zero, suc, ◌<◌, List, [], ◌∷◌, ◌++◌, Bool, true, false, cond, Contains, Some, slice_get, length, get_or, map, refl, sym, ap, subst, inl, inr, Less, Equal}
 use Rattle.std.proofs.lemmas.List.{length-map}
 use Rattle.std.proofs.lemmas.List.Elements.{All-contains}
@@ -100,7 +100,7 @@ id_here ids n x at = seen_id ids n (slice_get_within ids n x at) ∙ ap id_of (g
 pub stands_here : (ids : List Identity) (n : ℕ) (i : Id) → n < length ids → id_at ids n ≡ i → StandsAt ids i n
 stands_here ids n i lt e = record { there = get_or ids n empty_identity; at = slice_get-get_or ids n empty_identity lt; same = sym (seen_id ids n lt) ∙ e }
 
--- the crates of an outline stand where those of the same ids do
+-- the crates of an outline are in the places of those with the same ids
 module _ (t : Outline) (ids : List Identity) (e : map id_of ids ≡ map (λ (k : outline.CrateRow). k.id) (outline_view t).krates) where
   same_ids : map id_of ids ≡ map id_of (kids_in t)
   same_ids = e ∙ sym (viewed_ids t.krates.items)

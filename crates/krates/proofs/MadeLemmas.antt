@@ -32,7 +32,7 @@ zip_push R [] (b ∷ ys) x y h r = absurd h
 zip_push R (a ∷ xs) [] x y h r = absurd h
 zip_push R (a ∷ xs) (b ∷ ys) x y h r = (h.0, zip_push R xs ys x y h.1 r)
 
--- two parts, one behind the other
+-- two parts, one after the other
 pub zip_joined : {A B : Type 0} (R : A → B → Type 0) (xs us : List A) (ys vs : List B) → AllZip R xs ys → AllZip R us vs → AllZip R (xs ++ us) (ys ++ vs)
 zip_joined R [] us [] vs h r = r
 zip_joined R [] us (y ∷ ys) vs h r = absurd h

@@ -34,7 +34,7 @@ use Rattle.krates_queries.specs.Kept.{KeptCrates, HasEnabled, ids_of, values_of}
 
 -- ---- the document
 
--- the document can be resolved: it has a resolved graph, each text that has to be an id is read as one, that of a dependency as one
+-- the document can be resolved: it has a resolved graph, each text that must be an id is read as one, a dependency's as one
 -- with a semantic version, and no id is doubled
 pub record IsResolvable (m : MetadataModel) : Type 0 where
   pub graph : ResolveModel
@@ -59,7 +59,7 @@ KeepsCrate m s i = IsDerived m s (Crate i)
 abbrev pub DropsCrate : MetadataModel → SettingModel → Id → Type 0
 DropsCrate m s i = KeepsCrate m s i → ⊥
 
--- the document lacks this, and some derivation asks for it
+-- the document lacks this, and some derivation needs it
 abbrev pub IsLost : MetadataModel → SettingModel → Cause → Type 0
 IsLost m s c = IsDerived m s (Lost c)
 
@@ -85,7 +85,7 @@ pub record AreMadeOfThose {N : Type 0} (made : Package → N → Type 0) (all : 
 abbrev pub HasMember : MetadataModel → Id → Type 0
 HasMember m i = HasGraphWith m (λ g. IsMember (resolved m g) i)
 
--- the kept crate of this number is a member
+-- the kept crate with this number is a member
 pub record IsMemberAt (m : MetadataModel) (ids : List Identity) (n : ℕ) : Type 0 where
   pub member : Id
   pub listed : HasMember m member
@@ -98,7 +98,7 @@ pub record AreKeptMembers (m : MetadataModel) (ids : List Identity) (numbers : L
 
 -- ---- direct dependencies and dependents
 
--- no two crates have kept edges of this one with one declared dependency
+-- no two kept edges from this crate to different crates are for one declared dependency
 abbrev pub HasOneEach : MetadataModel → SettingModel → Id → Type 0
 HasOneEach m s i = HasGraphWith m (λ g. OneEach (resolved m g) s i)
 
@@ -118,7 +118,7 @@ pub record IsBuilt {F N E : Type 0} (filters : F → Package → F → Type 0) (
   pub enabled : (i : Id) (f : Text) → IsDerived (metadata_view m) s (Feature i f) ↔ HasEnabled k i f
   -- the graph is the drawing of what is kept, number by number
   pub drawn : IsDrawn made_edge (metadata_view m) s k.graph
-  -- where no two crates come by one declared dependency of a crate, it depends on exactly those that have it as a dependent
+  -- where no two of its crates come from one declared dependency, a crate depends on exactly those that have it as a dependent
   pub agree : (i : Id) → HasOneEach (metadata_view m) s i → (p d : ℕ) → StandsAt (ids_of k) i p → d < length (ids_of k) → AgreeDirectly k p d
   -- the kept members of the workspace
   pub members : AreKeptMembers (metadata_view m) (ids_of k) k.members
@@ -139,13 +139,13 @@ pub record HasTooMany (m : MetadataModel) (s : SettingModel) : Type 0 where
   pub is_outline : IsOutlineFor m s outline
   pub many : (2 ^ 32 ≤ length (planned_nodes outline)) ⊎ (2 ^ 32 ≤ length (planned_edges outline))
 
--- why nothing is built of a document that can be resolved: too much is drawn, or nothing is selected; memory may always run out
+-- why nothing is built from a document that can be resolved: too much is drawn, or nothing is selected; memory may always run out
 abbrev pub GraphRefusal : MetadataModel → SettingModel → Error → Type 0
 GraphRefusal m s errors.TooMany = HasTooMany m s
 GraphRefusal m s errors.Memory = ⊤
 GraphRefusal m s e = RefusesSelection m s e
 
--- The document can't be resolved as it is given, for this cause; or it can, and nothing is built of it as it is resolved, for this
+-- The document can't be resolved as it is given, for this cause; or it can, but nothing is built from it as it is resolved, for this
 -- cause. So a cause of the first kind counts before one of the second; memory may always run out.
 abbrev pub BuildRefusal : {S : Type 0} → Answering S → Option S → Metadata → SettingModel → Error → Type 0
 BuildRefusal may_answer index m s e = AdmissionRefusal (metadata_view m) e

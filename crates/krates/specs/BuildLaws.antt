@@ -26,11 +26,11 @@ use Rattle.krates_queries.specs.Kept.{AreOrdered}
 
 -- ---- documents in another order
 
--- the packages are equal, but for the order in which their features are listed
+-- the packages are equal, except for the order in which their features are listed
 abbrev pub IsSamePackage : Package → Package → Type 0
 IsSamePackage a b = ReordersPackage (package_view a) (package_view b)
 
--- The same packages are listed of both documents where these ids are asked for: at the same places, with the same ids.
+-- The same packages of both documents are listed, those with these ids: at the same places, with the same ids.
 pub record ListAlike (p q : Metadata) (P Q : Id → Type 0) : Type 0 where
   pub ids : (is js : List Identity) (xs ys : List Package) → AreThosePackages p.packages.items P is xs
       → AreThosePackages q.packages.items Q js ys → is ≡ js
@@ -39,7 +39,7 @@ pub record ListAlike (p q : Metadata) (P Q : Id → Type 0) : Type 0 where
 
 -- Builds of the documents `m` and `n`, which resolve `p` and `q`, keep and report the same, and are refused alike.
 pub record BuildAlike (m n p q : Metadata) (s : SettingModel) : Type 0 where
-  -- an index is asked for the same names
+  -- an index is asked about the same names
   pub names : (names : PackageNames) → HasNames m.packages.items names ↔ HasNames n.packages.items names
   -- the same crates, features and edges are derivable
   pub facts : (f : Fact) → IsDerived (metadata_view p) s f ↔ IsDerived (metadata_view q) s f
@@ -78,7 +78,7 @@ pub record Succeeds (m p : Metadata) (s : SettingModel) (ids : List Identity) : 
   pub is_outline : IsOutlineFor (metadata_view p) s outline
   pub numbered : CanBeNumbered outline
 
--- the same package is listed, but for the order of its features
+-- the same package is listed, except for the order of its features
 pub record ListsSame (listed : List Package) (pkg : Package) : Type 0 where
   pub other : Package
   pub among : Contains listed other
@@ -110,8 +110,8 @@ KeepsPackages = (p : Metadata) (wide narrow : SettingModel) → IsNarrower wide 
 
 -- ---- what a name means
 
--- What is kept of q where a name means the least that answers to it is a part of what is kept of p where it means all: both are
--- what is looked at of one document. So where both builds succeed, the crates, features and edges of the first stand in the second.
+-- What q keeps where a name means only the least that matches it is a part of what p keeps where it means all: both are
+-- what is looked at of one document. So where both builds succeed, the crates, features and edges of the first are in the second.
 pub record KeepsNamedPart (p q : Metadata) (s : SettingModel) : Type 0 where
   -- each fact that is derivable where it means the least is derivable where it means all, lost facts too
   pub facts : (f : Fact) → IsDerived (metadata_view q) (naming s false) f → IsDerived (metadata_view p) (naming s true) f

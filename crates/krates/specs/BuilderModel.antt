@@ -30,10 +30,10 @@ ignoring b kinds = with_setting b (record (b.setting) { ignored = kinds })
 abbrev pub excluding : {S : Type 0} → BuilderModel S → List PkgSpec → BuilderModel S
 excluding b specs = with_setting b (with_exclusions b.setting (map spec_view specs))
 
--- these targets are asked for too
+-- dependencies are kept for these targets too
 abbrev pub at_targets : {S : Type 0} → BuilderModel S → List (Target × Vec (String Global) Global) → BuilderModel S
 at_targets b targets = with_setting b (with_targets b.setting (map asked_of targets))
 
--- the crates with the manifests that these paths mean are asked for too, and nothing else has changed
+-- the crates with the manifests that these paths mean are roots too, and nothing else has changed
 abbrev pub AsksForCrates : {S : Type 0} → BuilderModel S → BuilderModel S → List (Bor Text) → Type 0
 AsksForCrates old new paths = AsksForPaths old.setting new.setting paths × (new.index ≡ old.index)

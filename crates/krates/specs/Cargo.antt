@@ -17,7 +17,7 @@ pub record IsWritten (P : Metadata → Type 0) : Type 0 where
   pub written : IsSomeAnswer (metadata_view metadata)
   pub holds : P metadata
 
--- Why nothing is built of a run of cargo: it has no document, for a reason other than running out of memory, or nothing is built of a
+-- Why nothing is built of a run of cargo: it has no document, for a reason other than running out of memory, or nothing is built from a
 -- document that it may have written. Memory may always run out.
 abbrev pub CargoBuildRefusal : {S : Type 0} → Answering S → Option S → SettingModel → Error → Type 0
 CargoBuildRefusal may_answer index s (errors.Metadata cause) = IsUnrun cause × (cause ≡ cm_errors.Memory → ⊥)

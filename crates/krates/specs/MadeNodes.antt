@@ -32,7 +32,7 @@ nodes_in nodes = nodes.crates.items ++ map feature_node nodes.features.items
 abbrev pub crate_node : Krate × (Set × Mapping) → Node Package
 crate_node parts = node.Krate parts.0.id parts.0.pkg parts.1.0 parts.1.1
 
--- ---- with values in the place of packages
+-- ---- with values instead of packages
 
 -- the node is the same, except for a value that is made from its package
 abbrev pub IsMade : {N : Type 0} → (Package → N → Type 0) → Node Package → Node N → Type 0
@@ -40,7 +40,7 @@ IsMade made (node.Krate id pkg features mapping) (node.Krate i krate fs m) = (i 
 IsMade made (node.Feature krate_index name) (node.Feature k n) = (k ≡ krate_index) × (n ≡ name)
 IsMade made _ _ = ⊥
 
--- why nodes aren't added: there are more than there may be, or memory runs out
+-- why nodes aren't added: there are more than are allowed, or memory runs out
 abbrev pub CountRefusal : ℕ → ℕ → Error → Type 0
 CountRefusal limit count errors.TooMany = limit < count
 CountRefusal limit count errors.Memory = ⊤

@@ -1,9 +1,9 @@
--- The numbers of crates that have one of some ids.
+-- The numbers of crates with the wanted ids.
 use Rattle.std.specs.Prelude.{ℕ, ◌↔◌, List, Contains}
 use Rattle.krates_ids.specs.Identity.{Identity}
 use Rattle.krates_rules.specs.Resolved.{id_of, StandsAt}
 
--- the crate of this number has one of the wanted ids
+-- the crate with this number has one of the wanted ids
 pub record IsNumberOf (ids wanted : List Identity) (n : ℕ) : Type 0 where
   pub id : Identity
   pub among : Contains wanted id

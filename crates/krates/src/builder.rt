@@ -1,4 +1,4 @@
-//! The build: from a document to the crates that are kept of it.
+//! The build: from a document to the graph of its kept crates.
 
 ghost use Rattle.std.specs.Prelude.{◌≡◌, ◌↔◌, Contains, None, MatchOption, IfOk, IfErr, OnOk, OnErr};
 ghost use Rattle.std.specs.Bool.{MatchBool};
@@ -33,8 +33,8 @@ use std::marker::Model;
 
 /// Builds the graph of crates of a document under a setting.
 ///
-/// The setters may be called in any order and again: what is ignored, excluded or included is added to what is so
-/// already. Each returns the builder, so that calls chain. Those that append to a list can run out of memory, and
+/// The setters may be called in any order and again: what is ignored, excluded or included is added to what already
+/// was. Each returns the builder, so that calls chain. Those that append to a list can run out of memory, and
 /// then leave the builder as it was.
 ///
 /// ```text
@@ -43,7 +43,7 @@ use std::marker::Model;
 /// let krates: Krates = builder.build_with_metadata(metadata, &mut NoneFilter)?;
 /// ```
 ///
-/// The parameter is where packages are looked up, an `IndexSource`. No setter but that of the index depends on it.
+/// The parameter is the type of the index, an `IndexSource`. Only the setter of the index depends on it.
 #[derive(Drop)]
 pub struct Builder<S: Drop = IndexSource> {
     alloc: Global,
@@ -60,8 +60,8 @@ impl<S: Drop> Model for Builder<S> {
 }
 
 impl<S: Drop + 'static> Builder<S> {
-    /// Ignores this kind of dependency, beside those that are ignored already: where a member of the workspace has
-    /// it, where another crate has it, or wherever, as the scope says. Never refused. Time O(1).
+    /// Ignores this kind of dependency, in addition to those that are ignored already: where a member of the workspace has
+    /// it, where another crate has it, or everywhere, as the scope says. Never refused. Time O(1).
     ///
     /// ```text
     /// // what is shipped: the workspace without its tests, and all that it needs
@@ -76,8 +76,8 @@ impl<S: Drop + 'static> Builder<S> {
         self
     }
 
-    /// Whether every member of the workspace is a root, also where the graph has a root of its own; the last call
-    /// counts. It changes nothing where manifests are asked for. Never refused. Time O(1).
+    /// Whether every member of the workspace is a root, even where the graph has a root of its own; the last call
+    /// counts. It changes nothing where `include_workspace_crates` has set manifests. Never refused. Time O(1).
     ///
     /// ```text
     /// builder.workspace(true);
@@ -90,8 +90,8 @@ impl<S: Drop + 'static> Builder<S> {
         self
     }
 
-    /// Whether a dependency's name in a feature reference, as `dep:NAME` or `NAME/FEATURE`, means all dependencies that answer
-    /// to it, and not the least of them alone, by id; the last call counts. Never refused. Time O(1).
+    /// Whether a dependency's name in a feature reference, as in `dep:NAME` or `NAME/FEATURE`, means all dependencies that
+    /// match it, rather than only the least of them by id; the last call counts. Never refused. Time O(1).
     ///
     /// ```text
     /// builder.all_named(true);
@@ -104,8 +104,8 @@ impl<S: Drop + 'static> Builder<S> {
         self
     }
 
-    /// Leaves out the packages that one of the specifications fits, beside those that are left out already: they
-    /// aren't kept, and what only they need isn't either. The only refusal is running out of memory, and then the
+    /// Leaves out the packages that one of the specifications fits, in addition to those that are left out already: they
+    /// aren't kept, and neither is what only they need. The only refusal is running out of memory, and then the
     /// builder is as it was. Time O(specifications).
     ///
     /// ```text
@@ -124,28 +124,28 @@ impl<S: Drop + 'static> Builder<S> {
         }
     }
 
-    /// What is set, the index apart.
+    /// What is set, except for the index.
     pub(crate) fn setting(&self) -> &Setting
         ensures { result.now ≡ self.now.setting }
     {
         &self.setting
     }
 
-    /// What memory comes from.
+    /// Where memory comes from.
     pub(crate) fn allocator(&self) -> Global {
         self.alloc
     }
 
-    /// Leaves out more packages; whether it could.
+    /// Leaves out more packages, and returns whether that succeeded.
     fn has_excluded(&mut self, specs: Vec<PkgSpec>) -> bool
         ensures { MatchBool result (self.new ≡ excluding self.old specs.items) (self.new ≡ self.old) }
     {
         self.setting.exclude(specs).is_ok()
     }
 
-    /// Asks for the members with these manifests as roots, beside those that are asked for already. A path that
+    /// Makes the members with these manifests roots, in addition to those that were given already. A path that
     /// doesn't end in `Cargo.toml` means the manifest in that directory; paths are compared by components, as the
-    /// document writes them. The manifest of the workspace alone means every member. The only refusal is running out
+    /// document writes them. The workspace's manifest alone means every member. The only refusal is running out
     /// of memory, and then the builder is as it was. Time O(length of the paths).
     ///
     /// ```text
@@ -163,7 +163,7 @@ impl<S: Drop + 'static> Builder<S> {
         }
     }
 
-    /// Asks for more crates; whether it could.
+    /// Makes more crates roots, and returns whether that succeeded.
     fn has_included_crates(&mut self, paths: &[&str]) -> bool
         ensures { MatchBool result (AsksForCrates self.old self.new paths.now) (self.new ≡ self.old) }
     {
@@ -172,15 +172,15 @@ impl<S: Drop + 'static> Builder<S> {
             .is_ok()
     }
 
-    /// Keeps only dependencies whose target text passes at one of these targets, each with the features that it has,
-    /// beside those that are set already. Where none is set, every text passes but one like `cfg(any())`, which asks
+    /// Keeps only dependencies whose target text passes at one of these targets, each with the features that it has, in
+    /// addition to those that are set already. Where none is set, every text passes except one like `cfg(any())`, which asks
     /// about no target and is false. The only refusal is running out of memory, and then the builder is as it was.
     /// Time O(targets).
     ///
     /// A target that isn't known ([`Target::is_known`](krates_text::target::Target::is_known)) has no properties: `cfg(unix)`,
-    /// `cfg(windows)` and `cfg(target_os = "..")` are false there, so that what stands behind them is left out, and
-    /// nothing says so. Ask first, or describe the target by `TargetInfo::from_rustc`. What build scripts and
-    /// procedural macros need passes at the host, which is another target where one compiles for a second machine.
+    /// `cfg(windows)` and `cfg(target_os = "..")` are false there, so that the dependencies under them are left out, and
+    /// nothing reports it. Ask first, or describe the target by `TargetInfo::from_rustc`. What build scripts and
+    /// procedural macros need passes at the host, which is another target when one compiles for a second machine.
     ///
     /// ```text
     /// let linux = Target::new(alloc, "x86_64-unknown-linux-gnu")?;
@@ -201,7 +201,7 @@ impl<S: Drop + 'static> Builder<S> {
         }
     }
 
-    /// Keeps dependencies for more targets; whether it could.
+    /// Keeps dependencies for more targets, and returns whether that succeeded.
     fn has_included_targets(&mut self, targets: Vec<(Target, Vec<String>)>) -> bool
         ensures { MatchBool result (self.new ≡ at_targets self.old targets.items) (self.new ≡ self.old) }
     {
@@ -245,8 +245,8 @@ impl Builder {
     /// second index takes the place of the first. Never refused. Time O(1).
     ///
     /// It is asked once by a build, with the names of all packages, and not at all where the document can't be
-    /// resolved. So it only has to be callable on those names, of a document that can be; that is asked for at the
-    /// build. Set the index and build in one function.
+    /// resolved. So it has to be callable only with those names, of a document that can be; the build requires
+    /// that. Set the index and build in one function.
     ///
     /// ```text
     /// let known: BuildIndexCache = Box::new(alloc, move |_names: PackageNames| IndexAnswer { krates })?;
@@ -266,15 +266,15 @@ impl Builder {
     /// each edge. When the graph is finished, it hands every other package to the filter, once, in the order of their
     /// ids.
     ///
-    /// With an index, all of this is meant of the document whose packages are corrected by what the index answers;
-    /// only whether the document can be resolved is asked of it as it is given, and does not depend on the
+    /// With an index, all of this is about the document whose packages are corrected by what the index answers;
+    /// only whether the document can be resolved is asked of it as it is given, and that does not depend on the
     /// correction.
     ///
-    /// It is refused, in this order of classes: as `NoResolveGraph`, `InvalidId` or `Doubled` where the document
-    /// can't be resolved, as `Lost` where it lacks what some derivation asks for, as `NoRootKrates` where no crate
-    /// would be kept, and as `TooMany` where none of these is so and the graph has more than 4,294,967,295 nodes or
-    /// edges. It may instead return `Memory`. Each id that a refusal names is one as which a text of the document is
-    /// read, its text included. After each refusal the filter is as it was.
+    /// It is refused, in this order of precedence: as `NoResolveGraph`, `InvalidId` or `Doubled` where the document
+    /// can't be resolved, as `Lost` where it lacks what some derivation needs, as `NoRootKrates` where no crate
+    /// would be kept, and as `TooMany` where none of these holds and the graph has more than 4,294,967,295 nodes or
+    /// edges. It may instead return `Memory`. Each id that a refusal names is read from a text of the document, and
+    /// keeps that text. After each refusal the filter is as it was.
     ///
     /// Each crate and each feature that is found is followed once, and so is each reference (`Krates::work` counts
     /// them); what they name is looked up in time O(log n).
@@ -313,7 +313,7 @@ impl Builder {
     }
 }
 
-/// Builds of a document that was admitted with these ids.
+/// Builds the graph of a document that was admitted with these ids.
 fn build_admitted<N: FromPackage + Drop, E: FromEdge + Drop, F: OnFilter>(
     alloc: Global,
     setting: &Setting,
@@ -362,7 +362,7 @@ fn build_admitted<N: FromPackage + Drop, E: FromEdge + Drop, F: OnFilter>(
     Ok(Krates::new(graph, count, members, workspace_root, findings))
 }
 
-/// What a build still needs of a document, once that is sketched.
+/// What a build still needs of a document, once that has been sketched.
 #[derive(Drop)]
 struct Rest {
     packages: Vec<Package>,
@@ -373,7 +373,7 @@ struct Rest {
     workspace_root: String,
 }
 
-/// Takes this out of a document and its ids. All else is dropped here, once, and not at each refusal of a build.
+/// Takes this out of a document and its ids. Everything else is dropped here, once, rather than at each refusal of a build.
 fn rest_of(metadata: Metadata, ids: Ids) -> Rest
     ensures { result ≡ record {
       packages = metadata.packages;

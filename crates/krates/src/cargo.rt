@@ -1,4 +1,4 @@
-//! The build of the document that cargo writes.
+//! Builds from the document that cargo writes.
 
 ghost use Rattle.std.specs.Prelude.{◌≡◌, IfOk, IfErr, OnErr};
 ghost use Rattle.krates_cm.specs.Document.{metadata_view};
@@ -18,13 +18,13 @@ use krates_queries::kept::Krates;
 use std::process::Processes;
 
 impl Builder {
-    /// Runs the command, and builds of the document that cargo writes what `build_with_metadata` builds of it. The
-    /// program is the one that the command sets, else the one that is handed in, as from the variable `CARGO`, else
+    /// Runs the command, and builds from the document that cargo writes what `build_with_metadata` builds from it. The
+    /// program is the one that the command sets, else the one that is passed in, for example from the variable `CARGO`, else
     /// `cargo`.
     ///
-    /// It is refused as `Metadata` where there is no document, for the reason that `MetadataCommand::exec` has; else
-    /// as the build of the document is. It may instead return `Memory`. Each id that a refusal names is one as which a
-    /// text of the document is read, its text included. After each refusal the filter is as it was. Time: that of the
+    /// It is refused as `Metadata` where there is no document, for the reason that `MetadataCommand::exec` gives; else
+    /// as the build of the document is. It may instead return `Memory`. Each id that a refusal names is read from a
+    /// text of the document, and keeps that text. After each refusal the filter is as it was. Time: that of the
     /// run, and of the build.
     ///
     /// An index has to be callable on the names of each document that cargo may write.

@@ -1,8 +1,8 @@
 //! Answers that can be checked without trusting the search: lists of steps by which facts follow, and closed lists of facts.
 //!
-//! Both checkers go by the document, by what a builder has set, and by what an index answered. The builder's own index is
-//! neither asked nor looked at. A yes of `check` means that each fact of the steps has a derivation from the roots; a yes of
-//! `check_closed` means that every fact that has one stands in the list.
+//! Both checkers use the document, what a builder has set, and what an index answered. The builder's own index isn't
+//! used. A yes of `check` means that each fact of the steps has a derivation from the roots; a yes of
+//! `check_closed` means that every fact that has one is in the list.
 
 ghost use Rattle.std.specs.Prelude.{IfErr, OnOk};
 ghost use Rattle.krates_cm.specs.Document.{metadata_view};
@@ -22,13 +22,13 @@ pub use krates_rules::{Derivation, Fact, Step};
 /// follows by its rule from the facts of the earlier steps that it uses, in the order of the rule. So the fact of each step,
 /// that of the last among them, has a derivation from the roots.
 ///
-/// With an index each package is looked at as the index corrects it; the index isn't asked anything.
+/// With an index each package is looked at as the index corrects it; the index isn't asked again.
 ///
 /// It is refused as `Document`, `Empty` or `Step`, the first of these that applies; `Step` names the first step that doesn't
 /// follow. It may instead return `Memory`.
 ///
 /// Time: O((n + d) log d) for n steps and a document of d crates, features and dependencies, and for each step the
-/// dependencies of the node, and the references of the feature, that it speaks of.
+/// dependencies of the node, and the references of the feature, that it is about.
 ///
 /// ```text
 /// let steps = vec![in alloc; Step { rule: 1, fact: Fact::Crate(kid), uses: Vec::new(alloc) }]?;
@@ -50,15 +50,15 @@ pub fn check(
 }
 
 /// Checks that a list of facts is closed for a document and what a builder has set: the document is admitted, and each fact that
-/// follows by one rule from facts of the list stands in it, where nothing lost follows. So each fact that has a derivation from
-/// the roots stands in it: a package whose crate it lacks is unreachable.
+/// follows by one rule from facts of the list is in it, and nothing lost follows. So each fact that has a derivation from
+/// the roots is in it: a package whose crate isn't in the list is unreachable.
 ///
-/// With an index each package is looked at as the index corrects it; the index isn't asked anything.
+/// With an index each package is looked at as the index corrects it; the index isn't asked again.
 ///
 /// It is refused as `Document`, or else as `Open`. It may instead return `Memory`.
 ///
 /// Time: O((n + d) log (n + d)) for n facts and a document of d crates, features and dependencies, and for each fact the
-/// dependencies of its crate's node, as often as an edge of it is asked for.
+/// dependencies of its crate's node, once for each edge of it that is looked up.
 ///
 /// ```text
 /// let facts = vec![in alloc; Fact::Crate(kid)]?;

@@ -1,4 +1,4 @@
-//! The graph of what is kept of a document.
+//! The graph of the part of a document that is kept.
 
 ghost use Rattle.std.specs.Prelude.{◌≡◌, ◌≤◌, All, IfErr, IfOk, length, map};
 ghost use Rattle.std.specs.List.{AllZip};
@@ -38,7 +38,7 @@ use krates_selection::KeptStep;
 use krates_selection::kept_tables::KeptTables;
 use std::alloc::{AllocError, Global};
 
-/// What is drawn of a selection, the steps that explain it, and the work that it was.
+/// What is drawn of a selection, the steps that explain it, and the work that it took.
 #[derive(Drop)]
 pub(crate) struct Sketch {
     pub(crate) outline: Outline,
@@ -48,7 +48,7 @@ pub(crate) struct Sketch {
 
 /// What is selected of a document that was admitted with these ids, as an outline, with its steps. It is refused as `select` is.
 ///
-/// The document's tables are made once, for all of that.
+/// The document's tables are made once for all of this.
 pub(crate) fn sketch_of(
     alloc: Global,
     metadata: &Metadata,
@@ -89,7 +89,7 @@ fn features_in(alloc: Global, outline: Outline) -> Result<Vec<EnabledFeature>, A
         .collect(alloc)
 }
 
-/// Puts nodes, with values in the place of packages, and edges into a graph with these limits.
+/// Puts nodes, with values instead of packages, and edges into a graph with these limits.
 fn stored<N: FromPackage + Drop, E: FromEdge + Drop>(
     alloc: Global,
     limits: Limits,

@@ -10,7 +10,7 @@ use krates_resolve::EnabledFeature;
 use std::alloc::{AllocError, Global};
 use std::collections::BTreeSet;
 
-/// The enabled features of each of so many crates, in the order of the crates.
+/// The enabled features of each of this many crates, in the order of the crates.
 pub(crate) fn enabled_of(
     alloc: Global,
     krates: usize,
@@ -27,7 +27,7 @@ pub(crate) fn enabled_of(
     Ok(sets)
 }
 
-/// So many empty sets.
+/// This many empty sets.
 fn empty_sets(alloc: Global, krates: usize) -> Result<Vec<EnabledFeatures>, AllocError>
     ensures matched { IfOk result (λ sets. length sets.items ≡ krates) }
     ensures empty { IfOk result (λ sets. All (λ set. keys set ≡ []) sets.items) }

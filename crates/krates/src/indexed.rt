@@ -9,16 +9,16 @@ use krates_ids::{BuildIndexCache, CachingIndex, PackageNames};
 use std::alloc::{AllocError, Global};
 use std::collections::BTreeSet;
 
-/// What looks the names of packages up in an index.
+/// Where packages are looked up by name: the index that a builder is given.
 #[derive(Drop)]
 pub struct IndexSource {
-    /// What is asked, once.
+    /// The cache, which a build asks once.
     pub build: BuildIndexCache,
 }
 
 /// The document that a build looks at: with an index, which is asked once for the names of all packages, each package is
 /// corrected by its answer; without one, the document as it is. Returns `AllocError` if memory runs out. Time O(n log n) in the
-/// size of the packages, and that of the index.
+/// size of the packages, plus the time of the index.
 pub(crate) fn seen_through(
     alloc: Global,
     index: Option<IndexSource>,

@@ -12,8 +12,8 @@ use krates_resolve::laws as resolution;
 /// Builds don't depend on the order in which a document lists its packages, its members, the nodes of its graph, or the
 /// dependencies and features of a node, nor on the order of the features of a package.
 ///
-/// Of two documents that differ in that alone, an index is asked for the same names. Where it gives both the same answer, or
-/// there is none, the documents that are looked at differ in order alone too. So the same facts have derivations under
+/// Of two documents that differ in that alone, an index is asked about the same names. Where it gives both the same answer, or
+/// there is none, the documents that are looked at also differ in order alone. So the same facts have derivations under
 /// each setting, the same crates are kept with the same numbers, the same graph is drawn, with equal nodes, mappings and edges
 /// number by number, the same packages are reported in the same order, and both builds are refused for the same causes.
 pub fn reordering()
@@ -27,9 +27,9 @@ pub fn reordering()
     outline_there();
 }
 
-/// A build under a setting that excludes more packages, ignores one more kind, or asks for targets where none was asked
-/// for, keeps a part of what the build before it keeps: its crates, its enabled features and its dependency edges are among
-/// those of the wider one. Where that one succeeds, the narrower one is refused only since no crate is left, or out of memory;
+/// A build under a setting that excludes more packages, ignores one more kind, or sets targets where none was set,
+/// keeps a part of what the build before it keeps: its crates, its enabled features and its dependency edges are among
+/// those of the wider one. Where that one succeeds, the narrower one is refused only because no crate is left, or because memory runs out;
 /// so it never has too many nodes or edges.
 ///
 /// Without an index both look at the document as it is given, and with one at what it is corrected to, where the index
@@ -46,10 +46,10 @@ pub fn narrowing()
     outline_there();
 }
 
-/// A build where a dependency's name in a feature reference means the least, by id, of the dependencies that answer to it, keeps
+/// A build where a dependency's name in a feature reference means only the least, by id, of the dependencies that match it, keeps
 /// a part of what one keeps where it means all of them, under settings that are equal otherwise: each fact that has a
 /// derivation there has one here, and so has what is lost. Where both builds succeed, the kept crates, the enabled features and
-/// the dependency edges of the first stand in the second; their numbers may be others.
+/// the dependency edges of the first are in the second; their numbers may differ.
 ///
 /// Without an index both look at the document as it is given, and with one at what it is corrected to, where the index
 /// answers both the same.

@@ -1,4 +1,4 @@
-//! Graphs of crates, built from the output of `cargo metadata`: which crates are kept under a setting, and which aren't.
+//! Graphs of crates, built from the output of `cargo metadata`: which crates are kept under a setting, and which are not.
 //!
 //! The items of the crates below are re-exported under their names, so that a caller needs no other crate.
 //!
@@ -77,7 +77,7 @@ pub mod index {
     };
 }
 
-/// Which documents can be resolved, what is kept of them, and what they answer to the questions of the rules.
+/// Which documents can be resolved, what is kept, and what a document answers to the questions of the rules.
 pub mod resolve {
     pub use krates_resolve::{
         Availability, Document, EnabledFeature, Ids, KeptEdge, Need, NodePlace, NumberedFact,

@@ -28,7 +28,7 @@ pub(crate) fn members_of<N>(
     Ok(numbers)
 }
 
-/// The number of the crate with each of these ids, in the order of the ids. Ids of other crates are left out.
+/// The numbers of the crates with these ids, in the order of the ids. Ids of other crates are left out.
 fn member_numbers<N>(
     alloc: Global,
     nodes: &[Node<N>],

@@ -1,6 +1,6 @@
-//! The nodes of the graph: packages moved into what was drawn, and that into the graph.
+//! The nodes of the graph: packages are moved into the drawn nodes, and those into the graph.
 //!
-//! A node is as large as a package with its crate's features and mapping. So only the crates are put together as nodes before they
+//! A node is as large as a package with its crate's features and mapping. So only the crates are built as nodes before they
 //! are stored; a feature, of which there may be many, becomes a node where it is stored.
 
 ghost use Rattle.std.specs.Prelude.{◌≡◌, ◌++◌, [], IfErr, IfOk, OnOk, length, map};
@@ -63,7 +63,7 @@ pub(crate) fn nodes_of(
     Ok(DrawnNodes { crates, features })
 }
 
-/// The node with a value in the place of its package.
+/// The node with a value instead of its package.
 fn made<N: FromPackage + Drop>(alloc: Global, node: Node<Package>) -> Result<Node<N>, AllocError>
     ensures { IfOk result (IsMade N.made_from node) }
 {
@@ -83,8 +83,8 @@ fn made<N: FromPackage + Drop>(alloc: Global, node: Node<Package>) -> Result<Nod
     }
 }
 
-/// Adds the nodes to a graph that has none, in their order, with a value in the place of each package. It is refused as `TooMany`
-/// only where there are more than the graph may have.
+/// Adds the nodes to a graph that has none, in their order, with a value instead of each package. It is refused as `TooMany`
+/// only where there are more than are allowed.
 pub(crate) fn store_nodes<N: FromPackage + Drop, E: Drop>(
     alloc: Global,
     nodes: DrawnNodes,
@@ -100,7 +100,7 @@ pub(crate) fn store_nodes<N: FromPackage + Drop, E: Drop>(
     store_features(features, graph)
 }
 
-/// Adds the features to a graph, in their order, behind the nodes that it has.
+/// Adds the features to a graph, in their order, after the nodes that it has.
 fn store_features<N: Drop, E: Drop>(
     features: Vec<PlannedFeature>,
     graph: &mut Graph<Node<N>, E>,
@@ -121,7 +121,7 @@ fn store_features<N: Drop, E: Drop>(
     Ok(())
 }
 
-/// Adds the crates to a graph that has no node, in their order, with a value in the place of each package.
+/// Adds the crates to a graph that has no node, in their order, with a value instead of each package.
 fn store_crates<N: FromPackage + Drop, E: Drop>(
     alloc: Global,
     nodes: Vec<Node<Package>>,

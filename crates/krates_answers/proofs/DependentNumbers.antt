@@ -43,7 +43,7 @@ exact_dependents nodes edges d joined are = record { ascending = IsStrictlyIncre
 
 -- ---- crate after crate
 
--- the lists are those of the first crates, and these are the others of so many
+-- the lists are those of the first crates, and these are the others, of this number of crates
 pub record AreFound {N : Type 0} (Leads : ℕ → ℕ → Type 0) (count : ℕ) (lists : List (List ℕ)) (left : List (Match N)) : Type 0 where
   pub each : AreEach Leads lists
   pub numbers : map (λ m. m.number) left ≡ range_with_len (length lists) (length left)

@@ -48,7 +48,7 @@ exactly_same A B xs same e = record { ascending = e.ascending; exactly = λ n. (
 pub exactly_all : (Has P : ℕ → Type 0) (xs : List ℕ) → ((n : ℕ) → Has n → P n) → AreExactly Has xs → All P xs
 exactly_all Has P xs so e k d lt = so (get_or xs k d) ((e.exactly (get_or xs k d)).0 (Contains-get_or xs k d lt))
 
--- ---- how often a number stands in an ascending list
+-- ---- how often a number is in an ascending list
 
 not_counted : (b : Bool) → (b ≡ true → ⊥) → ◌≡◌ {A = ℕ} (cond b 1 0) 0
 not_counted b other = ap (λ (v : Bool). cond v 1 0) (false_from_ne_true b other)
@@ -78,7 +78,7 @@ counted (x ∷ xs) a up =
           ])
     ]
 
--- once, if it stands there, and otherwise not at all
+-- once, if it is there, and otherwise not at all
 pub count_of : (xs : List ℕ) (a : ℕ) → IsStrictlyIncreasing xs → (Contains xs a × (count_by (λ n. n == a) xs ≡ 1)) ⊎ ((Contains xs a → ⊥) × (count_by (λ n. n == a) xs ≡ 0))
 count_of xs a up = elim (counted xs a (AllPairs-from_increasing xs up)) [
   | inl there ↦ inl (contains_of xs a there.0, there.1)

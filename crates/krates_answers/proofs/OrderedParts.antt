@@ -30,7 +30,7 @@ later number x xs s z m = above (number x) (map number xs) (number z) (sorted_he
 not_later : {A : Type 0} (number : A → ℕ) (x : A) (xs : List A) → Ascend number (x ∷ xs) → (z : A) → x ≡ z → Member xs z → ⊥
 not_later number x xs s z e m = let lt = later number x xs s z m in let same = ap number e in omega (arith, lt, same)
 
--- the second list has, told by number, exactly those of the first that have the property
+-- the second list has, identified by number, exactly those of the first that have the property
 pub record ArePart {A : Type 0} (number : A → ℕ) (P : A → Type 0) (all those : List A) : Type 0 where
   pub all_ascend : Ascend number all
   pub those_ascend : Ascend number those

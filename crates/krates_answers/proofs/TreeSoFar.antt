@@ -16,12 +16,12 @@ use Rattle.krates_answers.proofs.WaitingLines.{AllWait, AllWait-roots}
 abbrev pub is_marked : List Bool → ℕ → Bool
 is_marked marks n = get_or marks n false
 
--- all that is to stand below a parent: the roots below none, what it leads to below a crate that is opened
+-- all that has to be below a parent: the roots below none, what it leads to below a crate that is opened
 abbrev pub whole_below : List (List ℕ) → List ℕ → List Bool → Option ℕ → List ℕ
 whole_below lists roots marks None = roots
 whole_below lists roots marks (Some p) = cond (is_marked marks p) (list_of lists p) []
 
--- the line is opened if it is the first of its crate, and stands in its place
+-- the line is opened if it is the first of its crate, and is in its place
 pub record IsWritten (before : List TreeLine) (line : TreeLine) : Type 0 where
   pub opened : IsTrue line.is_opened ↔ (Contains (crates_in before) line.krate → ⊥)
   pub in_place : IsInPlace before line.depth line.parent
@@ -30,7 +30,7 @@ pub record IsWritten (before : List TreeLine) (line : TreeLine) : Type 0 where
 abbrev pub IsReached : List (List ℕ) → List ℕ → ℕ → Type 0
 IsReached lists roots = Reaches (IsListed lists) (Contains roots)
 
--- The lines so far are written, and those that are left wait: together they have all that is to stand below each parent, in its order.
+-- The lines so far are written, and those that are left wait: together they have all that has to be below each parent, in its order.
 -- The crates of the lines so far are those with a mark, and are reached.
 pub record IsTreeSoFar (lists : List (List ℕ)) (roots : List ℕ) (marks : List Bool) (lines left : List TreeLine) : Type 0 where
   pub long : length marks ≡ length lists

@@ -25,7 +25,7 @@ whole_ascends : (list : List ℕ) (t : Bool) → IsStrictlyIncreasing list → I
 whole_ascends list true h = h
 whole_ascends list false h = ascending_nothing
 
--- what stands below a crate, by its mark
+-- what is below a crate, by its mark
 among_whole : (lists : List (List ℕ)) (p c : ℕ) (t : Bool) → Contains (cond t (list_of lists p) []) c → (t ≡ true) × IsListed lists p c
 among_whole lists p c true among = (refl, IsListed-from_among lists p c among)
 among_whole lists p c false among = absurd (in_nothing c among)

@@ -5,7 +5,7 @@ use Rattle.krates_rules.proofs.Members.{Member, member_right}
 use Rattle.krates_answers.specs.Those.{AreThose, none}
 use Rattle.krates_answers.proofs.ThoseLemmas.{AreThose-snoc_leaves, AreThose-snoc_takes}
 
--- one more is had
+-- with one more
 pub walked_on : {A B : Type 0} (f : A → B) (done : List A) (x : A) (left rest all : List B) → left ≡ f x ∷ rest → map f done ++ left ≡ all → map f (done ++ x ∷ []) ++ rest ≡ all
 walked_on f done x left rest all step whole =
     ap (λ zs. zs ++ rest) (map-append f done (x ∷ [])) ∙ (append_assoc (map f done) (f x ∷ []) rest ∙ (ap (λ zs. map f done ++ zs) (sym step) ∙ whole))

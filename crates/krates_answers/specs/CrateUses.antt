@@ -12,7 +12,7 @@ pub record IsKept {N E : Type 0} (k : KeptCrates N E) (id : Id) : Type 0 where
   pub stands : StandsAt (ids_of k) id number
 
 -- A crate is shipped if the build without build and dev dependencies keeps it. It is used in building if that doesn't, but the build
--- without dev dependencies does. Otherwise it is used in development alone.
+-- without dev dependencies does. Otherwise it is used only in development.
 abbrev pub IsUse : {N E : Type 0} → KeptCrates N E → KeptCrates N E → Id → Use → Type 0
 IsUse shipped without_dev id Shipped = IsKept shipped id
 IsUse shipped without_dev id Build = IsNotKept shipped id × IsKept without_dev id

@@ -49,7 +49,7 @@ pub record IsLost {N E : Type 0} (here there : KeptCrates N E) (pair : Pair N) :
   pub needs : Needs here pair.parent.number pair.child.number
   pub missing : IsMissing there pair
 
--- these are exactly the pairs of crates of the first of which that is so, each once, in the order of `pairs_of`
+-- these are exactly the pairs of crates of the first for which this holds, each once, in the order of `pairs_of`
 abbrev pub AreLost : {N E : Type 0} → KeptCrates N E → KeptCrates N E → List (Pair N) → Type 0
 AreLost here there found = AreThose (IsLost here there) (pairs_of here) found
 

@@ -19,7 +19,7 @@ pub record AreExactly (Has : ℕ → Type 0) (numbers : List ℕ) : Type 0 where
   pub ascending : IsStrictlyIncreasing numbers
   pub exactly : (n : ℕ) → Contains numbers n ↔ Has n
 
--- b stands in the list of number a
+-- b is in the list of number a
 pub record IsListed (lists : List (List ℕ)) (a b : ℕ) : Type 0 where
   pub list : List ℕ
   pub at : slice_get lists a ≡ Some list

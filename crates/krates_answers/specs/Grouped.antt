@@ -14,7 +14,7 @@ pub record Group (T : Type 0) : Type 0 where
   pub key : Text
   pub items : List T
 
--- of items with their keys, those of this key, in their order
+-- among items with their keys, those with this key, in their order
 abbrev pub items_under : {T : Type 0} → Text → List (Text × T) → List T
 items_under key items = map (λ p. p.1) (filter (λ p. bytes_eq key p.0) items)
 
@@ -28,7 +28,7 @@ pub record AreGroups {T : Type 0} (items : List (Text × T)) (groups : List (Gro
 abbrev pub group_view : {T : Type 0} → Bor Text × Vec T → Group T
 group_view e = record { key = e.0.now; items = e.1.items }
 
--- a group, where its items are seen otherwise
+-- a group, with another view of its items
 abbrev pub seen_group : {T U : Type 0} → (T → U) → Group T → Group U
 seen_group view g = record { key = g.key; items = map view g.items }
 

@@ -1,4 +1,4 @@
--- What a package states of its licence.
+-- What a package states about its licence.
 use Rattle.std.specs.Prelude.{[], Option, Some, None, map, option_map}
 use Rattle.krates_cm.specs.Document.{Text, text_view}
 use Rattle.krates_cm.specs.declared.package.Package.{Package}

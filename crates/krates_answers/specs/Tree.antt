@@ -13,7 +13,7 @@ crates_in lines = map (λ line. line.krate) lines
 abbrev pub crates_below : Option ℕ → List TreeLine → List ℕ
 crates_below parent lines = crates_in (filter (λ line. option_eq nat_eq line.parent parent) lines)
 
--- One of these lines opens the crate p and stands one less deep than this depth, and all lines behind it stand at least as deep.
+-- One of these lines opens the crate p and is one less deep than this depth, and all lines after it are at least as deep.
 pub record StandsBelow (before : List TreeLine) (p depth : ℕ) : Type 0 where
   pub front : List TreeLine
   pub above : TreeLine
@@ -24,14 +24,14 @@ pub record StandsBelow (before : List TreeLine) (p depth : ℕ) : Type 0 where
   pub deeper : depth ≡ above.depth + 1
   pub inside : All (λ other. depth ≤ other.depth) between
 
--- behind these lines, a line of this depth without a parent stands at the margin, and one with a parent below the line that opens it
+-- after these lines, a line of this depth without a parent is at the margin, and one with a parent is below the line that opens it
 abbrev pub IsInPlace : List TreeLine → ℕ → Option ℕ → Type 0
 IsInPlace before depth None = depth ≡ 0
 IsInPlace before depth (Some p) = StandsBelow before p depth
 
--- The lines are a tree below these roots. The lines without a parent are those of the roots. Below each crate that has a line stands
--- what it leads to, each once and ascending, and below no other. What has a line is what is reached from the roots. Of the lines of
--- a crate the first is opened, and no other. Each line is in its place.
+-- The lines are a tree below these roots. The lines without a parent are those of the roots. Below each crate that has a line are
+-- the crates to which it leads, each once and ascending, and below no other. What has a line is what is reached from the roots. Of the lines of
+-- a crate only the first is opened. Each line is in its place.
 pub record IsTree (Leads : ℕ → ℕ → Type 0) (roots : List ℕ) (lines : List TreeLine) : Type 0 where
   pub top : crates_below None lines ≡ roots
   pub below : (p c : ℕ) → Contains (crates_below (Some p) lines) c ↔ (Contains (crates_in lines) p × Leads p c)

@@ -1,4 +1,4 @@
--- That a crate can't be kept, whatever the search did.
+-- Why a crate can't be kept, whatever the search did.
 use Rattle.std.specs.Prelude.{Bool, true, false, List, Contains}
 use Rattle.krates_checkers.specs.CheckRefusals.{IsClosedRefused}
 use Rattle.krates_checkers.specs.declared.check_error.CheckError.{CheckError}
@@ -22,7 +22,7 @@ pub record IsShownUnreachable (m : MetadataModel) (s : SettingModel) (facts : Li
   pub lack : LackCrate facts id
   pub unreachable : IsUnreachable m s id
 
--- the answer is yes only if that is so, and no only if the facts have the crate
+-- the answer is yes only if that holds, and no only if the facts have the crate
 abbrev pub TellsUnreachable : MetadataModel → SettingModel → List Fact → Id → Bool → Type 0
 TellsUnreachable m s facts id true = IsShownUnreachable m s facts id
 TellsUnreachable m s facts id false = Contains facts (Crate id)

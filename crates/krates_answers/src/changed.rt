@@ -6,14 +6,14 @@ use krates::{KrateMatch, Package};
 use std::alloc::{AllocError, Global};
 use std::collections::BTreeMap;
 
-/// A name of which crates went and others came.
+/// A name for which some crates were removed and others added.
 #[derive(Drop)]
 pub struct Changed<'a> {
     /// The name.
     pub name: &'a str,
-    /// The versions of those that went, by number.
+    /// The versions of those that were removed, by number.
     pub from: Vec<&'a Version>,
-    /// The versions of those that came, by number.
+    /// The versions of those that were added, by number.
     pub to: Vec<&'a Version>,
 }
 

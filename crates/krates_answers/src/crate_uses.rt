@@ -12,7 +12,7 @@ use std::alloc::{AllocError, Global};
 /// What a crate is used for.
 #[derive(Clone, Copy, Debug, PartialEq, Eq)]
 pub enum Use {
-    /// It is needed by what is shipped, over normal dependencies.
+    /// It is needed by what is shipped, through normal dependencies.
     Shipped,
     /// It isn't shipped, but build scripts need it.
     Build,

@@ -52,7 +52,7 @@ impl<'a, N, E> There<'a, N, E> {
         Ok(There { krates, dependents })
     }
 
-    /// Whether one crate depends directly on another, told by their ids.
+    /// Whether one crate depends directly on another, both identified by id.
     fn has_dependency(&self, parent: &Kid, child: &Kid) -> bool
         ensures { IsTrue result ↔ HasDependency self.now (id_of parent.now) (id_of child.now) }
     {
@@ -66,7 +66,7 @@ impl<'a, N, E> There<'a, N, E> {
     }
 }
 
-/// The crates that one graph keeps and the other doesn't, told by their ids, by number. The only refusal is running out of memory.
+/// The crates that one graph keeps and the other doesn't, compared by their ids, by number. The only refusal is running out of memory.
 /// Time O(n log m) for n nodes of the one and m of the other.
 pub fn lacking<'a>(
     alloc: Global,
@@ -137,7 +137,7 @@ fn push_lost<'a>(
     Ok(())
 }
 
-/// The direct dependencies that one graph has and the other lacks, told by the ids of both crates: by the number of the crate
+/// The direct dependencies that one graph has and the other lacks, compared by the ids of both crates: by the number of the crate
 /// on which the other depends, and then by that of the other. The only refusal is running out of memory. Time O(n + e log (n + e))
 /// for n nodes and e edges of both graphs.
 pub fn lost_dependencies<'a>(

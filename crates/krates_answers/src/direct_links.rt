@@ -28,7 +28,7 @@ impl Model for DirectLinks {
 }
 
 impl DirectLinks {
-    /// For each kept crate those that depend on it directly, as `direct_dependents` tells them. The only refusal is running out
+    /// For each kept crate those that depend on it directly, as `direct_dependents` answers them. The only refusal is running out
     /// of memory. Time: O(n + e log e) for n crates and e edges of the graph.
     pub fn dependents<N, E>(alloc: Global, krates: &Krates<N, E>) -> Result<DirectLinks, AllocError>
         ensures { IfOk result (AreLinks (length (ids_of krates.now)) (IsNeededBy krates.now)) }
@@ -62,7 +62,7 @@ impl DirectLinks {
         self.lists.len()
     }
 
-    /// To which crates the one of a number leads, ascending; `None` for a number that no crate has. Time O(1).
+    /// The crates to which the crate with a number leads, ascending; `None` for a number that no crate has. Time O(1).
     pub fn of(&self, number: NodeId) -> Option<&[NodeId]>
         ensures list { option_map (λ list. list.now) result ≡ slice_get self.now number }
         ensures ascending { IfSome result (λ list. IsStrictlyIncreasing list.now) }
@@ -91,7 +91,7 @@ impl DirectLinks {
         self.lists
     }
 
-    /// The same the other way round.
+    /// The links in the other direction.
     fn reversed(&self, alloc: Global) -> Result<DirectLinks, AllocError>
         ensures { IfOk result (AreLinks (length self.now) (λ a b. IsListed self.now b a)) }
     {
@@ -103,7 +103,7 @@ impl DirectLinks {
     }
 }
 
-/// The numbers of the crates that depend directly on the one of this number.
+/// The numbers of the crates that depend directly on the one with this number.
 fn dependents_of<N, E>(
     alloc: Global,
     krates: &Krates<N, E>,

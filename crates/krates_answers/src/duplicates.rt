@@ -33,7 +33,7 @@ impl Label for Name {
 /// The names that two or more of the kept crates have, in the order of their bytes, each with its crates by number. The only
 /// refusal is running out of memory. Time O(n log n) for n nodes.
 ///
-/// A name is that of the package, which its id needn't have.
+/// A name is that of the package, which may differ from the one in its id.
 pub fn duplicates<'a>(alloc: Global, krates: &'a Krates) -> Result<Vec<Duplicate<'a>>, AllocError>
     ensures { IfOk result (λ found. AreDuplicates (crates_of krates.now) (map duplicate_view found.items)) }
 {

@@ -7,7 +7,7 @@ ghost use Rattle.krates_answers.specs.Grouped.{AreGroups, groups_in};
 use std::alloc::AllocError;
 use std::collections::BTreeMap;
 
-/// Puts an item behind those under its key: a map that has the items of a list, each under its key, then has one more, the last of
+/// Puts an item after those under its key: a map that has the items of a list, each under its key, then has one more, the last of
 /// that list. The keys are in the order of their bytes. The only refusal is running out of memory. Time O(log n) for n keys.
 pub(crate) fn put_under<'a, T: Drop>(
     key: &'a str,

@@ -1,4 +1,4 @@
-//! The kept crates, put together by a label.
+//! The kept crates, grouped by a label.
 
 ghost use Rattle.std.specs.Prelude.{◌≡◌, IfOk, map};
 ghost use Rattle.krates_cm.specs.Document.{Text};
@@ -12,7 +12,7 @@ use krates::{KrateMatch, Krates, Package};
 use std::alloc::{AllocError, Global};
 use std::collections::BTreeMap;
 
-/// A text that each package has, and by which crates are put together, as the name.
+/// A text that each package has, and by which crates are grouped, such as the name.
 pub(crate) trait Label {
     /// The text of a package.
     ghost label_of: { Package → Text };

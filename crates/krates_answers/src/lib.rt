@@ -1,4 +1,4 @@
-//! The answers to what is asked of a graph of crates, as values, each by its definition: who needs what, trees, duplicates, licences, uses,
+//! The answers to questions about a graph of crates, as values, each with its definition: who needs what, trees, duplicates, licences, uses,
 //! differences, materials, and what can't be reached.
 #![tactic(auto)]
 

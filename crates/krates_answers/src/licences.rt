@@ -1,4 +1,4 @@
-//! The kept crates by what they say of their licence.
+//! The kept crates by what they say about their licence.
 
 ghost use Rattle.std.specs.Prelude.{◌≡◌, IfOk, map};
 ghost use Rattle.krates_queries.specs.KrateNodes.{crates_of};
@@ -32,7 +32,7 @@ fn licence_of(krate: &Package) -> &str
     }
 }
 
-/// What a package states of its licence, as a label.
+/// What a package states about its licence, as a label.
 struct Stated;
 
 impl Label for Stated {

@@ -7,13 +7,13 @@ use std::alloc::{AllocError, AllocFailed, Global};
 use std::fmt;
 use strsim::osa_distance;
 
-/// How many names that come near are told.
+/// How many similar names are reported.
 const NEAR: usize = 5;
 
 /// Why a word doesn't mean one kept crate.
 #[derive(Debug, Drop)]
 pub enum NamingError {
-    /// The word is no package specification, for this reason.
+    /// The word isn't a package specification, for this reason.
     Unread {
         /// The word.
         word: String,
@@ -24,7 +24,7 @@ pub enum NamingError {
     Unknown {
         /// The word.
         word: String,
-        /// What comes near, as specifications.
+        /// What is similar, as specifications.
         near: Vec<String>,
     },
     /// Packages of the document fit, and none of them is kept.
@@ -111,7 +111,7 @@ fn id_of(alloc: Global, word: &str) -> Result<Option<Kid>, AllocError> {
     }
 }
 
-/// What a word means: a package specification, and the first numbers of the version where the word has no more of it.
+/// What a word means: a package specification, and the first numbers of the version where the word has only these.
 #[derive(Drop)]
 struct WordMeaning {
     spec: PkgSpec,
@@ -119,8 +119,8 @@ struct WordMeaning {
 }
 
 impl WordMeaning {
-    /// Whether a package has the version, as far as the word has it apart from the specification. First numbers fit no pre-release,
-    /// which has to be named whole.
+    /// Whether a package has the version, as far as the word has one outside of the specification. First numbers fit no pre-release,
+    /// which must be named in full.
     fn has_version_of(&self, pkg: &Package) -> bool {
         match &self.numbers {
             Some(numbers) => numbers.matches(&pkg.version),
@@ -139,7 +139,7 @@ fn without_numbers(word: &str) -> Option<(&str, &str)> {
     }
 }
 
-/// What a word means whose version lacks its last numbers, if it is one: they are required to be these.
+/// What a word whose version lacks its last numbers means, if it is such a word: the first numbers are required.
 fn meaning_by_numbers(alloc: Global, word: &str) -> Result<Option<WordMeaning>, AllocError> {
     let Some((named, numbers)) = without_numbers(word) else {
         return Ok(None);
@@ -183,7 +183,7 @@ fn spec_text(alloc: Global, pkg: &Package) -> Result<String, AllocError> {
     format!(in alloc; "{}@{}", pkg.name, pkg.version)
 }
 
-/// Adds that of each of these.
+/// Adds `NAME@VERSION` of each of these.
 fn push_specs(
     alloc: Global,
     packages: &[&Package],
@@ -195,7 +195,7 @@ fn push_specs(
     Ok(())
 }
 
-/// For each of these what names it alone: its name and version, or its id where another has both too.
+/// For each of these a text that fits only it: its name and version, or its id where another has both too.
 fn texts_of(alloc: Global, found: &[KrateMatch<'_, Package>]) -> Result<Vec<String>, AllocError> {
     let mut texts = Vec::new(alloc);
     for one in found {
@@ -245,7 +245,7 @@ fn package_of<'a>(packages: &'a [Package], kid: &Kid) -> Result<Option<&'a Packa
     Ok(None)
 }
 
-/// That a word means these packages, of which none is kept.
+/// The refusal that a word means these packages, none of which is kept.
 fn not_kept(alloc: Global, word: &str, others: &[&Package]) -> Result<NamingError, AllocError> {
     let mut packages = Vec::new(alloc);
     push_specs(alloc, others, &mut packages)?;
@@ -253,7 +253,7 @@ fn not_kept(alloc: Global, word: &str, others: &[&Package]) -> Result<NamingErro
     Ok(NamingError::NotKept { word, packages })
 }
 
-/// That a word fits all of these.
+/// The refusal that a word fits all of these.
 fn several(
     alloc: Global,
     word: &str,
@@ -277,8 +277,8 @@ struct FittingPackages<'a> {
 
 impl<'a> Packages<'a> {
     /// The one kept crate that a word means: by an id as cargo prints it, or else by a package specification as cargo's `--package`
-    /// takes it (Cargo Book, "Package ID Specifications"), which has to fit one kept crate alone. Its version may lack its last
-    /// numbers, as `rand@0.8`. Time O(n) for n packages; where none fits, their names are compared with the word's.
+    /// takes it (Cargo Book, "Package ID Specifications"), which must fit only one kept crate. Its version may lack its last
+    /// numbers, as in `rand@0.8`. Time O(n) for n packages; where none fits, their names are compared with the word's.
     pub fn one(&self, alloc: Global, word: &str) -> Result<KrateMatch<'a, Package>, NamingError> {
         match self.by_id(alloc, word)? {
             Some(Meant::Kept(krate)) => Ok(krate),
@@ -287,7 +287,7 @@ impl<'a> Packages<'a> {
         }
     }
 
-    /// The one package of the document that a word means, kept or not, as `one` takes words.
+    /// The one package of the document that a word means, kept or not. It takes words, and time, as `one` does.
     pub fn any(&self, alloc: Global, word: &str) -> Result<Meant<'a>, NamingError> {
         match self.by_id(alloc, word)? {
             Some(meant) => Ok(meant),
@@ -368,7 +368,7 @@ impl<'a> Packages<'a> {
         refusal.unwrap_or(NamingError::Memory)
     }
 
-    /// That no package fits a word, with what comes near.
+    /// The refusal that no package fits a word, with what is similar.
     fn unknown(
         &self,
         alloc: Global,
@@ -406,7 +406,7 @@ impl<'a> Packages<'a> {
         Ok(others)
     }
 
-    /// What comes near a specification: packages of its name, or else with a name like it; a few, kept ones first.
+    /// What is similar to a specification: packages of its name, or else with a similar name; a few, kept ones first.
     fn near(&self, alloc: Global, spec: &PkgSpec) -> Result<Vec<String>, AllocError> {
         let named = self.specs_near(alloc, spec.name.as_str(), Likeness::Same)?;
         if named.is_empty() {
@@ -416,7 +416,7 @@ impl<'a> Packages<'a> {
         }
     }
 
-    /// A few packages whose names are so like this one, kept ones first, as specifications.
+    /// A few packages whose names are this similar to this one, kept ones first, as specifications.
     fn specs_near(
         &self,
         alloc: Global,
@@ -433,7 +433,7 @@ impl<'a> Packages<'a> {
     }
 }
 
-/// How like two names are.
+/// How similar two names are.
 #[derive(Clone, Copy)]
 enum Likeness {
     /// They are equal.
@@ -443,7 +443,7 @@ enum Likeness {
 }
 
 impl Likeness {
-    /// Whether a name is so like a word.
+    /// Whether a name is this similar to a word.
     fn holds(self, alloc: Global, name: &str, word: &str) -> Result<bool, AllocError> {
         match self {
             Likeness::Same => Ok(name == word),

@@ -11,13 +11,13 @@ use std::alloc::{AllocError, Global};
 /// A line of a tree.
 #[derive(Clone, Copy, Debug)]
 pub struct TreeLine {
-    /// How far in it stands: 0 for a root.
+    /// How far it is indented: 0 for a root.
     pub depth: usize,
     /// The number of its crate.
     pub krate: NodeId,
-    /// The number of the crate below which it stands, which leads to it; none for a root.
+    /// The number of the crate below which it is, which leads to it; `None` for a root.
     pub parent: Option<NodeId>,
-    /// Whether all to which its crate leads stands below it. Otherwise that stands below an earlier line of the same crate.
+    /// Whether all to which its crate leads is below it. Otherwise that is below an earlier line of the same crate.
     pub is_opened: bool,
 }
 

@@ -1,4 +1,4 @@
-//! That a crate can't be kept, shown without trusting the search.
+//! Shows, without trusting the search, that a crate can't be kept.
 
 ghost use Rattle.std.specs.Prelude.{◌≡◌, ◌↔◌, Contains, IfErr, IfOk, IsTrue};
 ghost use Rattle.krates_cm.specs.Document.{metadata_view};
@@ -37,7 +37,7 @@ fn has_crate(facts: &[Fact], kid: &Kid) -> bool
 
 /// Whether no derivation leads to a crate, under what the builder has set: yes only where the facts, such as `Krates::facts`, are
 /// closed under the rules, which `check_closed` says, and the crate isn't among them; no exactly where it is among them. The
-/// document counts as it is, also where the builder has an index.
+/// document is used unchanged, even if the builder has an index.
 ///
 /// Where the crate isn't among them, it is refused as `check_closed` refuses the facts: as `Document`, or else as `Open`. It
 /// may instead return `Memory`. Time: that of `check_closed`.

@@ -10,7 +10,7 @@ fn number(taken: Option<Taken>) -> Option<usize> {
     taken.map(|taken| taken.number())
 }
 
-/// What an agenda of four numbers tells of puts and takes.
+/// What an agenda of four numbers answers for puts and takes.
 fn told(alloc: Global) -> Result<String, AllocError> {
     let mut agenda = Agenda::new(alloc, 4)?;
     let first_puts = [agenda.put(3), agenda.put(1), agenda.put(3)];

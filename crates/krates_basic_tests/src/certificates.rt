@@ -84,7 +84,7 @@ fn printed(alloc: Global, certificate: &Certificate) -> Result<String, AllocErro
     lines.whole()
 }
 
-/// Why a part is refused. Want of memory is handed on, as elsewhere.
+/// Why a part is refused. If memory ran out, that is returned, as elsewhere.
 fn refusal(alloc: Global, error: CertificateError) -> Result<String, AllocError> {
     if error.is_memory() {
         return Err(AllocError);
@@ -106,7 +106,7 @@ impl Question for Read {
 }
 
 const TEXTS: &[Row] = &[
-    // other keys are passed over, and of a doubled key the last value counts
+    // other keys are skipped, and of a doubled key the last value counts
     (
         r#"{"by":"me","kind":"closed","kind":"derivation","setting":["-x"],"steps":[{"rule":255,"fact":{"fact":"crate","krate":"path+file:///w/a#0.1.0"},"uses":[]},{"rule":7,"fact":{"fact":"toggled","parent":"path+file:///w/a#0.1.0","child":"path+file:///w/b#0.1.0","name":"j"},"uses":[0,0,9]}]}"#,
         "[\"-x\"]\n0 rule 255: crate path+file:///w/a#0.1.0\n1 rule 7: toggled j of path+file:///w/b#0.1.0 by path+file:///w/a#0.1.0 from 0, 0, 9\n",
@@ -158,7 +158,7 @@ const TEXTS: &[Row] = &[
         r#"{"kind":"derivation","setting":[],"steps":[{"rule":-1,"fact":{"fact":"crate","krate":"path+file:///w/a#0.1.0"},"uses":[]}]}"#,
         "wrong type at key: rule",
     ),
-    // texts that are no id
+    // texts that aren't an id
     (
         r#"{"kind":"closed","setting":[],"facts":[{"fact":"crate","krate":"a"}]}"#,
         "no package id at key: krate",
@@ -168,7 +168,7 @@ const TEXTS: &[Row] = &[
 /// The id that is read of a text, as it is written.
 struct Id;
 
-/// The text that stands for the id of a kept crate.
+/// The text that represents the id of a kept crate.
 fn id_in(alloc: Global, fact: &Fact) -> Result<String, AllocError> {
     let value = fact.to_value(alloc)?;
     let text = value.get("krate").and_then(|id| id.as_str());
@@ -216,7 +216,7 @@ const IDS: &[Row] = &[
         "git+https://h/a?branch=x%2Fy#1.0.0",
         "a 1.0.0 (git+https://h/a?branch=x/y#)",
     ),
-    // or its blank would begin the version
+    // or its space would begin the version
     (
         "git+https://h/r?tag=x%20y#a@1.0.0",
         "a 1.0.0 (git+https://h/r?tag=x y#)",

@@ -8,7 +8,7 @@ use std::alloc::{AllocError, Global};
 use std::fmt;
 use std::test::Fail;
 
-/// What is printed of each, with a line feed behind it.
+/// What is printed of each, with a line feed after it.
 fn lines_of<T: fmt::Display>(alloc: Global, all: &[T]) -> Result<String, AllocError> {
     let mut lines = Text::new(alloc);
     for it in all {

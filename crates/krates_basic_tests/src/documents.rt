@@ -27,7 +27,7 @@ const READ: &[Row] = &[(
     r#"a needs [Dependency { name: "b", source: None, req: VersionReq { comparators: [] }, kind: Development, optional: false, uses_default_features: false, features: [], target: None, rename: None, registry: None, path: None }]; the other is path+file:///w/b#0.1.0; 2 nodes, root None"#,
 )];
 
-/// Texts that are no document, and why.
+/// Texts that aren't a document, and why.
 const REFUSED: &[Row] = &[
     ("", "no JSON"),
     ("hello", "no JSON"),
@@ -43,7 +43,7 @@ const REFUSED: &[Row] = &[
     ),
 ];
 
-/// What stands in a document of two packages and a graph.
+/// What is in a document of two packages and a graph.
 fn summary(alloc: Global, metadata: &Metadata) -> Result<String, AllocError> {
     let ([one, other], Some(graph)) = (metadata.packages.as_slice(), &metadata.resolve) else {
         return String::from_str(alloc, "not two packages and a graph");
@@ -58,7 +58,7 @@ fn summary(alloc: Global, metadata: &Metadata) -> Result<String, AllocError> {
     )
 }
 
-/// Why nothing is read: the kind of the error, and what it prints. Of a text that is no JSON the library says why, in words
+/// Why nothing is read: the kind of the error, and what it prints. Of a text that isn't JSON the library says why, in words
 /// of its own, so only the words before them are looked at.
 fn refusal(alloc: Global, error: &Error) -> Result<String, AllocError> {
     let printed = format!(in alloc; "{error}")?;

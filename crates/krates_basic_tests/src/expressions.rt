@@ -7,7 +7,7 @@ use krates_text::target::Target;
 use std::alloc::{AllocError, Global};
 use std::test::Fail;
 
-/// Where an expression is asked, a target by its triple and behind a plus sign the one feature that is enabled there; the
+/// Where an expression is asked, a target by its triple and after a plus sign the one feature that is enabled there; the
 /// expression, and its value. Of the target `x` nothing is known.
 const VALUES: &[Row] = &[
     (
@@ -63,7 +63,7 @@ const SYNTAX: &str = "bad cfg expression";
 /// The refusal of one that nests too deep.
 const TOO_DEEP: &str = "cfg expression too deep";
 
-/// An expression, and how many words and pairs it asks for.
+/// An expression, and how many words and pairs it has.
 const COUNTS: &[Row] = &[
     (r#"cfg(all(unix, true, target_os = "linux"))"#, "2"),
     ("cfg( unix ) ", "1"),
@@ -98,7 +98,7 @@ const OUTSIDE: &[Row] = &[
     ("cfg(\u{e9})", SYNTAX),
 ];
 
-/// How many forms stand in one another, what stands in the innermost, and what is counted.
+/// How many forms are nested, what is in the innermost, and what is counted.
 const NESTED: &[Row] = &[("127 a", "1"), ("128 ", TOO_DEEP), ("100000 ", TOO_DEEP)];
 
 /// How many forms are opened, of which none is closed.
@@ -139,7 +139,7 @@ fn value_at(alloc: Global, text: &str, place: &str) -> Result<bool, Fail> {
     Ok(value_for(alloc, text, &target, features.as_slice())?)
 }
 
-/// What an expression asks for, counted, or why a text isn't one.
+/// The words and pairs of an expression, counted, or why a text isn't one.
 struct Counted;
 
 impl Question for Counted {
@@ -165,7 +165,7 @@ fn nested(alloc: Global, times: usize, inner: &str) -> Result<String, AllocError
     format!(in alloc; "{opened}{inner}{closed})")
 }
 
-/// What an expression of nested forms asks for.
+/// The words and pairs of an expression of nested forms, counted.
 struct FormsInOneAnother;
 
 impl Question for FormsInOneAnother {

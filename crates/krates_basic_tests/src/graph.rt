@@ -10,7 +10,7 @@ use std::test::Fail;
 /// and the weight.
 const JOINED: &[(u32, u32, u8)] = &[(0, 1, 10), (1, 0, 11), (0, 1, 12), (1, 1, 13), (2, 1, 14)];
 
-/// A node of a graph and the direction of its edges, and what is told of these: their numbers, and each edge with its ends and its
+/// A node of a graph and the direction of its edges, and what is known of these: their numbers, and each edge with its ends and its
 /// weight. Here the graph is that of the joined nodes.
 const EDGES: &[Row] = &[
     (
@@ -128,7 +128,7 @@ fn graph_named(alloc: Global, name: &str) -> Result<Graph<char, u8>, Fail> {
     }
 }
 
-/// What is told of a node of a graph and a direction, `out` or `in`.
+/// The edges of a node of a graph in a direction, `out` or `in`.
 struct Edges;
 
 impl Question for Edges {
@@ -145,7 +145,7 @@ impl Question for Edges {
     }
 }
 
-/// What comes of two nodes and two edges in a graph of these limits.
+/// The result of adding two nodes and two edges in a graph of these limits.
 fn told_of_two(alloc: Global, graph: &mut Graph<char, char>) -> Result<String, Fail> {
     let node = graph.add_node('x')?;
     let no_node = graph.add_node('y');
@@ -207,7 +207,7 @@ fn edges_of_a_node_come_by_number_and_refusals_are_printed(rt: HostRuntime) -> R
     hold::<Printed>(rt.alloc(), TEXTS)
 }
 
-/// Whether a node and an edge of it are added under the next numbers, or the one that isn't is given back and changes nothing.
+/// Whether a node and an edge of it are added under the next numbers, or the one that isn't is returned and changes nothing.
 fn grows_or_stays(graph: &mut Graph<u32, u32>, value: u32) -> bool {
     let nodes = graph.node_count();
     let edges = graph.edge_count();

@@ -154,7 +154,7 @@ const OPAQUE: &[Row] = &[
     ("a 0.1.0 ()", "opaque, as written: a | 0.1.0 | "),
 ];
 
-/// Texts that are no ids, and why.
+/// Texts that aren't ids, and why.
 const REFUSED: &[Row] = &[
     ("a 0.1.0 (", "bad opaque id: a 0.1.0 ("),
     ("a 0.1.0", "bad opaque id: a 0.1.0"),
@@ -179,10 +179,10 @@ const REFUSED: &[Row] = &[
     ),
 ];
 
-/// What is told of two ids that are equal.
+/// How two ids compare that are equal.
 const EQUAL: &str = "Equal, Some(Equal), equal with equal hashes";
 
-/// What is told of two ids of which the first is less.
+/// How two ids compare of which the first is less.
 const LESS: &str = "Less, Some(Less), less";
 
 /// Two ids with equal parts: of one package at two commits, which don't count, and in the stable form.
@@ -212,7 +212,7 @@ const ORDERED: &[Row] = &[
     ("path+file:///w/e#d@0.10.0 | path+file:///w/d#d@0.9.0", LESS),
 ];
 
-/// Ids by which is looked in a map that has the first under 7.
+/// Ids that are looked up in a map that has the first under 7.
 const KEYS: &[Row] = &[
     ("a 0.1.0 (git+https://x.org/a#1)", "Some(7)"),
     ("git+https://x.org/a#0.1.0", "Some(7)"),
@@ -243,7 +243,7 @@ fn described(alloc: Global, kid: &Kid, text: &str) -> Result<String, AllocError>
     format!(in alloc; "{form}, {repr}: {name} | {version} | {source}")
 }
 
-/// The description of the id that a text is, or why it is none.
+/// The description of the id that a text is, or why it isn't one.
 struct Read;
 
 impl Question for Read {
@@ -295,7 +295,7 @@ fn compared_ids(alloc: Global, left: &Kid, right: &Kid) -> Result<String, AllocE
     format!(in alloc; "{order:?}, {partial:?}, {relation}")
 }
 
-/// How two ids compare, which a bar divides, and whether they hash alike where they are equal.
+/// How two ids compare, which a bar separates, and whether they hash alike where they are equal.
 struct Compared;
 
 impl Question for Compared {

@@ -24,7 +24,7 @@ const TEXTS: &[Row] = &[
     ("1e308", "1e+308"),
     ("1e309", "not read"),
     ("-1e309", "not read"),
-    // What isn't JSON, or goes on behind its value.
+    // What isn't JSON, or continues after its value.
     ("", "not read"),
     ("[1", "not read"),
     ("1 2", "not read"),
@@ -80,7 +80,7 @@ fn has_same_parts<J: JsonRef, K: JsonRef>(alloc: Global, a: J, b: K) -> Result<b
     )
 }
 
-/// Compares what two values answer that are the same.
+/// Compares what two equal values answer.
 fn same_parts<J: JsonRef, K: JsonRef>(alloc: Global, a: J, b: K, text: &str) -> Result<(), Fail> {
     if is_alike(a, b) && has_same_parts(alloc, a, b)? {
         return Ok(());
@@ -108,7 +108,7 @@ fn push_member<J: JsonRef>(
     write!(lines, "{name}{printed}\n")
 }
 
-/// The members of an object, a line each; empty where it has none.
+/// The members of an object, one per line; empty where it has none.
 fn names<J: JsonRef>(alloc: Global, value: J) -> Result<String, AllocError> {
     let mut lines = String::new(alloc);
     let Some(members) = value.members(alloc)? else {
@@ -120,14 +120,14 @@ fn names<J: JsonRef>(alloc: Global, value: J) -> Result<String, AllocError> {
     Ok(lines)
 }
 
-/// Arrays that nest so deep.
+/// Arrays that nest this deep.
 fn arrays(alloc: Global, depth: usize) -> Result<String, AllocError> {
     let opened = "[".repeat(alloc, depth)?;
     let closed = "]".repeat(alloc, depth)?;
     format!(in alloc; "{opened}{closed}")
 }
 
-/// Whether arrays that nest so deep are read.
+/// Whether arrays that nest this deep are read.
 struct Nested;
 
 impl Question for Nested {

@@ -1,7 +1,7 @@
 //! Worked examples of texts, JSON among them, the graph, ids, metadata and printed steps: what the lowest crates,
 //! and those of the document, answer where the answer is known.
 //!
-//! They stand apart from the crates that they test, since a crate with tests is proved twice. What is expected stands in
+//! They are separate from the crates that they test, since a crate with tests is proved twice. What is expected is in
 //! constants, which cost no proof: a row in the body of a test costs as much as a small function.
 #![tactic(auto)]
 

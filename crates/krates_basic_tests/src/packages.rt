@@ -13,7 +13,7 @@ pub(crate) fn read<T: FromValue>(alloc: Global, json: &str) -> Result<T, Fail> {
     Ok(T::from_value(alloc, &value)?)
 }
 
-/// The answer to a line with what stands around it.
+/// The answer to a line with what surrounds it.
 pub(crate) fn told_within<Q: Question>(
     alloc: Global,
     around: (&str, &str),
@@ -24,14 +24,14 @@ pub(crate) fn told_within<Q: Question>(
     Q::told(alloc, json.as_str())
 }
 
-/// Compares the answer to one line, with what stands around it, with the one that is known.
+/// Compares the answer to one line, with what surrounds it, with the one that is known.
 fn hold_row_within<Q: Question>(alloc: Global, around: (&str, &str), row: Row) -> Result<(), Fail> {
     let (line, answer) = row;
     let told = told_within::<Q>(alloc, around, line)?;
     compare(line, told.as_str(), answer)
 }
 
-/// Compares the answer to each line, with what stands around it, with the one that is known; names the first row where they differ.
+/// Compares the answer to each line, with what surrounds it, with the one that is known; names the first row where they differ.
 pub(crate) fn hold_within<Q: Question>(
     alloc: Global,
     around: (&str, &str),

@@ -7,7 +7,7 @@ use krates_text::passing::passes;
 use std::alloc::Global;
 use std::test::Fail;
 
-/// Targets, each with the feature that is enabled there behind a plus sign, and behind a bar a target text, if there is one; and whether
+/// Targets, each with the feature that is enabled there after a plus sign, and after a bar a target text, if there is one; and whether
 /// that passes there.
 const PASSING: &[Row] = &[
     // where there are no targets
@@ -18,7 +18,7 @@ const PASSING: &[Row] = &[
     (" | cfg(not(any()))", "true"),
     (" | cfg(foo)", "true"),
     (" | cfg(unix", "true"),
-    // a blank before the bracket makes it a triple
+    // a space before the bracket makes it a triple
     (" | cfg (unix)", "true"),
     (r#" | cfg(all(windows, target_env = "musl"))"#, "true"),
     // at two targets, of which each is one half of what no single target is
@@ -62,7 +62,7 @@ const PASSING: &[Row] = &[
         "true",
     ),
     ("x86_64-unknown-linux-gnu | cfg(target_has_atomic)", "false"),
-    // at a target of which nothing is known
+    // at a target about which nothing is known
     ("x | x", "true"),
     ("x | y", "false"),
     ("x | cfg(unix)", "false"),

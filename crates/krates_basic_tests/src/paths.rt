@@ -6,7 +6,7 @@ use krates_text::path::{components, ends_with, join, parent, same};
 use std::alloc::Global;
 use std::test::Fail;
 
-/// A path and its components, in order, each behind a bar.
+/// A path and its components, in order, each after a bar.
 const COMPONENTS: &[Row] = &[
     ("/D:/a//krates/./tests/", "|/|D:|a|krates|tests"),
     ("./a/.././.b", "|.|a|..|.b"),

@@ -14,7 +14,7 @@ use std::fmt::Debug;
 use std::marker::PhantomData;
 use std::test::Fail;
 
-/// What stands before the rows and behind them: the packages `a` in `/w/a` and `b` in `/w/b`, and a member `a`.
+/// What comes before and after the rows: the packages `a` in `/w/a` and `b` in `/w/b`, and a member `a`.
 const DOCUMENT: (&str, &str) = (
     r#"{"packages":[{"name":"a","version":"0.1.0","id":"A","dependencies":[],"targets":[],"features":{},"manifest_path":"/w/a/Cargo.toml"},{"name":"b","version":"0.1.0","id":"B","dependencies":[],"targets":[],"features":{},"manifest_path":"/w/./b//Cargo.toml"}],"workspace_members":["A"],"target_directory":"/t","#,
     "}",
@@ -69,13 +69,13 @@ const FILES: &[Row] = &[
     (r#""manifest_path":"/","readme":"R""#, r#"None, Some("/R")"#),
 ];
 
-/// What stands around the rows above.
+/// What surrounds the rows above.
 const PACKAGE: (&str, &str) = (
     r#"{"name":"a","version":"0.1.0","id":"A","dependencies":[],"targets":[],"features":{},"#,
     "}",
 );
 
-/// What stands around the kinds of a target.
+/// What surrounds the kinds of a target.
 const TARGET: (&str, &str) = (r#"{"name":"t","src_path":"s","kind":["#, "]}");
 
 /// The kinds of a target, and which tests say yes.
@@ -114,7 +114,7 @@ const SOURCES: &[Row] = &[
     (r#""git+path+x""#, "Some(Git), local: false"),
     (r#""path+git+x""#, "Some(Path), local: true"),
     (r#""x+path+y""#, "Some(Other), local: false"),
-    // the word is whole, and in small letters, and may have nothing behind it
+    // the word is whole, and in small letters, and may have nothing after it
     (r#""gitx+https://h""#, "Some(Other), local: false"),
     (r#""gi+https://h""#, "Some(Other), local: false"),
     (r#"" path+file:///w/x""#, "Some(Other), local: false"),

@@ -150,7 +150,7 @@ const TARGETS: &[Row] = &[
     ),
 ];
 
-/// JSON that is no target, and why.
+/// JSON that isn't a target, and why.
 const TARGETS_REFUSED: &[Row] = &[
     (
         r#"{"name":"t","kind":["library"],"src_path":"s"}"#,
@@ -188,7 +188,7 @@ const EVERY_KEY: &[Row] = &[(
     r#"Package { name: "a", version: Version { major: 1, minor: 2, patch: 3, pre: Prerelease("rc.1"), build: BuildMetadata("b") }, authors: ["A"], id: PackageId { repr: "i" }, source: Some(Source { repr: "s" }), description: Some("d"), dependencies: [], license: Some("MIT"), license_file: Some("L"), targets: [], features: {"x": ["dep:b", "y"], "y": []}, manifest_path: "/w/a/Cargo.toml", categories: ["c"], keywords: ["k"], readme: Some("R"), repository: Some("p"), homepage: Some("h"), documentation: Some("o"), edition: E2024, metadata: Object {"k": Array [Number(1)]}, links: Some("n"), publish: Some(["r"]), default_run: Some("u"), rust_version: Some(Version { major: 1, minor: 70, patch: 0 }) }"#,
 )];
 
-/// The keys that a package has to have, around a further one, which may stand there twice: the last counts.
+/// The keys that a package must have, around a further one, which may occur twice: the last counts.
 const PACKAGE: (&str, &str) = (
     r#"{"name":"a","version":"1.0.0","id":"i","dependencies":[],"targets":[],"features":{},"manifest_path":"m","#,
     "}",

@@ -1,5 +1,5 @@
-//! What each refusal prints. Those of cfg expressions, ids, specifications and JSON values stand beside the texts that are
-//! refused so.
+//! What each refusal prints. Those of cfg expressions, ids, specifications and JSON values are beside the texts that are
+//! refused with them.
 
 use crate::ids::kid;
 use krates_cm::{Error as MetadataError, ReadError, UnknownName};
@@ -89,7 +89,7 @@ fn of_build(alloc: Global, name: &str) -> Result<Error, Fail> {
     }
 }
 
-/// The refusal of bytes that are no text.
+/// The refusal of bytes that aren't a text.
 fn not_utf8(is_of_errors: bool) -> MetadataError {
     match str::from_utf8(b"\xff") {
         Err(error) if is_of_errors => MetadataError::ErrUtf8(error),
@@ -133,7 +133,7 @@ impl Question for OfMetadata {
     }
 }
 
-/// What the refusal prints up to the first colon and the blank behind that, where it has one.
+/// What the refusal prints up to the first colon and the space after that, where it has one.
 struct Begun;
 
 impl Question for Begun {

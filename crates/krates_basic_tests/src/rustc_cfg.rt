@@ -72,24 +72,24 @@ const OTHER_LINES: &[Row] = &[
         r#"none"#,
         r#"TargetInfo { triple: "none", arch: "", os: "", env: "", abi: "", vendor: "", pointer_width: "", endian: "", panic: "", families: [], atomics: [] } []"#,
     ),
-    // the last line of a key counts, also where it is empty; of families and features each
+    // the last line of a key counts, even where it is empty; of families and features each
     (
         r#"t;target_os="a";target_os="b";target_env="c";target_env="";target_family="unix";target_family="wasm";target_family="unix""#,
         r#"TargetInfo { triple: "t", arch: "", os: "b", env: "", abi: "", vendor: "", pointer_width: "", endian: "", panic: "", families: ["unix", "wasm", "unix"], atomics: [] } []"#,
     ),
-    // lines of another form say nothing: without quotes, with blanks, with something behind, or with more before the key
+    // lines of another form say nothing: without quotes, with spaces, with something after, or with more before the key
     (
         r#"t;target_os=linux;target_os = "linux"; target_os="linux";target_os="linux" ;xtarget_os="linux";target_os;target_os=";target_os_x="linux""#,
         r#"TargetInfo { triple: "t", arch: "", os: "", env: "", abi: "", vendor: "", pointer_width: "", endian: "", panic: "", families: [], atomics: [] } []"#,
     ),
-    // what stands between the first quote and the last is the value
+    // what is between the first quote and the last is the value
     (
         r#"t;target_os="a"b="c""#,
         r#"TargetInfo { triple: "t", arch: "", os: "a\"b=\"c", env: "", abi: "", vendor: "", pointer_width: "", endian: "", panic: "", families: [], atomics: [] } []"#,
     ),
 ];
 
-/// The target of a line: its triple, and behind each `;` a line of rustc's.
+/// The target of a line: its triple, and after each `;` a line of rustc's.
 fn target_of(alloc: Global, line: &str) -> Result<(TargetInfo, Vec<String>), AllocError> {
     let (triple, lines) = line.split_once(";").unwrap_or((line, ""));
     let text = lines.replace(alloc, ";", "\n")?;
@@ -113,7 +113,7 @@ fn reads_what_rustc_prints_and_other_lines(rt: HostRuntime) -> Result<(), Fail> 
     hold::<Described>(rt.alloc(), OTHER_LINES)
 }
 
-/// A description with its atomics in order, but for `128`, which the table doesn't have.
+/// A description with its atomics in order, except `128`, which the table doesn't have.
 fn in_fixed_order(alloc: Global, mut info: TargetInfo) -> Result<String, AllocError> {
     info.atomics.retain(|width| width.as_str() != "128");
     info.atomics.sort()?;

@@ -1,4 +1,4 @@
-//! Package specifications: what they are read as, why a text is none, and which packages they match.
+//! Package specifications: what they are read as, why a text isn't one, and which packages they match.
 
 use crate::packages::package;
 use krates_cm::Package;
@@ -102,7 +102,7 @@ const NO_VERSION: &str = "package spec was invalid: failed to parse version";
 
 const ENDS_WITH_SLASH: &str = "package spec was invalid: url ends with /";
 
-/// Texts that are no specification, and why.
+/// Texts that aren't a specification, and why.
 const REFUSED: &[Row] = &[
     ("https://crates.io#1.2.3", NO_PATH),
     ("https://crates.io", NO_PATH),
@@ -185,7 +185,7 @@ fn described(alloc: Global, spec: &PkgSpec) -> Result<String, AllocError> {
     }
 }
 
-/// The specification that a text is, or why it is none.
+/// The specification that a text is, or why it isn't one.
 struct Read;
 
 impl Question for Read {

@@ -38,7 +38,7 @@ const DESCRIBED: &[Row] = &[
     ("x86_64", "no row"),
 ];
 
-/// Texts that are printed as they are: a triple, and two of which nothing is known.
+/// Texts that are printed as they are: a triple, and two about which nothing is known.
 const PRINTED: &[Row] = &[
     ("wasm32-unknown-unknown", "wasm32-unknown-unknown"),
     ("x", "x"),

@@ -47,7 +47,7 @@ const PACKAGES: &[Row] = &[
     ),
 ];
 
-/// What stands around the version of Rust that a package needs, as it is read and as it is written.
+/// What surrounds the version of Rust that a package needs, as it is read and as it is written.
 const BEFORE: &str =
     r#"{"name":"a","version":"1.0.0","id":"i","dependencies":[],"targets":[],"features":{},"manifest_path":"m","rust_version":"#;
 
@@ -115,7 +115,7 @@ impl<T: FromValue + ToValue + Debug> Question for Written<T> {
     }
 }
 
-/// What is written between all else that is written of a package, or the whole where other things are written.
+/// What is written between everything else that is written for a package, or the whole where other things are written.
 fn between(written: &str) -> &str {
     match written.strip_prefix(WRITTEN_BEFORE) {
         Some(rest) => rest.strip_suffix(WRITTEN_BEHIND).unwrap_or(""),
@@ -123,7 +123,7 @@ fn between(written: &str) -> &str {
     }
 }
 
-/// What is written for the version of Rust that a package needs, between all else that is written of the package.
+/// What is written for the version of Rust that a package needs, between everything else that is written for the package.
 struct RustVersion;
 
 impl Question for RustVersion {

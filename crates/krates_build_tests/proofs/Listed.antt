@@ -68,7 +68,7 @@ planned_at (Feature krate_index name ∷ nodes) n id first e =
     let none : slice_get empty n ≡ Some id = subst (λ (ids : List Identity). slice_get ids n ≡ Some id) first e in
     absurd cc
 
--- the outline has a crate that stands among the nodes, under its node's number
+-- the outline has a crate that is among the nodes, under its node's number
 stands_drawn : {N : Type 0} (nodes : List (Node N)) (t : Outline) → CratesFirst nodes → map planned_node nodes ≡ planned_nodes t
     → ((p : ℕ) (id : Id) (mapping : List (Option ℕ)) → slice_get (planned_nodes t) p ≡ Some (PlannedCrate id mapping) → IsNumbered t id p)
     → (i : Id) (n : ℕ) → StandsAt (crate_ids nodes) i n → IsNumbered t i n
@@ -76,7 +76,7 @@ stands_drawn nodes t first same numbered i n w =
     let s = planned_at nodes n w.there first w.at in
     subst (λ id. IsNumbered t id n) w.same (numbered n (id_of w.there) s.mapping (ap (λ ns. slice_get ns n) (sym same) ∙ s.at))
 
--- a kept id stands at a place
+-- a kept id is at a place
 place_of_id : (ids : List Identity) (i : Id) → Member (map id_of ids) i → (n : ℕ) × StandsAt ids i n
 place_of_id [] i m = absurd m
 place_of_id (x ∷ ids) i (inl e) = (zero, record { there = x; at = refl; same = e })

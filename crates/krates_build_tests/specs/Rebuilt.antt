@@ -35,7 +35,7 @@ pub record IgnoresToo (kind : DepKind) (first second : SettingModel) : Type 0 wh
   pub more : IgnoresMore first.ignored ignored kind scopes.All
   pub rest : second ≡ record first { ignored = ignored }
 
--- The first graph is kept of p by a build under s, and the second of q by a build that ignores the kind too. Both look at the document
+-- The first graph is what a build under s keeps of p, and the second what a build that ignores the kind too keeps of q. Both look at the document
 -- m: at itself, or at what one answer of an index corrects it to.
 pub record AreRebuilt {N M : Type 0} (answer : Option IndexAnswer) (m p q : Metadata) (s : SettingModel) (kind : DepKind) (k : KeptCrates N Edge) (j : KeptCrates M Edge) : Type 0 where
   pub setting : SettingModel

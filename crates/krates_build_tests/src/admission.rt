@@ -15,7 +15,7 @@ fn outcome(alloc: Global, metadata: &Metadata) -> Result<String, AllocError> {
     }
 }
 
-/// What admission answers to the document of a line.
+/// What admission answers for the document of a line.
 struct Admitted;
 
 impl Told for Admitted {
@@ -24,7 +24,7 @@ impl Told for Admitted {
     }
 }
 
-// In each of these documents the default members, and the `dependencies` of each node, have a text that is no id: nothing looks
+// In each of these documents the default members, and the `dependencies` of each node, have a text that isn't an id: nothing looks
 // at them.
 const ADMITTED_DOCUMENTS: &[Row] = &[
     ("a|b / nodes a b / members a a", "2 packages"),
@@ -49,7 +49,7 @@ const INVALID: &[Row] = &[
 ];
 
 const DOUBLED: &[Row] = &[
-    // also where the root is lost, since it has no node
+    // even where the root is lost, since it has no node
     ("a|a / nodes", "doubled id: path+file:///w/a#0.1.0"),
     ("a|b / nodes a|a", "doubled id: path+file:///w/a#0.1.0"),
     (

@@ -23,7 +23,7 @@ fn target_text(alloc: Global, text: &str) -> Result<Option<String>, Fail> {
     Ok(Some(String::from_str(alloc, text)?))
 }
 
-/// An edge that is asked for.
+/// An edge that a question is about.
 #[derive(Drop)]
 pub(crate) struct Edge {
     pub(crate) parent: Kid,
@@ -165,7 +165,7 @@ const REFERENTS: &[Row] = &[
     ("referent m z", "z"),
     ("referent m b-c", "b-c"),
     ("referent m q", "none"),
-    // a crate without dependencies, and one that isn't of the document
+    // a crate without dependencies, and one that isn't in the document
     ("referent n z", "none"),
     ("referent q z", "none"),
     // what is meant under a setting
@@ -194,7 +194,7 @@ const DECLARED_EDGES: &[Row] = &[
     ("declared m b-c normal cfg(windows)", "Some(3)"),
     // declared for this kind, but not listed
     ("declared m z normal", "None"),
-    // for another target, the other way round, and of a crate that isn't of the document
+    // for another target, the other way round, and of a crate that isn't in the document
     ("declared m b-c normal", "None"),
     ("declared z m build", "None"),
     ("declared q m build", "None"),
@@ -219,13 +219,13 @@ const OPEN_EDGES: &[Row] = &[
     ),
 ];
 
-/// Adds the name of a package, behind a minus sign where it is excluded.
+/// Adds the name of a package, after a minus sign where it is excluded.
 fn push_package(text: &mut Text, setting: &Setting, pkg: &Package) {
     text.push_str(if setting.excludes(pkg) { "-" } else { "+" });
     text.push_str(pkg.name.as_str())
 }
 
-/// The names of packages, each behind a minus sign where it is excluded.
+/// The names of packages, each after a minus sign where it is excluded.
 fn signed(alloc: Global, setting: &Setting, packages: &[Package]) -> Result<String, AllocError> {
     let mut told = Text::new(alloc);
     for pkg in packages {

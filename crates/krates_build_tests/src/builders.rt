@@ -25,7 +25,7 @@ impl Sections for Builder {
     }
 }
 
-/// What is built of the document of a line under what its sections set.
+/// What is built from the document of a line under what its sections set.
 pub(crate) fn krates_of<N: FromPackage + Drop>(
     alloc: Global,
     line: &str,

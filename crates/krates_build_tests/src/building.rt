@@ -13,7 +13,7 @@ use krates_samples::text::Text;
 use std::alloc::Global;
 use std::test::Fail;
 
-/// Adds a package behind a mark: its name, and its word or id where that is another.
+/// Adds a package after a mark: its name, and its word or id where that is another.
 pub(crate) fn push_package(text: &mut Text, mark: &str, pkg: &Package) {
     push_marked(text, mark, pkg.name.as_str());
     let word = word_of(pkg.id.repr.as_str());
@@ -22,7 +22,7 @@ pub(crate) fn push_package(text: &mut Text, mark: &str, pkg: &Package) {
     }
 }
 
-/// The packages that aren't kept, each behind a minus sign.
+/// The packages that aren't kept, each after a minus sign.
 #[derive(Drop)]
 pub(crate) struct Reported {
     text: Text,
@@ -45,7 +45,7 @@ impl OnFilter for Reported {
     }
 }
 
-/// Adds the kept crates in order, each behind a plus sign.
+/// Adds the kept crates in order, each after a plus sign.
 pub(crate) fn push_krates(text: &mut Text, krates: &Krates) {
     for krate in krates.krates() {
         push_package(text, "+", krate);
@@ -96,11 +96,11 @@ const BUILT: &[Row] = &[
     ("a b|b|c", "+a+b-c"),
     // in the order of the ids, whatever the order of the document
     ("d|c|b|a b / nodes c|b|a b|d", "+a+b-c-d"),
-    // a cycle, a member that stands twice, and a node that no crate needs and that has no package
+    // a cycle, a member that is listed twice, and a node that no crate needs and that has no package
     ("a b|b a", "+a+b"),
     ("a b|b / members a a", "+a+b"),
     ("a b|b / nodes a b|b|c", "+a+b"),
-    // an optional edge isn't kept, also where a weak reference alone leads over it
+    // an optional edge isn't kept, even where a weak reference alone leads over it
     ("a b?|b", "+a-b"),
     ("a b?;b=dep:b w=b?/j|b;j= / nodes a b;w|b;j", "+a-b"),
     // the root, where there is one, and not the members
@@ -116,7 +116,7 @@ const BUILT: &[Row] = &[
     ),
     ("a|b / members", "no root crates available"),
     ("a|a / nodes a", "doubled id: path+file:///w/a#0.1.0"),
-    // the first class that is true counts: a member that is no id, or a lost root, comes behind a missing graph or a doubled id
+    // the first class that is true counts: a member that isn't an id, or a lost root, comes after a missing graph or a doubled id
     (
         "a|a / members x&id=x / no graph",
         "no resolution graph was provided",

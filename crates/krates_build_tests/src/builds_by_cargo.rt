@@ -1,4 +1,4 @@
-//! Builds over the document that a stand-in for cargo writes.
+//! Builds from the document that a substitute for cargo writes.
 
 ghost use Rattle.std.specs.Prelude.{◌≡◌, ⊤};
 
@@ -24,7 +24,7 @@ impl OnFilter for Count {
     }
 }
 
-/// The last word of a run of cargo, with `/ ignore dev` behind it where the build ignores what is needed for tests, and how the answer
+/// The last word of a run of cargo, with `/ ignore dev` after it where the build ignores what is needed for tests, and how the answer
 /// of that build begins, with how many packages the filter was called. Where it is ignored, a build that isn't refused reports one.
 const BUILDS: &[Row] = &[
     ("x", "0 reported, 2 kept"),
@@ -77,7 +77,7 @@ fn told(rt: &HostRuntime, command: MetadataCommand, setting: &str) -> Result<Str
     Ok(outcome(rt.alloc(), count.packages, &built)?)
 }
 
-/// The answer of a build by a command with this last word, under the setting behind it.
+/// The answer of a build by a command with this last word, under the setting after it.
 struct Built;
 
 impl Question for Built {

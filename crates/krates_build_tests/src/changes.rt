@@ -10,7 +10,7 @@ use krates_samples::text::Text;
 use std::alloc::Global;
 use std::test::Fail;
 
-/// What is changed of a step.
+/// What is changed in a step.
 #[derive(Clone, Copy)]
 enum Change {
     /// It has the number of the next rule.
@@ -48,7 +48,7 @@ struct Words<'a> {
     more: &'a str,
 }
 
-/// The words of a step after the change; where it uses itself, its own number stands before what it uses.
+/// The words of a step after the change; where it uses itself, its own number comes before what it uses.
 fn changed(step: &str, change: Change) -> Result<Words<'_>, Fail> {
     let (rule, rest) = step.trim().split_once(' ').unwrap_or((step, ""));
     let (fact, uses) = rest.split_once(' ').unwrap_or((rest, ""));

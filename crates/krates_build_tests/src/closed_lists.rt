@@ -43,7 +43,7 @@ fn push_without_each(all: &mut String, given: &Given<'_, Setting>, text: &str) -
     Ok(())
 }
 
-/// What it answers of the whole list, and behind it what it answers without each of its facts.
+/// What it answers of the whole list, and after it what it answers without each of its facts.
 struct EachNeeded;
 
 impl Ask for EachNeeded {
@@ -143,7 +143,7 @@ pub(crate) const ADDED: &[Row] = &[
     ("a b|b|c a / facts +a a>b +b", "yes"),
     ("a b|b|c a / facts +a a>b +b +c", "open"),
     ("a b|b|c a / facts +a a>b +b +c c>a", "yes"),
-    // facts that can't be derived: what an edge of an ignored kind declares is asked for too
+    // facts that can't be derived: what an edge of an ignored kind declares is required too
     ("a b&dev&with=y|b;y= / ignore dev / facts +a", "yes"),
     (
         "a b&dev&with=y|b;y= / ignore dev / facts +a a>b:dev",
@@ -188,7 +188,7 @@ fn push_with_each(all: &mut String, given: &Given<'_, Setting>, text: &str) -> R
     Ok(())
 }
 
-/// What it answers of the list, and behind it what it answers with each fact that drags others.
+/// What it answers of the list, and after it what it answers with each fact that drags others.
 struct Dragged;
 
 impl Ask for Dragged {
@@ -258,7 +258,7 @@ pub(crate) const LOST: &[Row] = &[
     ("a b|b / nodes a b / facts +a a>b +b", "open"),
     ("a|b / nodes a b|b / facts +a a>b +b", "open"),
     ("a b|b / nodes / facts +a", "open"),
-    // but for the default feature by use, and what is excluded
+    // except the default feature by use, and what is excluded
     ("a b|b / nodes a b / without b / facts +a", "yes"),
     ("a b|b / without a / facts", "yes"),
     // the document isn't admitted

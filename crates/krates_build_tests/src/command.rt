@@ -203,13 +203,13 @@ fn barred_copy(alloc: Global, command: &MetadataCommand) -> Result<String, Alloc
     barred(alloc, &copy)
 }
 
-/// What is told of a command.
+/// What is reported of a command.
 trait ToldOfCommand {
-    /// What is told of this one.
+    /// What is reported of this one.
     fn told_of_command(alloc: Global, command: &MetadataCommand) -> Result<String, Fail>;
 }
 
-/// Sets what each word says, and adds the refusals of setters and then what is told of the command.
+/// Sets what each word says, and adds the refusals of setters and then what is reported of the command.
 fn push_told<T: ToldOfCommand>(
     told: &mut Text,
     alloc: Global,
@@ -221,7 +221,7 @@ fn push_told<T: ToldOfCommand>(
     Ok(())
 }
 
-/// Asks what is told of a command with these settings, after the refusals of its setters.
+/// Asks what is reported of a command with these settings, after the refusals of its setters.
 struct OfCommand<T: ToldOfCommand> {
     of: PhantomData<T>,
 }
@@ -298,7 +298,7 @@ fn ask_all(alloc: Global, cmd: &mut Cmd, line: &str) -> Result<(), AllocError> {
     Ok(())
 }
 
-/// Adds the variables that a process gets, each with its value and a text behind it.
+/// Adds the variables that a process gets, each with its value and a text after it.
 pub(crate) fn push_variables(text: &mut Text, process: &Command, behind: &str) {
     for (name, value) in process.get_envs() {
         write!(text, "{name}={}{behind}", value.unwrap_or(""));

@@ -125,7 +125,7 @@ pub(crate) const STRONG: &[Row] = &[
     ("a;x=nope/y / steps 1 a/x; 2 +a 0; 3 a/y 0", "step 2"),
     ("a;x=y y= / nodes a;y / steps 1 a/y; 3 a/x 0", "step 1"),
     ("a;f=g g=f / steps 1 a/f; 3 a/g 0; 3 a/f 1", "yes"),
-    // the features of an excluded crate aren't asked for
+    // the features of an excluded crate aren't required
     ("a b;x=b/nope|b / without b / steps 1 +a; 1 a/x", "yes"),
     (
         "a b;x=b/nope|b / without b / steps 1 +a; 1 a/x; 4 a>b 1",

@@ -1,9 +1,9 @@
 //! The graph that a build draws: nodes, mappings and edges, number by number.
 //!
-//! An answer has the nodes, each at its number, and behind a bar the edges. A crate is written as its word, and in brackets the
+//! An answer has the nodes, each at its number, and after a bar the edges. A crate is written as its word, and in brackets the
 //! numbers that its declared dependencies mean; a feature as the number of its crate, a slash and its name. An edge is written
 //! as its two numbers: with `>` between them for a dependency, `=` for a dependency on a feature, and `:` for what a feature
-//! enables. Behind it stands the kind of dependency, where it is no normal one.
+//! enables. After it comes the kind of dependency, where it isn't the normal one.
 
 use crate::of_graph::{OfGraph, Told};
 use krates::graph::GraphEdge;

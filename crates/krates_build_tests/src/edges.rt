@@ -21,7 +21,7 @@ fn push_found(text: &mut Text, node: NodeId, mark: &str, other: NodeId, edge: Ed
     )
 }
 
-/// Adds the direct dependents of a number, each behind `<` with its edge.
+/// Adds the direct dependents of a number, each after `<` with its edge.
 fn push_dependents(text: &mut Text, krates: &Krates, node: NodeId) -> Result<(), AllocError> {
     for found in &krates.direct_dependents(node)? {
         push_found(text, node, "<", found.node_id, found.edge_id);
@@ -29,7 +29,7 @@ fn push_dependents(text: &mut Text, krates: &Krates, node: NodeId) -> Result<(),
     Ok(())
 }
 
-/// Adds the direct dependencies of a number, where it is that of a node, each behind `>` with its edge.
+/// Adds the direct dependencies of a number, where it is that of a node, each after `>` with its edge.
 fn push_dependencies(text: &mut Text, krates: &Krates, node: NodeId) -> Result<(), AllocError> {
     if node.index() >= krates.graph().node_count() {
         return Ok(());
@@ -77,7 +77,7 @@ const DIRECT: &[Row] = &[
     ("a b b&dev|b / nodes a b&normal&dev|b", " 0>1 by 0 1<0 by 0"),
 ];
 
-/// The nodes that are features of the second one, and behind a bar the edges that are no dependency for development.
+/// The nodes that are features of the second one, and after a bar the edges that aren't a dependency for development.
 struct Own;
 
 impl Told<Package> for Own {
@@ -98,7 +98,7 @@ impl Told<Package> for Own {
 }
 
 const OWN: &[Row] = &[
-    // a dependency that asks for a feature twice, as the default one and by name, and the feature, which leads to its crate
+    // a dependency that requires a feature twice, as the default one and by name, and the feature, which leads to its crate
     (
         "a b!&with=default|b;default= / nodes a b|b;default",
         "2 | 0 1 2",
@@ -122,7 +122,7 @@ fn push_kid(text: &mut Text, mark: &str, kid: &Kid) {
     push_marked(text, mark, word_of(kid.repr()))
 }
 
-/// Adds the ids of the direct dependents of a number, each behind `<`.
+/// Adds the ids of the direct dependents of a number, each after `<`.
 fn push_dependent_kids(text: &mut Text, krates: &Krates, node: NodeId) -> Result<(), AllocError> {
     for found in &krates.direct_dependents(node)? {
         push_kid(text, "<", found.kid);
@@ -130,7 +130,7 @@ fn push_dependent_kids(text: &mut Text, krates: &Krates, node: NodeId) -> Result
     Ok(())
 }
 
-/// Adds the ids of the direct dependencies of a number, where it is that of a node, each behind `>`.
+/// Adds the ids of the direct dependencies of a number, where it is that of a node, each after `>`.
 fn push_dependency_kids(text: &mut Text, krates: &Krates, node: NodeId) -> Result<(), AllocError> {
     if node.index() >= krates.graph().node_count() {
         return Ok(());
@@ -174,7 +174,7 @@ const KIDS: &[Row] = &[
     ),
 ];
 
-/// Adds what stands at the end of an edge: the name of a crate, or a plus sign and the name of a feature.
+/// Adds what is at the end of an edge: the name of a crate, or a plus sign and the name of a feature.
 fn push_end(text: &mut Text, end: &Node<Package>) {
     match end {
         Node::Krate { krate, .. } => push_marked(text, " ", krate.name.as_str()),
@@ -190,7 +190,7 @@ fn push_resolved(text: &mut Text, krates: &Krates, node: NodeId, place: usize) {
     }
 }
 
-/// Adds behind a bar what stands at the ends of a node's edges, and what its first two declared dependencies mean.
+/// Adds after a bar what is at the ends of a node's edges, and what its first two declared dependencies mean.
 fn push_ends(text: &mut Text, krates: &Krates, node: NodeId) {
     text.push_str("|");
     for (end, _) in krates.get_deps(node) {

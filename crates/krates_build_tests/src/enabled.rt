@@ -16,7 +16,7 @@ const ENABLED: &[Row] = &[
         "a b?;s=b/k w=b?/j|b;j= k=",
         "+a+b, a>b normal 0 as 0, a/s, a/w, b/j, b/k",
     ),
-    // both kinds of reference beside the feature that asks for the crate; the crate's manifest lacks one of what its node lists
+    // both kinds of reference beside the feature that enables the crate; the crate's manifest lacks one of what its node lists
     (
         "a b?;b=dep:b w=b?/j s=b/k|b;j= / nodes a b;b w s|b;j k",
         "+a+b, a>b normal 0 as 0, a/b, a/s, a/w, b/j, b/k",

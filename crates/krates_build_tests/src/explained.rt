@@ -1,4 +1,4 @@
-//! What a build hands out to explain what it keeps: each derivation is accepted, and all facts together are a closed list.
+//! What a build returns to explain what it keeps: each derivation is accepted, and all facts together are a closed list.
 
 use crate::builders::krates_of;
 use crate::facts::{push_steps, told};
@@ -46,7 +46,7 @@ fn answer_without(
     Ok(check_closed(given.metadata, given.set, None, &facts))
 }
 
-/// Whether so many facts, which are all, are a closed list, and aren't without any one of them.
+/// Whether this many facts, which are all, are a closed list, and aren't without any one of them.
 fn are_closed(
     given: &Given<'_, Builder>,
     krates: &Krates,
@@ -101,12 +101,12 @@ const EXPLAINED: &[Row] = &[
         "a real?&as=alias;x=dep:alias|real / nodes a real&as=alias;x|real",
         "3 nodes true, 4 facts true",
     ),
-    // two versions, which a feature asks for by one name
+    // two versions, which a feature enables by one name
     (
         "a d?;x=dep:d|d@0.10.0|d@0.9.0 / nodes a d@0.10.0 d@0.9.0;x|d@0.10.0|d@0.9.0 / names all",
         "4 nodes true, 6 facts true",
     ),
-    // an edge that two features ask for has one step
+    // an edge that two features require has one step
     ("a b?;x=dep:b y=dep:b|b", "4 nodes true, 5 facts true"),
 ];
 
@@ -116,7 +116,7 @@ const REAL: &[Row] = &[
     ("gitter", "21 nodes true, 32 facts true"),
 ];
 
-/// What is built of the document of a line, where its section `built` sets something more or something else.
+/// What is built from the document of a line, where its section `built` sets something more or something else.
 fn built(alloc: Global, line: &str) -> Result<Box<Krates>, Fail> {
     let set = section(line, "built ").unwrap_or("");
     let line = format!(in alloc; "{line} / {set}")?;

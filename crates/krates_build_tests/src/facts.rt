@@ -14,7 +14,7 @@ use krates_samples::text::Text;
 use std::alloc::Global;
 use std::test::Fail;
 
-/// Adds what stands behind the child of a kept edge: its kind, where it isn't normal, and its target.
+/// Adds what follows the child of a kept edge: its kind, where it isn't normal, and its target.
 fn push_purpose(text: &mut Text, kind: DepKind, cfg: Option<&str>) {
     let word = match kind {
         DepKind::Normal => "",
@@ -55,7 +55,7 @@ fn push_word(text: &mut Text, fact: &Fact) {
     }
 }
 
-/// Adds a step, with a semicolon behind it.
+/// Adds a step, with a semicolon after it.
 fn push_step(text: &mut Text, step: &Step) {
     write!(text, "{} ", step.rule);
     push_word(text, &step.fact);

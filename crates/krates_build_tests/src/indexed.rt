@@ -1,4 +1,4 @@
-//! Builds with an index: whether and for what it is asked, and which packages the filter is handed.
+//! Builds with an index: whether and for what it is asked, and which packages the filter is given.
 
 ghost use Rattle.std.specs.Prelude.{⊤};
 
@@ -17,7 +17,7 @@ use std::collections::BTreeMap;
 use std::rc::Rc;
 use std::test::Fail;
 
-/// What it counts that an index is asked once: one for exactly the names `a` and `b`, and ten for any others.
+/// What a call of an index is counted as: one for exactly the names `a` and `b`, and ten for any others.
 fn tally_of(names: &PackageNames) -> u8 {
     let both = names.names.contains("a") && names.names.contains("b");
     if both && names.names.len() == 2 {
@@ -27,7 +27,7 @@ fn tally_of(names: &PackageNames) -> u8 {
     }
 }
 
-/// What a build tells whose index counts how often it is asked.
+/// What a build reports whose index counts how often it is asked.
 fn told_counting(alloc: Global, line: &str, calls: Rc<Cell<u8>>) -> Result<String, Fail> {
     let build: BuildIndexCache = Box::new(alloc, move |names: PackageNames| {
         calls.set(calls.get().wrapping_add(tally_of(&names)));
@@ -43,7 +43,7 @@ fn told_counting(alloc: Global, line: &str, calls: Rc<Cell<u8>>) -> Result<Strin
     told_of(alloc, &built, reported)
 }
 
-/// What a build tells, and how often the index was asked.
+/// What a build reports, and how often the index was asked.
 struct AskedFor;
 
 impl Question for AskedFor {
@@ -57,7 +57,7 @@ impl Question for AskedFor {
 const ASKED_FOR: &[Row] = &[
     // it is asked once
     ("a b|b", "+a+b, asked 1"),
-    // also where a package is lost, or no crate is kept
+    // even where a package is lost, or no crate is kept
     (
         "a b|b / nodes a b",
         "lost node: path+file:///w/b#0.1.0, asked 1",

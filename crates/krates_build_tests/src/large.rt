@@ -1,4 +1,4 @@
-//! Documents and lists that are larger than any number in the sources: no answer hangs on a size.
+//! Documents and lists that are larger than any number in the sources: no answer depends on a size.
 
 ghost use Rattle.std.specs.Prelude.{◌≡◌, None};
 
@@ -81,7 +81,7 @@ fn feature(alloc: Global, number: u32) -> Result<Fact, Fail> {
     })
 }
 
-/// Adds a step for each feature behind the first.
+/// Adds a step for each feature after the first.
 fn push_steps(alloc: Global, derivation: &mut Derivation) -> Result<(), Fail> {
     for number in FEATURES {
         let fact = feature(alloc, number.saturating_add(1))?;
@@ -126,7 +126,7 @@ fn push_each_package(facts: &mut Vec<Fact>, alloc: Global) -> Result<(), Fail> {
     Ok(())
 }
 
-/// Adds that each of the many features is enabled, but for the last that they name.
+/// Adds that each of the many features is enabled, except the last that they name.
 fn push_each_feature(facts: &mut Vec<Fact>, alloc: Global) -> Result<(), Fail> {
     for number in FEATURES {
         facts.push(feature(alloc, number)?)?;

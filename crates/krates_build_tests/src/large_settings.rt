@@ -1,4 +1,4 @@
-//! Long lists that are set of builders and commands, and long texts, in the way of `large`.
+//! Long lists that are set of builders and commands, and long texts, as in `large`.
 
 ghost use Rattle.std.specs.Prelude.{◌≡◌, OnOk};
 
@@ -17,7 +17,7 @@ use krates_samples::text::Text;
 use std::alloc::Global;
 use std::test::Fail;
 
-/// The names of many packages, each behind this text, with blanks between them.
+/// The names of many packages, each after this text, with spaces between them.
 fn named(alloc: Global, before: &str) -> Result<String, Fail> {
     let mut names = Text::new(alloc);
     push_names(&mut names, before, " ");
@@ -72,7 +72,7 @@ fn sizes(command: &MetadataCommand) -> Result<(usize, usize), Fail> {
     Ok((words.len(), longest.unwrap_or(0)))
 }
 
-/// Asks for features of many names, and for other options of these names.
+/// Requests features of many names, and other options of these names.
 fn set_words(cmd: &mut Cmd, alloc: Global) -> Result<(), Fail> {
     cmd.features(names(alloc, "")?)?
         .other_options(names(alloc, "--")?)?;
@@ -89,7 +89,7 @@ fn large_options(rt: HostRuntime) -> Result<(), Fail> {
     Ok(())
 }
 
-/// Asks for features of many names, and sets a variable of a long name.
+/// Requests features of many names, and sets a variable of a long name.
 fn set_command(command: &mut MetadataCommand, alloc: Global) -> Result<(), Fail> {
     let long = "x".repeat(alloc, 70_000)?;
     command

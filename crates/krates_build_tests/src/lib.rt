@@ -1,17 +1,17 @@
-//! Worked examples of documents: which are admitted, what the questions of the rules are answered and what is selected; what builds answer
+//! Worked examples of documents: which are admitted, the answers to the questions of the rules, and what is selected; what builds answer
 //! where the answer is known; and what the two checkers do.
 //!
 //! The checkers are asked about lists of steps and lists of facts, written by hand, whose answers are known, and about what a build
-//! explains; drawn graphs, how many nodes and edges there may be, and for the reports that people ask for.
+//! explains; drawn graphs, how many nodes and edges there may be, and for the reports that people want.
 //!
-//! Calls with little memory: a call answers that memory ran out only where a growth was refused, and changes nothing then that has to be
+//! Calls with little memory: a call answers that memory ran out only where a growth was refused, and then changes nothing that has to be
 //! unchanged. No clause can say that memory suffices, so it is shown here: under every small budget a call is refused or answered as with
 //! ample memory. And what the library answers of documents and lists that are larger than any number in the sources.
 //!
-//! Commands, and runs of cargo by a stand-in. A test doesn't get the path of another program, so this test program is its own stand-in:
+//! Commands, and runs of a substitute for cargo. A test doesn't get the path of another program, so this test program is the substitute itself:
 //! cargo's first word is `metadata`, and the test of this name does what `fake-cargo` does.
 //!
-//! They stand apart from the crates that they test, since a crate with tests is proved twice. An example is a row of a table: a
+//! They are separate from the crates that they test, since a crate with tests is proved twice. An example is a row of a table: a
 //! line in small languages, of documents and of facts, and the text that answers it.
 #![tactic(auto)]
 
@@ -119,7 +119,7 @@ mod work;
 #[cfg(test)]
 use std::test::Fail;
 
-/// Stands in for cargo, if words follow.
+/// Acts as cargo, if words follow.
 #[cfg(test)]
 #[test]
 fn metadata(rt: HostRuntime) -> Result<(), Fail> {

@@ -24,7 +24,7 @@ fn limits_of(line: &str) -> Result<Limits, Fail> {
     })
 }
 
-/// The outline of what is kept of a document without any setting.
+/// The outline of a document without any setting.
 fn outline(alloc: Global, metadata: &Metadata) -> Result<Outline, Fail> {
     let ids = admit(alloc, metadata)?;
     let setting = Setting::new(alloc);
@@ -66,7 +66,7 @@ const LIMITS: &[Row] = &[
     // a crate alone
     ("a / within 1 0", "1 nodes, 0 edges"),
     ("a / within 0 0", "too many nodes or edges"),
-    // features are nodes as well: two crates and three features, with an edge to `b`, one that asks for its feature, and one from each
+    // features are nodes as well: two crates and three features, with an edge to `b`, one that requires its feature, and one from each
     // feature to what it enables and to its crate
     (
         "a b?;b=dep:b w=b?/j|b;j= / nodes a b;b w|b;j / within 5 7",
@@ -80,7 +80,7 @@ const LIMITS: &[Row] = &[
         "a b?;b=dep:b w=b?/j|b;j= / nodes a b;b w|b;j / within 5 6",
         "too many nodes or edges",
     ),
-    // nine features that one dependency asks for: an edge to each, and one from each to its crate
+    // nine features that one dependency requires: an edge to each, and one from each to its crate
     (
         "a b&with=f1,f2,f3,f4,f5,f6,f7,f8,f9|b;f1= f2= f3= f4= f5= f6= f7= f8= f9= / within 11 18",
         "11 nodes, 18 edges",

@@ -1,7 +1,7 @@
 //! Questions about crates to a graph that was built: by id, by name, by number, and which are members.
 //!
 //! The section `ask` of a line has the question: `number`, `node` or `features` and a word for a crate, `found` and such a word,
-//! perhaps with the name of a feature behind it, `members`, `nodes`, `name` and a name, `search`, a name and a requirement, or
+//! perhaps with the name of a feature after it, `members`, `nodes`, `name` and a name, `search`, a name and a requirement, or
 //! `krate` and a number. A crate is answered as its word, a feature as the number of its crate, a slash and its name.
 
 use crate::of_graph::{OfGraph, Told, push_features, push_number};
@@ -21,13 +21,13 @@ fn push_node(text: &mut Text, node: Option<&Node<Package>>) {
     }
 }
 
-/// Adds a node behind its number.
+/// Adds a node after its number.
 fn push_numbered(text: &mut Text, number: NodeId, node: &Node<Package>) {
     write!(text, "{}=", number.index());
     push_node(text, Some(node))
 }
 
-/// Adds the answer to a question about the crate of a word, or about its feature of the name behind the word.
+/// Adds the answer to a question about the crate of a word, or about its feature of the name after the word.
 fn push_by_id(text: &mut Text, krates: &Krates, question: &str, words: &str) -> Result<(), Fail> {
     let (word, name) = words.split_once(' ').unwrap_or((words, ""));
     let feature = if name.is_empty() { None } else { Some(name) };
@@ -85,7 +85,7 @@ fn push_search(text: &mut Text, krates: &Krates, words: &str) -> Result<(), Fail
     Ok(())
 }
 
-/// Adds the name of the crate of a number, asked for in both ways.
+/// Adds the name of the crate with a number, looked up in both ways.
 fn push_krate(text: &mut Text, krates: &Krates, number: &str) -> Result<(), Fail> {
     let number: usize = number.parse()?;
     if number >= krates.len() {
@@ -173,7 +173,7 @@ const LOOKED_UP: &[Row] = &[
     // the members: in the order of the ids, and each once
     ("b a|c|a / members b a / ask members", " a b"),
     ("a|b / members a a / ask members", " a"),
-    // one that isn't kept: it is no root, or is excluded
+    // one that isn't kept: it isn't a root, or is excluded
     ("a|b / members b a / root a / ask members", " a"),
     ("a|b / members a b / without a / ask members", " b"),
     // none is kept
@@ -211,7 +211,7 @@ const LOOKED_UP: &[Row] = &[
         "a d|d@0.10.0|d@0.9.0 / nodes a d@0.10.0 d@0.9.0|d@0.10.0|d@0.9.0 / ask search d ^1",
         "",
     ),
-    // names that begin alike, a name before all and one behind all, and features behind the last crate
+    // names that begin alike, a name before all and one after all, and features after the last crate
     ("b dd d|d|dd;j= / members b / ask name d", " 1=d(0.1.0)"),
     ("b dd d|d|dd;j= / members b / ask name dd", " 2=dd(0.1.0)"),
     ("b dd d|d|dd;j= / members b / ask name a", ""),

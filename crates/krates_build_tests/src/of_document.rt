@@ -10,13 +10,13 @@ use std::alloc::{AllocError, Global};
 use std::marker::PhantomData;
 use std::test::Fail;
 
-/// What is told of a document.
+/// What is reported of a document.
 pub(crate) trait Told {
-    /// What is told of the document of a line, which also says how it is used.
+    /// What is reported of the document of a line, which also says how it is used.
     fn told_of(alloc: Global, metadata: &Metadata, line: &str) -> Result<String, Fail>;
 }
 
-/// What is told of the document of each line of a table.
+/// What is reported of the document of each line of a table.
 pub(crate) struct OfDocument<T: Told> {
     of: PhantomData<T>,
 }
@@ -30,21 +30,21 @@ impl<T: Told> Question for OfDocument<T> {
     }
 }
 
-/// What is told of a selection.
+/// What is reported of a selection.
 pub(crate) trait ToldOfSelection {
-    /// What is told of a selection, or of the refusal.
+    /// What is reported of a selection, or of the refusal.
     fn told_of_selection(
         alloc: Global,
         selected: &Result<Selection, Error>,
     ) -> Result<String, AllocError>;
 }
 
-/// What is told of the selection of a document under the setting of its line.
+/// What is reported of the selection of a document under the setting of its line.
 pub(crate) struct OfSelection<T: ToldOfSelection> {
     of: PhantomData<T>,
 }
 
-/// What is told of the selection of a document under this setting.
+/// What is reported of the selection of a document under this setting.
 fn told_under<T: ToldOfSelection>(
     alloc: Global,
     metadata: &Metadata,

@@ -1,4 +1,4 @@
-//! Questions to the graph that is built of a line, and what several of them add to their answers.
+//! Questions to the graph that is built from a line, and what several of them add to their answers.
 
 use crate::builders::krates_of;
 use krates::{EnabledFeatures, FromPackage, Krates, NodeId, Package};
@@ -8,13 +8,13 @@ use std::alloc::Global;
 use std::marker::PhantomData;
 use std::test::Fail;
 
-/// What is told of a graph, whose crates are held as these values.
+/// What is reported of a graph, whose crates are held as these values.
 pub(crate) trait Told<N> {
-    /// Adds what is told of the graph that is built of a line.
+    /// Adds what is reported of the graph that is built from a line.
     fn push(text: &mut Text, krates: &Krates<N>, line: &str) -> Result<(), Fail>;
 }
 
-/// What is told of the graph that is built of each line of a table.
+/// What is reported of the graph that is built from each line of a table.
 pub(crate) struct OfGraph<T: Told<N>, N = Package> {
     of: PhantomData<(T, N)>,
 }
@@ -28,7 +28,7 @@ impl<T: Told<N>, N: FromPackage + Drop> Question for OfGraph<T, N> {
     }
 }
 
-/// Adds a word behind a mark.
+/// Adds a word after a mark.
 pub(crate) fn push_marked(text: &mut Text, mark: &str, word: &str) {
     text.push_str(mark);
     text.push_str(word)
@@ -42,7 +42,7 @@ pub(crate) fn push_number(text: &mut Text, number: Option<NodeId>) {
     }
 }
 
-/// Adds the names of enabled features, each behind a plus sign, and all behind `set`; or what says that there is no set.
+/// Adds the names of enabled features, each after a plus sign, and all after `set`; or what says that there is no set.
 pub(crate) fn push_features(
     text: &mut Text,
     features: Option<&EnabledFeatures>,

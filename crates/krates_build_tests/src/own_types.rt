@@ -1,4 +1,4 @@
-//! Builds with types of a caller's own in the place of packages and edges, and with a closure as the filter.
+//! Builds with types of a caller's own instead of packages and edges, and with a closure as the filter.
 
 ghost use Rattle.std.specs.Prelude.{⊤};
 ghost use Rattle.krates_cm.specs.Document.{text_view};
@@ -72,8 +72,8 @@ impl FromEdge for IsDependency {
     }
 }
 
-/// Builds a document, and hands the names of the packages that aren't kept to a closure, which gathers them. The section `names` of
-/// the line says whether a name means all dependencies that answer to it.
+/// Builds the graph of a document, and passes the names of the packages that aren't kept to a closure, which gathers them. The section `names` of
+/// the line says whether a name means all dependencies that match it.
 fn built(
     alloc: Global,
     line: &str,
@@ -103,7 +103,7 @@ fn push_krates(text: &mut Text, krates: &Krates<Named, IsDependency>) {
     }
 }
 
-/// The kept crates and the edges, or the refusal; and then the names that the closure was handed.
+/// The kept crates and the edges, or the refusal; and then the names that the closure was given.
 fn told_of(
     alloc: Global,
     built: &Result<Krates<Named, IsDependency>, Error>,
@@ -118,7 +118,7 @@ fn told_of(
     Ok(text.whole()?)
 }
 
-/// The names of the kept crates, whether each edge is a dependency, or the refusal; and then the names that a closure was handed.
+/// The names of the kept crates, whether each edge is a dependency, or the refusal; and then the names that a closure was given.
 struct Own;
 
 impl Question for Own {
@@ -165,7 +165,7 @@ const OWN: &[Row] = &[
         "a|c / nodes a b@1",
         "invalid package id: path+file:///w/b#b@1, closure ",
     ),
-    // a feature that is asked for and isn't listed, with a package that nobody needs and without
+    // a feature that is required and isn't listed, with a package that nobody needs and without
     (
         "a b;x=b/nope|b",
         "lost feature: nope of path+file:///w/b#0.1.0, closure ",

@@ -42,7 +42,7 @@ const COMPARED: &[Row] = &[
         "a b&dev|b / nodes a b&dev|b == b|a b&dev / nodes b|a b&dev",
         "+a+b: a[1] b | 0>1(dev)",
     ),
-    // the same where it is ignored, so that `b` is reported, and `c` behind it
+    // the same where it is ignored, so that `b` is reported, and `c` after it
     (
         "a b&dev|b|c / nodes a b&dev|b|c / ignore dev all == c|b|a b&dev / nodes c|a b&dev|b / ignore dev all",
         "+a-b-c: a[-] |",

@@ -1,4 +1,4 @@
-//! What is printed of nodes and of edges: an answer has each node and a comma, a bar, and each edge and a semicolon.
+//! What is printed for nodes and for edges: an answer has each node and a comma, a bar, and each edge and a semicolon.
 
 ghost use Rattle.std.specs.Prelude.{Some, string_bytes};
 
@@ -35,7 +35,7 @@ fn push_copy(text: &mut Text, edge: &Edge) -> Result<(), AllocError> {
     Ok(())
 }
 
-/// Adds behind a bar the edges as their copies are printed.
+/// Adds after a bar the edges as their copies are printed.
 fn push_edges(text: &mut Text, edges: &[GraphEdge<Edge>]) -> Result<(), AllocError> {
     text.push_str("|");
     for edge in edges {
@@ -44,7 +44,7 @@ fn push_edges(text: &mut Text, edges: &[GraphEdge<Edge>]) -> Result<(), AllocErr
     Ok(())
 }
 
-/// The nodes of the graph, with names in the place of packages, and copies of its edges.
+/// The nodes of the graph, with names instead of packages, and copies of its edges.
 struct Printed;
 
 impl Told<Named> for Printed {

@@ -1,6 +1,6 @@
 //! What a document and a setting answer to the questions that the checkers ask, one by one.
 //!
-//! A line is a word for a crate and the name of a feature, or two crates, a kind and a target text; behind it stands what is set, in
+//! A line is a word for a crate and the name of a feature, or two crates, a kind and a target text; after it comes what is set, in
 //! sections.
 
 use crate::asked::{Edge, edge_of};
@@ -25,7 +25,7 @@ trait Asked: Sized + Drop {
     /// That of these words.
     fn of_words(alloc: Global, words: &str) -> Result<Self, Fail>;
 
-    /// What is told of it.
+    /// What is reported of it.
     fn told<'a>(
         &'a self,
         alloc: Global,
@@ -68,7 +68,7 @@ struct Feature {
     name: String,
 }
 
-/// Adds whether a crate is a root and stands, what there is for it, its package and whether it has a node.
+/// Adds whether a crate is a root and available, what there is for it, its package and whether it has a node.
 fn push_availability<'a>(told: &mut Text, asked: &Document<'a>, setting: &Setting, krate: &'a Kid) {
     let (is_root, stands) = (asked.is_root(setting, krate), asked.stands(setting, krate));
     let availability = asked.availability(setting, krate);
@@ -101,7 +101,7 @@ impl Asked for Feature {
         Ok(Feature { krate, name })
     }
 
-    /// Whether the crate is a root and stands, what there is for it, its package and whether it has a node; whether the feature is
+    /// Whether the crate is a root and available, what there is for it, its package and whether it has a node; whether the feature is
     /// listed, with its references; how many features are listed; and the crates on which its node depends.
     fn told<'a>(
         &'a self,
@@ -172,9 +172,9 @@ const CRATES: &[Row] = &[
 const EDGES: &[Row] = &[
     ("a b dev", "wanted of 3, Some(Development)"),
     ("a b build / ignore dev", "wanted of 3, Some(Build)"),
-    // what it is declared as doesn't hang on what is ignored
+    // what it is declared as doesn't depend on what is ignored
     ("a b dev / ignore dev", "nothing of 3, Some(Development)"),
-    // listed, and not declared so
+    // listed, and not declared that way
     ("a b normal", "undeclared of 3, None"),
     ("a c normal cfg(windows)", "wanted of 1, Some(Normal)"),
     // not listed for every target, or not at all

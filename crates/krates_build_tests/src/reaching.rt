@@ -19,7 +19,7 @@ fn push_dependent(text: &mut Text, node: NodeId, found: &KrateMatch<'_, Package>
     )
 }
 
-/// Adds all dependents of a number, each behind `<`.
+/// Adds all dependents of a number, each after `<`.
 fn push_dependents(text: &mut Text, krates: &Krates, node: NodeId) -> Result<(), AllocError> {
     for found in &krates.all_dependents(node)? {
         push_dependent(text, node, found);
@@ -63,7 +63,7 @@ const ALL_DEPENDENTS: &[Row] = &[
     ),
 ];
 
-/// Adds which of the first six numbers one reaches, each behind `>`.
+/// Adds which of the first six numbers one reaches, each after `>`.
 fn push_reached(text: &mut Text, krates: &Krates, from: NodeId) -> Result<(), AllocError> {
     for number in 0..6u32 {
         if krates.reaches(from, NodeId::new(number))? {

@@ -47,7 +47,7 @@ fn bounded(
     }
 }
 
-/// What the example tells of the document and the builder of a line.
+/// What the example reports of the document and the builder of a line.
 struct Example;
 
 impl Ask for Example {
@@ -81,7 +81,7 @@ fn the_example_of_the_readme(rt: HostRuntime) -> Result<(), Fail> {
     hold::<OfLine<Example>>(rt.alloc(), TOLD)
 }
 
-/// The packages that the workspace of a manifest needs, with all its features, one a line.
+/// The packages that the workspace of a manifest needs, with all its features, one per line.
 fn needed(rt: &HostRuntime, cargo: &str, manifest: &str) -> Result<String, Error> {
     let alloc = rt.alloc();
     let mut cmd = Cmd::new(alloc);

@@ -1,6 +1,6 @@
-//! What members reach without a kind of dependency, beside what a rebuild keeps that ignores this kind.
+//! What members reach without a kind of dependency, compared with what a rebuild that ignores this kind keeps.
 //!
-//! The section `ask` of a line names the kind. An answer has the crates of the first, and then those of the second, each behind a
+//! The section `ask` of a line names the kind. An answer has the crates of the first, and then those of the second, each after a
 //! plus sign.
 
 ghost use Rattle.std.specs.Prelude.{IfOk, map};
@@ -82,12 +82,12 @@ const BESIDE: &[Row] = &[
         "a b&dev;x=b/y|b;y= / nodes a b&dev;x|b;y / ask dev",
         "+a+b beside +a",
     ),
-    // a member that is no root: it is found, and isn't kept again
+    // a member that isn't a root: it is found, and isn't kept again
     (
         "a b&dev|b / members a b / root a / ask dev",
         "+a+b beside +a",
     ),
-    // a root that is no member: it is kept again, and isn't found
+    // a root that isn't a member: it is kept again, and isn't found
     ("a|b / members a / root b / ask dev", " beside +b"),
 ];
 

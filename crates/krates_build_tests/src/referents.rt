@@ -15,7 +15,7 @@ const MEANT: &[Row] = &[
         "a md-5?;x=md-5/std|md-5&lib=md5;std= / nodes a md-5&as=md5;x|md-5;std",
         "+a+md-5, a>md-5 normal 0 as 0, a/x, md-5/std",
     ),
-    // two versions of a crate; in the order of ids, by bytes, the one that stands first comes last
+    // two versions of a crate; in the order of ids, by bytes, the one that is listed first comes last
     (
         "a d;x=d/f|d@0.9.0;f=|d@0.10.0;f= / nodes a d@0.9.0 d@0.10.0;x|d@0.9.0;f|d@0.10.0;f",
         "+a+d@0.10.0+d@0.9.0, a>d@0.10.0 normal 0 as 0, a>d@0.9.0 normal 0 as 0, a/x, d@0.10.0/f",
@@ -25,7 +25,7 @@ const MEANT: &[Row] = &[
         "a d;x=d/f|d@0.9.0;f=|d@0.10.0;f= / nodes a d@0.9.0 d@0.10.0;x|d@0.9.0;f|d@0.10.0;f / names all",
         "+a+d@0.10.0+d@0.9.0, a>d@0.10.0 normal 0 as 0, a>d@0.9.0 normal 0 as 0, a/x, d@0.10.0/f, d@0.9.0/f",
     ),
-    // a feature that asks for a dependency for development
+    // a feature that enables a dependency for development
     ("a b&dev;x=b/y|b;y=", "+a+b, a>b dev 0 as 0, a/x, b/y"),
 ];
 

@@ -1,4 +1,4 @@
-//! Reports that people ask for, as a caller writes them.
+//! Reports that people want, as a caller writes them.
 
 use crate::of_graph::{OfGraph, Told};
 use krates::cm::SourceKind;
@@ -43,7 +43,7 @@ const DEPENDENTS: &[Row] = &[
         "a c|b c&dev|c|d c&build&on=cfg(unix) / members a b d / of c",
         "a, b(dev), d(build) 'cfg(unix)', ",
     ),
-    // by an edge that asks for a feature, and, of two edges, by the least
+    // by an edge that requires a feature, and, of two edges, by the least
     ("a b&with=f|b;f= / of b", "a, "),
     ("a b b&dev|b / nodes a b&normal&dev|b / of b", "a, "),
     // of both crates of a name, the lower version as a text first
@@ -56,7 +56,7 @@ const DEPENDENTS: &[Row] = &[
     ("a b|b / of c", ""),
 ];
 
-/// Adds a crate that isn't the next one that is needed; answers whether it is.
+/// Adds a crate that isn't the next one that is needed, and returns whether it is.
 fn push_other(text: &mut Text, krate: &Package, next: Option<&&Package>) -> bool {
     match next {
         Some(next) if next.id == krate.id => true,
@@ -90,9 +90,9 @@ const FOR_TESTS: &[Row] = &[
     // but not what is needed otherwise too
     ("a b&dev d|b c d|c|d", "b, c, "),
     ("a b&dev c|b c|c", "b, "),
-    // a member counts as needed, though another needs it for its tests alone
+    // a member counts as needed, though another needs it only for its tests
     ("a b&dev|b c|c / members a b", ""),
-    // what a build script needs is no test's
+    // what a build script needs isn't a test's
     ("a b&build c&dev|b|c", "c, "),
 ];
 

@@ -19,14 +19,14 @@ fn name_of(kind: DependencyKind) -> &'static str {
     }
 }
 
-/// Adds the kept crates, each behind a plus sign.
+/// Adds the kept crates, each after a plus sign.
 fn push_krates(text: &mut Text, selection: &Selection) {
     for krate in selection.krates.as_slice() {
         write!(text, "+{}", word_of(krate.repr()));
     }
 }
 
-/// The word of the kept crate of a number.
+/// The word of the kept crate with a number.
 fn word_at(selection: &Selection, number: usize) -> &str {
     match selection.krates.get(number) {
         Some(krate) => word_of(krate.repr()),
@@ -50,7 +50,7 @@ fn push_edges(text: &mut Text, selection: &Selection) {
     }
 }
 
-/// Adds the enabled features, each behind its crate.
+/// Adds the enabled features, each after its crate.
 fn push_features(text: &mut Text, selection: &Selection) {
     for feature in selection.features.as_slice() {
         let krate = word_at(selection, feature.krate);

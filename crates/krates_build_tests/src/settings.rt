@@ -9,10 +9,10 @@ use std::alloc::Global;
 use std::test::Fail;
 
 const SETTINGS: &[Row] = &[
-    // crates that are asked for
+    // crates that are included
     ("a|c / members a c / include /w/c", "+c-a"),
     ("a|c / members a c / include /w/./c//Cargo.toml", "+c-a"),
-    // the workspace itself means every member, until a crate is asked for
+    // the workspace itself means every member, until a crate is included
     ("a|c / members a c / include /w", "+a+c"),
     ("a|c / members a c / include /w /w/c", "+c-a"),
     (
@@ -67,7 +67,7 @@ const SETTINGS: &[Row] = &[
         "a b&on=cfg(unix)|b / for x86_64-pc-windows-msvc x86_64-unknown-linux-gnu",
         "+a+b",
     ),
-    // a feature is asked of those that stand beside the target, of which nothing else need be known
+    // a feature is looked up among those given with the target, of which nothing else need be known
     (
         r#"a b&on=cfg(target_feature~=~"atomics")|b / for x+atomics"#,
         "+a+b",
@@ -76,7 +76,7 @@ const SETTINGS: &[Row] = &[
         r#"a b&on=cfg(target_feature~=~"atomics")|b / for x"#,
         "+a-b",
     ),
-    // a triple beside the table: of itself it has no property, and as rustc describes it those that cargo goes by
+    // a triple outside of the table: by itself it has no property, and as rustc describes it those that cargo uses
     (
         r#"a b&on=cfg(windows) c&on=cfg(all(windows,~target_env~=~"gnu")) d&on=cfg(unix) e&on=x86_64-pc-windows-gnu f&on=cfg(target_os~=~"freebsd") g&on=cfg(target_feature~=~"sse3")|b|c|d|e|f|g / for x86_64-pc-windows-gnu"#,
         "+a+e-b-c-d-f-g",

@@ -1,4 +1,4 @@
-//! The runs, and what stands in for cargo in them.
+//! The runs, and the substitute for cargo in them.
 
 use crate::command::read;
 use crate::table::{Question, Row, compare, hold_beginnings};
@@ -72,7 +72,7 @@ fn this_program(rt: &HostRuntime) -> Result<String, Fail> {
     Ok(String::from_str(rt.alloc(), program.as_str())?)
 }
 
-/// A command that this program runs in cargo's place, with this last word.
+/// A command that this program runs instead of cargo, with this last word.
 pub(crate) fn command(rt: &HostRuntime, last: &str) -> Result<MetadataCommand, Fail> {
     let program = this_program(rt)?;
     let last = vec![in rt.alloc(); String::from_str(rt.alloc(), last)?]?;

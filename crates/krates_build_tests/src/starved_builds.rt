@@ -25,7 +25,7 @@ fn leads_to(krates: &Krates, targets: &[usize]) -> bool {
         .eq(targets.iter().copied())
 }
 
-/// A document until it is built of, what the index answers of it, and how many packages aren't kept.
+/// A document, until its graph is built; what the index answers of it, and how many packages aren't kept.
 #[derive(Drop)]
 struct Building {
     metadata: Option<Metadata>,

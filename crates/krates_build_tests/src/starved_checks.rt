@@ -57,7 +57,7 @@ fn steps(alloc: Global) -> Result<Derivation, Fail> {
     Ok(derivation)
 }
 
-/// What is kept of the package.
+/// The facts about the package.
 fn facts(alloc: Global) -> Result<Vec<Fact>, Fail> {
     let mut facts = Vec::new(alloc);
     for feature in [None, Some("default"), Some("foo")] {

@@ -21,7 +21,7 @@ pub(crate) fn parts(alloc: Global, text: &str, between: char) -> Result<Vec<Stri
     Ok(parts)
 }
 
-/// Adds the words behind `metadata --format-version 1`, each with a bar behind it.
+/// Adds the words after `metadata --format-version 1`, each with a bar after it.
 fn push_words(text: &mut Text, words: &[String]) {
     for word in words.iter().skip(3) {
         write!(text, "{word}|");
@@ -64,7 +64,7 @@ const OF_COMMAND: &[OfCommand] = &[OfCommand::Features, OfCommand::Env, OfComman
 /// The words of the command.
 const WORDS: &str = "--no-deps|--features|a|--manifest-path|p|--z|";
 
-/// What is told of the command.
+/// What is reported of the command.
 const COMMAND: &str = "A=1|--no-deps|--features|a|--manifest-path|p|--z|";
 
 /// The command, and features to be chosen.
@@ -152,7 +152,7 @@ const OF_OPTIONS: &[OfOptions] = &[
     OfOptions::IntoCommand,
 ];
 
-/// What is told of the command that the options mean.
+/// What is reported of the command that the options mean.
 const OPTIONS: &str = "--manifest-path|Cargo.toml|--all-features|--features|a|--a|";
 
 /// A tool's options, and more names.
@@ -171,7 +171,7 @@ fn set_options(alloc: Global, cmd: &mut Cmd) -> Result<(), Fail> {
     Ok(())
 }
 
-/// Compares what is told of the command that the options mean with what is known.
+/// Compares what is reported of the command that the options mean with what is known.
 fn means(alloc: Global, given: &mut Options, expected: &str) -> Result<bool, Fail> {
     let cmd = replace(&mut given.cmd, Cmd::new(alloc));
     let command = cmd.into_command()?;

@@ -88,7 +88,7 @@ impl More {
         }
     }
 
-    /// Calls the setter, and tells whether there was enough memory.
+    /// Calls the setter, and returns whether there was enough memory.
     fn is_set(self, builder: &mut Builder) -> bool {
         match self {
             More::Specs(specs) => builder.exclude(specs).is_ok(),

@@ -65,7 +65,7 @@ impl ToldOfSelection for Stepped {
 const STEPS: &[Row] = &[
     // the root, the edge that it needs, and the crate that this leads to
     ("a b|b", "1 crate 0; 5 edge 0.0.0 <0; 5 crate 1 <1; "),
-    // the same, where the dependency stands twice for the same
+    // the same, where the dependency is listed twice for the same
     (
         "a b|b / nodes a b&normal&normal|b",
         "1 crate 0; 5 edge 0.0.0 <0; 5 crate 1 <1; ",
@@ -75,7 +75,7 @@ const STEPS: &[Row] = &[
         "a b&with=x|b;x=y y=",
         "1 crate 0; 5 edge 0.0.0 <0; 5 crate 1 <1; 6 feature 0 <1; 3 feature 1 <3; ",
     ),
-    // a feature asks for an optional edge, and over that another enables `j` weakly
+    // a feature requires an optional edge, and over that another enables `j` weakly
     (
         "a b?;b=dep:b w=b?/j|b;j=",
         "1 crate 0; 1 feature 0; 1 feature 1; 4 edge 0.0.0 <1; 5 crate 1 <3; 7 toggled 2 by 0 <2 <3; 7 feature 2 <5; ",
@@ -85,7 +85,7 @@ const STEPS: &[Row] = &[
         "a b?;a=b?/j b=dep:b|b;j=",
         "1 crate 0; 1 feature 0; 1 feature 1; 4 edge 0.0.0 <2; 5 crate 1 <3; 7 toggled 2 by 0 <1 <3; 7 feature 2 <5; ",
     ),
-    // a strong reference asks for the edge itself
+    // a strong reference requires the edge itself
     (
         "a b?;s=b/j|b;j=",
         "1 crate 0; 1 feature 0; 4 edge 0.0.0 <1; 5 crate 1 <2; 4 toggled 1 by 0 <1 <2; 7 feature 1 <4; ",

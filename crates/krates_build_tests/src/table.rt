@@ -25,7 +25,7 @@ fn hold_row<Q: Question>(rt: &HostRuntime, line: &str, answer: &str) -> Result<(
     compare(line, told.as_str(), answer)
 }
 
-/// Fails where what is told of a line isn't the answer that is known, and names the line.
+/// Fails where the answer to a line isn't the known one, and names the line.
 pub(crate) fn compare(line: &str, told: &str, answer: &str) -> Result<(), Fail> {
     if told != answer {
         return Err(Fail::new(format_args!("{line}: {told} in place of {answer}")));
@@ -33,7 +33,7 @@ pub(crate) fn compare(line: &str, told: &str, answer: &str) -> Result<(), Fail> 
     Ok(())
 }
 
-/// Holds each answer to how it is known to begin, in the way of `hold`.
+/// Compares how each answer begins with what is known, as `hold` does.
 pub(crate) fn hold_beginnings<Q: Question>(rt: &HostRuntime, rows: &[Row]) -> Result<(), Fail> {
     for &(line, begins) in rows {
         hold_beginning::<Q>(rt, line, begins)?;
@@ -41,13 +41,13 @@ pub(crate) fn hold_beginnings<Q: Question>(rt: &HostRuntime, rows: &[Row]) -> Re
     Ok(())
 }
 
-/// Holds the answer to one line to how it is known to begin.
+/// Compares how the answer to one line begins with what is known.
 fn hold_beginning<Q: Question>(rt: &HostRuntime, line: &str, begins: &str) -> Result<(), Fail> {
     let told = Q::told(rt, line)?;
     compare_beginning(line, told.as_str(), begins)
 }
 
-/// Fails where what is told of a line doesn't begin as it is known to, and names the line.
+/// Fails where the answer to a line doesn't begin as it is known to, and names the line.
 pub(crate) fn compare_beginning(line: &str, told: &str, begins: &str) -> Result<(), Fail> {
     if !told.starts_with(begins) {
         return Err(Fail::new(format_args!("{line}: {told} in place of {begins}")));

@@ -1,4 +1,4 @@
-//! How much work a build was: how many crates, features and references were looked at.
+//! How much work a build took: how many crates, features and references were looked at.
 
 use crate::of_graph::{OfGraph, Told};
 use krates::{Krates, Package};
@@ -22,13 +22,13 @@ impl Told<Package> for Worked {
 }
 
 const COUNTED: &[Row] = &[
-    // `b` is asked for, and `w` enables its feature `j`, which has no references
+    // `b` is required, and `w` enables its feature `j`, which has no references
     ("a b?;b=dep:b w=b?/j|b;j=", "2, 3, 2"),
     // the reference of `w` is counted, though the edge that it waits for isn't kept
     ("a b?;b=dep:b w=b?/j|b;j= / nodes a b;w|b;j", "1, 1, 1"),
     // a circle, in which each crate is looked at once
     ("a b|b a", "2, 0, 0"),
-    // two features ask for one dependency, and one has the same reference twice
+    // two features require one dependency, and one has the same reference twice
     ("a b?;x=dep:b y=dep:b,dep:b|b", "2, 2, 3"),
     // a reference counts once for each crate that its name means, and once where it means none
     (

@@ -8,10 +8,10 @@
 //!                                  uint8_t *room, size_t room_length);
 //! ```
 //!
-//! Options are those of `krates-list`, one word a line, without `--cargo` and `--why`. Each call ends with a status and a length. Status 0:
-//! the answer stands in the first bytes of the room, as many as the length says. 1 to 7: it is refused, and there stands why. 8: there
+//! Options are those of `krates-list`, one word per line, without `--cargo` and `--why`. Each call ends with a status and a length. Status 0:
+//! the answer is in the first bytes of the room, as many as the length says. 1 to 7: it is refused, and they say why. 8: there
 //! is too little room, and the length says how much is needed; nothing was written, and the call can be made again. 9: memory ran
-//! out, and nothing was written. Behind the length the room is always as it was.
+//! out, and nothing was written. Past the length the room is always as it was.
 #![tactic(auto)]
 
 ghost use Rattle.krates_foreign.specs.Calls.{CheckRefusal, Checks, Draws, Explains, ListRefusal, Lists, WhyRefusal};
@@ -20,7 +20,7 @@ ghost use Rattle.krates_foreign.specs.Handing.{Hands, Tells};
 use krates_foreign::{Answer, check, graph, hand_over, list, why};
 use std::alloc::Global;
 
-/// The lines of a document's packages: behind `+ ` the kept ones, behind `- ` the others, both in the order of the ids.
+/// The lines of a document's packages: after `+ ` the kept ones, after `- ` the others, both in the order of the ids.
 #[unsafe(no_mangle)]
 pub extern "C" fn krates_list(
     alloc: Global,
@@ -50,7 +50,7 @@ pub extern "C" fn krates_graph(
     hand_over(alloc, told, room)
 }
 
-/// The lines of a derivation of the crate with this id, a step a line.
+/// The lines of a derivation of the crate with this id, one step per line.
 #[unsafe(no_mangle)]
 pub extern "C" fn krates_why(
     alloc: Global,

@@ -62,7 +62,7 @@ module _ {M : Type 1} {𝓤 : Ura M} (𝓛 : Logic 𝓤) (R : RattleType) where
     abbrev pub Ref : Lft → RattleType
     Ref κ' = MutRef (named 0) κ' R
 
-    -- `r` with another value behind it
+    -- `r` with another value after it
     abbrev pub left : R.Denot → MutBor R.Denot
     left w = record r { now = w }
 

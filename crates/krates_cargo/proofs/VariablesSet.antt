@@ -65,7 +65,7 @@ first_said name e es false is below rest =
     ∙ rest
     ∙ sym (ap (λ b. option_map Some (cond b (Some v) (lookup (bytes_eq name) (map entry_view es)))) (turned (text_view e.0) name false is))
 
--- for all variables, where nothing was said before and each name stands once
+-- for all variables, where nothing was said before and each name occurs once
 pub said_all : (name : Text) (es : List Entry) → IsStrictlySortedBy string_cmp (keys_of es) → said_after name None es ≡ said_by name es
 unfolding IsStrictlySortedBy
 said_all name [] sorted = refl

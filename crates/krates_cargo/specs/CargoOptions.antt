@@ -79,7 +79,7 @@ abbrev pub LacksParent : Option Text → Type 0
 LacksParent None = ⊥
 LacksParent (Some manifest) = HasNoParent manifest
 
--- the command that says what is set, and nothing else
+-- the command that sets what is set here, and nothing else
 pub record IsCommandOf (o : CargoOptionsModel) (c : CommandModel) : Type 0 where
   pub names : List Text
   pub sorted_names : IsInOrder o.features names

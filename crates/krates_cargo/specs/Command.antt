@@ -6,7 +6,7 @@ use Rattle.std.specs.Global.{Vec}
 use Rattle.std.specs.declared.alloc.Global.{Global}
 use Rattle.krates_cm.specs.Document.{Text, text_view, texts_view}
 
--- What is set, a text being its bytes. The variables of the environment stand in the order of their names.
+-- What is set; a text is its bytes. The variables of the environment are in the order of their names.
 pub record CommandModel : Type 0 where
   pub cargo_path : Option Text
   pub manifest_path : Option Text

@@ -4,7 +4,7 @@ use Rattle.krates_cm.specs.Document.{Text, texts_view}
 use Rattle.krates_cargo.specs.declared.command.Features.{Features}
 use Rattle.krates_cargo.specs.declared.command.Features.TheVariants.{All, NoDefault, Selected}
 
--- all of them, all but the default ones, or those with these names, a name being its bytes
+-- all of them, all except the default ones, or those with these names; a name is its bytes
 pub data FeaturesModel : Type 0 where
   all : FeaturesModel
   no_default : FeaturesModel

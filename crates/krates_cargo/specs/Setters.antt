@@ -41,7 +41,7 @@ IsNotChosen c features _ = ⊥
 abbrev pub with_variable : CommandModel → Text → Text → CommandModel
 with_variable c name value = record c { variables = insert_entry (slice_cmp nat_cmp) c.variables name value }
 
--- more features, and more options, than those that are asked for
+-- more features, and more options, in addition to those that are set
 abbrev pub with_features : CargoOptionsModel → List Text → CargoOptionsModel
 with_features o names = record o { features = o.features ++ names }
 

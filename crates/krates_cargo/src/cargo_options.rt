@@ -19,9 +19,9 @@ use std::marker::Model;
 /// How cargo may treat the file `Cargo.lock` and the network (Cargo Book, "cargo metadata", "Manifest Options").
 #[derive(Clone, Copy, Debug)]
 pub struct LockOptions {
-    /// Both of the others.
+    /// As both of the others.
     pub frozen: bool,
-    /// The file has to be up to date.
+    /// The file must be up to date.
     pub locked: bool,
     /// The network isn't used.
     pub offline: bool,
@@ -31,7 +31,7 @@ pub struct LockOptions {
 ///
 /// The setters may be called in any order. Names of features and other options are added to those that are set; in
 /// everything else the last call counts. Each returns the value, so that calls chain. Those that add can run out of
-/// memory, and then leave all as it was.
+/// memory, and then change nothing.
 ///
 /// ```text
 /// let mut cmd = Cmd::new(alloc);
@@ -71,7 +71,7 @@ impl Model for Cmd {
 }
 
 impl Cmd {
-    /// Nothing is asked yet. Time O(1).
+    /// Nothing is set yet. Time O(1).
     ///
     /// ```text
     /// let mut cmd = Cmd::new(alloc);
@@ -108,7 +108,7 @@ impl Cmd {
         self
     }
 
-    /// The manifest whose workspace is asked for. Cargo is run in its directory, whatever other directory is set. Never
+    /// The manifest of the workspace whose metadata is wanted. Cargo is run in its directory, whatever other directory is set. Never
     /// refused here: a path without parent is refused by `into_command`. Time O(1).
     ///
     /// ```text
@@ -148,7 +148,7 @@ impl Cmd {
         self
     }
 
-    /// Asks for all features. Never refused. Time O(1).
+    /// Requests all features. Never refused. Time O(1).
     ///
     /// ```text
     /// cmd.all_features();
@@ -175,8 +175,8 @@ impl Cmd {
         self
     }
 
-    /// Asks for the features with these names, beside those that are asked for already. The only refusal is running
-    /// out of memory, and then all is as it was. Time O(names).
+    /// Requests the features with these names, in addition to those that were requested before. The only refusal is running
+    /// out of memory, and then nothing has changed. Time O(names).
     ///
     /// ```text
     /// cmd.features(vec![in alloc; String::from_str(alloc, "cli")?]?)?;
@@ -193,7 +193,7 @@ impl Cmd {
         }
     }
 
-    /// Asks for more features; whether it could.
+    /// Requests more features, and returns whether that succeeded.
     fn has_added_features(&mut self, names: Vec<String>) -> bool
         ensures { MatchBool result (self.new ≡ with_features self.old (texts_view names)) (self.new ≡ self.old) }
     {
@@ -201,8 +201,8 @@ impl Cmd {
         self.features.append(&mut names).is_ok()
     }
 
-    /// Adds further options to those that are set. The only refusal is running out of memory, and then all is as it
-    /// was. Time O(options).
+    /// Adds further options to those that are set. The only refusal is running out of memory, and then nothing has
+    /// changed. Time O(options).
     ///
     /// ```text
     /// cmd.other_options(vec![in alloc; String::from_str(alloc, "--quiet")?]?)?;
@@ -219,7 +219,7 @@ impl Cmd {
         }
     }
 
-    /// Adds further options; whether it could.
+    /// Adds further options, and returns whether that succeeded.
     fn has_added_options(&mut self, options: Vec<String>) -> bool
         ensures { MatchBool result (self.new ≡ with_options self.old (texts_view options)) (self.new ≡ self.old) }
     {
@@ -227,15 +227,15 @@ impl Cmd {
         self.other_options.append(&mut options).is_ok()
     }
 
-    /// The command that asks for all this: with the features in the order of their bytes, each once and joined by
-    /// blanks, and with the options in this order: `--no-default-features`, `--all-features`, `--features` with the
+    /// The command with all these options: with the features in the order of their bytes, each once and joined by
+    /// spaces, and with the options in this order: `--no-default-features`, `--all-features`, `--features` with the
     /// names, `--frozen`, `--locked`, `--offline`, and then the others; each only where it is set.
     ///
-    /// Where a manifest is set, the command runs in the manifest's parent and asks for `Cargo.toml`, since cargo
+    /// Where a manifest is set, the command runs in the manifest's parent directory and names `Cargo.toml`, since cargo
     /// looks for its configuration from there. An empty directory becomes `.`.
     ///
     /// It is refused as `NoManifestParent` exactly where a manifest is set whose path has no parent. It may instead
-    /// return `Memory`. Time O(n log n) of the features.
+    /// return `Memory`. Time O(n log n) for n features.
     ///
     /// ```text
     /// let command = cmd.into_command()?;
@@ -272,7 +272,7 @@ impl Cmd {
         Ok(Some(or_here(self.alloc, parent)?))
     }
 
-    /// The manifest that the command asks for.
+    /// The manifest that the command names.
     fn manifest(&self) -> Result<Option<String>, AllocError>
         ensures { IfOk result (λ path. option_map text_view path ≡ manifest_of self.now.manifest_path) }
     {

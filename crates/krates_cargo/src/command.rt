@@ -143,7 +143,7 @@ impl MetadataCommand {
         }
     }
 
-    /// The program to run as cargo, in place of the one that is passed to `exec`. Never refused. Time O(1).
+    /// The program to run as cargo, instead of the one that is passed to `exec`. Never refused. Time O(1).
     ///
     /// ```text
     /// command.cargo_path(String::from_str(alloc, "/usr/bin/cargo")?);
@@ -156,7 +156,7 @@ impl MetadataCommand {
         self
     }
 
-    /// The manifest whose workspace is asked for, by `--manifest-path`. Never refused. Time O(1).
+    /// The manifest of the workspace whose metadata is wanted, for `--manifest-path`. Never refused. Time O(1).
     ///
     /// ```text
     /// command.manifest_path(String::from_str(alloc, "/w/a/Cargo.toml")?);
@@ -196,7 +196,7 @@ impl MetadataCommand {
         self
     }
 
-    /// Further options, in place of those that were set before, as the last words of the command. Never refused. Time
+    /// Further options, instead of those that were set before, as the last words of the command. Never refused. Time
     /// O(1).
     ///
     /// ```text
@@ -249,7 +249,7 @@ impl MetadataCommand {
     }
 
     /// Chooses features: names are added to those that are chosen already. All of them, and all but the default ones,
-    /// can be chosen only once: the refusal is `FeaturesTwice` exactly where they are chosen already. Only names can
+    /// can be chosen only once: the refusal is `FeaturesTwice` exactly if they are chosen already. Only names can
     /// run out of memory, which is refused as `Memory`. After a refusal the command is as it was. Time O(names).
     ///
     /// ```text
@@ -289,9 +289,9 @@ impl MetadataCommand {
         Ok(())
     }
 
-    /// Sets a variable of the environment that cargo gets, beside those of this process; of two values of one name
+    /// Sets a variable of the environment that cargo gets, in addition to those of this process; of two values for one name
     /// the last counts. The only refusal is running out of memory, and then the command is as it was. Time O(log n)
-    /// of the variables.
+    /// for n variables.
     ///
     /// ```text
     /// command.env("RUSTC", "rustc")?.env("CARGO_NET_OFFLINE", "true")?;
@@ -308,7 +308,7 @@ impl MetadataCommand {
         }
     }
 
-    /// Sets a variable; whether it could.
+    /// Sets a variable, and returns whether that succeeded.
     fn has_set(&mut self, name: &str, value: &str) -> bool
         ensures { MatchBool result
             (self.new ≡ with_variable self.old name.now value.now) (self.new ≡ self.old) }

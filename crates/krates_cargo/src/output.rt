@@ -29,7 +29,7 @@ impl MetadataCommand {
     /// If it failed, this is refused as `CargoMetadata` with what it wrote to standard error, or as `ErrUtf8` if that isn't UTF-8.
     /// If it succeeded, this is refused as `Utf8` if standard output isn't UTF-8, and as `NoJson` if no line of it begins with
     /// `{`; otherwise it returns what `parse` returns for the first such line. It may instead return `Memory`. Time O(length of what was written), and
-    /// that of `parse`.
+    /// the time of `parse`.
     pub fn interpret(
         alloc: Global,
         success: bool,

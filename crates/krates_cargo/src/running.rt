@@ -15,8 +15,8 @@ use std::io;
 use std::process::{Command, Processes, Stdio};
 
 impl MetadataCommand {
-    /// The process that runs this command: of the program that is set, or the one that is passed, as from the variable `CARGO`,
-    /// or `cargo`; with the words of `args`, in the directory that is set, with the variables that are set beside
+    /// The process that runs this command: of the program that is set, or the one that is passed, for example from the variable `CARGO`,
+    /// or `cargo`; with the words of `args`, in the directory that is set, with the variables that are set added to
     /// those of this process. The only error is `Memory`. Time O(length of the words and variables).
     pub fn cargo_command(&self, cargo: Option<&str>) -> Result<Command, Error>
         ensures program { IfOk result (λ c. command_program c ≡ program self.now.cargo_path cargo.entry) }
@@ -48,7 +48,7 @@ impl MetadataCommand {
     }
 
     /// Runs cargo and reads the document that it writes. Standard output is collected, and so is standard error if the command
-    /// isn't verbose. The program is the one that is set, or the one that is passed, as from the variable `CARGO`, or `cargo`.
+    /// isn't verbose. The program is the one that is set, or the one that is passed, for example from the variable `CARGO`, or `cargo`.
     ///
     /// It is refused as `Io` if cargo couldn't be run, and otherwise as `interpret` refuses what it wrote. It may
     /// instead return `Memory`. The command can be run again. Time: that of the run, and of `interpret`.

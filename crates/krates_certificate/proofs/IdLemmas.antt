@@ -19,14 +19,14 @@ use Rattle.krates_certificate.specs.Written.{parts_text, IsTextFor}
 
 -- ---- ids that aren't read
 
--- but for memory, the text of a refused id isn't one
+-- unless memory ran out, the text of a refused id isn't one
 pub unread : (id : PackageId) (cause : IdError) → IsRefusal id cause → (IsOfMemory cause → ⊥) → (kid : Identity) → Reads (id_view id) kid → ⊥
 unread id (errors.Opaque back) wrong other kid reads = Reads-no_fault (id_view id) kid no_opaque_form reads wrong.1
 unread id (errors.Stable back) wrong other kid reads = Reads-no_fault (id_view id) kid no_stable_form reads wrong.1
 unread id (errors.Escape back) wrong other kid reads = Reads-no_fault (id_view id) kid bad_escape reads wrong.1
 unread id (errors.Memory back) wrong other kid reads = other tt
 
--- what is told not to hold doesn't
+-- what is said not to hold doesn't
 pub told_false : (b : Bool) (P : Type 0) → IsTrue b ↔ P → b ≡ false → P → ⊥
 told_false b P tells is holds = let so = tells.1 holds in absurd cc
 
@@ -64,7 +64,7 @@ name_of_piece false c piece name is h = rw is h
 name_of_piece true c piece name (inl (none, is)) h = rw is h
 name_of_piece true c piece name (inr (query, cut)) h = lacks_front c name _ (rw cut.is at h)
 
--- neither the name nor the version of an id that was read has a blank
+-- neither the name nor the version of an id that was read has a space
 abbrev HasNoBlank : Identity → Type 0
 HasNoBlank id = Lacks blank id.name × Lacks blank id.version
 
@@ -110,7 +110,7 @@ parts_read t id reads =
       same = refl;
     }
 
--- where its own text reads otherwise, its parts stand for an id
+-- where its own text reads otherwise, its parts give an id
 pub parts_for : (id : Identity) (r : Result (String Global) AllocError) → (ReadsAs id.text (id_of id) → ⊥) → IfOk r (λ s. string_bytes s ≡ parts_text id) → IfOk r (λ s. IsTextFor id (string_bytes s))
 parts_for id (Ok s) other is = record { own = λ itself. absurd (other itself); again = λ t reads. rw is (parts_read t id reads) }
 parts_for id (Err e) other is = tt

@@ -27,7 +27,7 @@ texts_there key ss d h = required_again (list text) (ListWritten TextWritten) (l
 cfg_there : (key : Text) (cfg : Option Text) (d : Data) → PartField (OptionWritten TextWritten cfg) key d → Field (nullable text) key cfg d
 cfg_there key cfg d h = required_again (nullable text) (OptionWritten TextWritten) (nullable_again text TextWritten text_never_null text_again) key cfg d h
 
--- the text that stands for an id
+-- the text that represents an id
 text_for : (id : Identity) (o : Option Data) → MatchOption o ⊥ (IdWritten id) → (s : Text) × MatchOption o ⊥ (TextWritten s) × IsTextFor id s
 text_for id None h = absurd h
 text_for id (Some e) h = h
@@ -42,7 +42,7 @@ id_there key id d h (t, reads) =
     let again = fits.again t reads in
     (again.read, (s, text_there key s d here, again.reads), again.same)
 
--- ---- parts that stand there
+-- ---- parts that are there
 
 abbrev Again : {A B : Type 0} → (A → B) → (A → Data → Type 0) → A → Data → Type 0
 Again {A} said Is x d = (y : A) × Is y d × (said y ≡ said x)

@@ -16,7 +16,7 @@ of_data s d (Ok x) is h = (d, is, h)
 of_data s d (Err e) is (inl memory) = inl memory
 of_data s d (Err e) is (inr wrong) = inr (in_data d is wrong)
 
--- but for memory, data of which no certificate is read is none
+-- unless memory ran out, data from which no certificate is read isn't one
 pub none_read : (d : Data) (e : CertificateError) → IsMemory (fault_of e) ⊎ CertificateFault d (fault_of e) → (IsMemory (fault_of e) → ⊥) → IsNoCertificate d
 none_read d e (inl memory) other = absurd (other memory)
 none_read d e (inr wrong) other = λ m is. never_certificate m d (fault_of e) is wrong

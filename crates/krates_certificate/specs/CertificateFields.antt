@@ -1,4 +1,4 @@
--- What stands under a key of an object, and what may be wrong there.
+-- What is under a key of an object, and what may be wrong there.
 use Rattle.std.specs.Prelude.{◌≡◌, ◌⊎◌, ◌<◌, ℕ, List, Some, None, MatchOption, codes}
 use Rattle.serde_json.specs.Data.{Data}
 use Rattle.serde_json.specs.Find.{get, at, as_array}
@@ -9,7 +9,7 @@ use Rattle.krates_cm_json.specs.Reading.{Reader, required, text, whole}
 use Rattle.krates_ids.specs.Identity.{Identity, Reads}
 use Rattle.krates_certificate.specs.CertificateRefusals.{Fault, read, bad_id, unknown_name, too_large}
 
--- ---- what stands there
+-- ---- what is there
 
 -- the reader reads this under the key
 abbrev pub Field : {A : Type 0} → Reader A → Text → A → Data → Type 0
@@ -27,17 +27,17 @@ NameField = Field text
 abbrev pub RuleField : ℕ → Data → Type 0
 RuleField rule d = Field whole (codes "rule") rule d × (rule < 256)
 
--- what stands under the key is so
+-- the data under the key has the property
 abbrev pub PartField : (Data → Type 0) → Text → Data → Type 0
 PartField Is key d = MatchOption (get key d) ⊥ Is
 
--- under the key stands a list of these, in order
+-- under the key is a list of these, in order
 abbrev pub ListField : {A : Type 0} → (A → Data → Type 0) → Text → List A → Data → Type 0
 ListField Is key xs = PartField (ListWritten Is xs) key
 
 -- ---- what is wrong there
 
--- the key is missing, or what stands under it has another JSON type
+-- the key is missing, or the data under it has another JSON type
 abbrev pub FieldFault : {A : Type 0} → Reader A → Text → Data → Fault → Type 0
 FieldFault reader key d (read fault) = (required reader key d).IsFault fault
 FieldFault reader key d _ = ⊥
@@ -47,25 +47,25 @@ abbrev pub IdFault : Text → Data → Fault → Type 0
 IdFault key d fault = FieldFault text key d fault
     ⊎ ((s : Text) × Field text key s d × ((id : Identity) → Reads s id → ⊥) × (fault ≡ bad_id key))
 
--- or the text there is none of the names
+-- or the text there isn't one of the names
 abbrev pub NameFault : {A : Type 0} → (A → Text) → Text → Data → Fault → Type 0
 NameFault {A} name key d fault = FieldFault text key d fault
     ⊎ ((s : Text) × NameField key s d × ((x : A) → s ≡ name x → ⊥) × (fault ≡ unknown_name key))
 
--- or the number there is no number of a rule
+-- or the number there isn't the number of a rule
 abbrev pub RuleFault : Data → Fault → Type 0
 RuleFault d fault = FieldFault whole (codes "rule") d fault
     ⊎ ((n : ℕ) × Field whole (codes "rule") n d × (255 < n) × (fault ≡ too_large (codes "rule")))
 
--- or it is true of what stands there
+-- or the fault is true of the data there
 abbrev pub PartFault : (Data → Fault → Type 0) → Text → Data → Fault → Type 0
 PartFault IsFault key d fault = ((get key d ≡ None) × (fault ≡ read (document.missing key))) ⊎ PartField (λ e. IsFault e fault) key d
 
--- what is wrong with data that stands under the key in place of a list: it is none, or the fault is true of an item
+-- what is wrong with data under the key that should be a list: it isn't one, or the fault is true of an item
 abbrev pub ItemsFault : (Data → Fault → Type 0) → Text → Data → Fault → Type 0
 ItemsFault IsFault key e fault = ((as_array e ≡ None) × (fault ≡ read (document.wrong_type key)))
     ⊎ ((n : ℕ) × MatchOption (at n e) ⊥ (λ i. IsFault i fault))
 
--- the same of what stands there, or the key is missing
+-- the same of the data there, or the key is missing
 abbrev pub ListFault : (Data → Fault → Type 0) → Text → Data → Fault → Type 0
 ListFault IsFault key = PartFault (ItemsFault IsFault key) key

@@ -25,7 +25,7 @@ fault_of (errors.BadId key) = bad_id key.now
 fault_of (errors.UnknownName key) = unknown_name key.now
 fault_of (errors.TooLarge key) = too_large key.now
 
--- memory ran out, which is true of no data
+-- memory ran out, which isn't a fault of any data
 abbrev pub IsMemory : Fault → Type 0
 IsMemory fault = fault ≡ read document.out_of_memory
 
@@ -35,12 +35,12 @@ JsonBecomes cause (errors.NotJson line column) = json_errors.IsMemory cause → 
 JsonBecomes cause (errors.Read read_errors.Memory) = json_errors.IsMemory cause
 JsonBecomes cause _ = ⊥
 
--- an id wasn't read since memory ran out
+-- an id wasn't read because memory ran out
 abbrev pub IsOfMemory : IdError → Type 0
 IsOfMemory (id_errors.Memory id) = ⊤
 IsOfMemory _ = ⊥
 
--- A value comes exactly so; a refusal names a true fault, unless memory ran out.
+-- A value that is returned has the property; a refusal names a true fault, unless memory ran out.
 abbrev pub Gives : {X Y : Type 0} → (X → Y) → (Y → Type 0) → (Fault → Type 0) → Result X CertificateError → Type 0
 Gives view Is IsFault (Ok x) = Is (view x)
 Gives view Is IsFault (Err e) = IsMemory (fault_of e) ⊎ IsFault (fault_of e)

@@ -45,10 +45,10 @@ IsSameCertificate _ _ = ⊥
 abbrev pub WrittenIsRead : {A : Type 0} → Writer A → Writer A → (A → Type 0) → (A → A → Type 0) → Type 0
 WrittenIsRead {A} Written Is IsWritable IsSame = (x : A) (d : Data) → IsWritable x → Written x d → (y : A) × Is y d × IsSame y x
 
--- Data is read as one part at most.
+-- Data is read as at most one part.
 abbrev pub ReadsOnce : {A : Type 0} → Writer A → Type 0
 ReadsOnce {A} Is = (x y : A) (d : Data) → Is x d → Is y d → x ≡ y
 
--- Of no data that is read a fault is true.
+-- No fault is true of data that is read.
 abbrev pub NeverBoth : {A : Type 0} → Writer A → (Data → Fault → Type 0) → Type 0
 NeverBoth {A} Is IsFault = (x : A) (d : Data) (fault : Fault) → Is x d → IsFault d fault → ⊥

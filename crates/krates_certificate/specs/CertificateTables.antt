@@ -1,4 +1,4 @@
--- The tables of a certificate: which data is which fact, step and certificate, and which fault is true of other data. One row a key.
+-- The tables of a certificate: which data is which fact, step and certificate, and which fault is true of other data. One row per key.
 use Rattle.std.specs.Prelude.{◌≡◌, ◌⊎◌, Some, None, codes}
 use Rattle.serde_json.specs.Data.{Data}
 use Rattle.serde_json.specs.Read as json
@@ -68,7 +68,7 @@ IsCertificate (told_closed setting facts) d =
     × Field (list text) (codes "setting") setting d
     × ListField IsFact (codes "facts") facts d
 
--- the data is no certificate
+-- the data isn't a certificate
 abbrev pub IsNoCertificate : Data → Type 0
 IsNoCertificate d = (m : ToldCertificate) → IsCertificate m d → ⊥
 
@@ -84,7 +84,7 @@ pub data CertificateFault (d : Data) (fault : Fault) : Type 0 where
 abbrev pub IsCertificateText : Text → ToldCertificate → Type 0
 IsCertificateText s m = (d : Data) × (json.read s ≡ Some d) × IsCertificate m d
 
--- the text isn't JSON, or its data is no certificate
+-- the text isn't JSON, or its data isn't a certificate
 abbrev pub IsNoCertificateText : Text → Type 0
 IsNoCertificateText s = (m : ToldCertificate) → IsCertificateText s m → ⊥
 

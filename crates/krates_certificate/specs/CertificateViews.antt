@@ -29,7 +29,7 @@ pub data ToldCertificate : Type 0 where
   told_derivation : (setting : List Text) (steps : List ToldStep) → ToldCertificate
   told_closed : (setting : List Text) (facts : List ToldFact) → ToldCertificate
 
--- ---- what stands for a value
+-- ---- how a value is represented
 
 abbrev pub fact_told : Fact → ToldFact
 fact_told (facts.Crate krate) = told_crate krate

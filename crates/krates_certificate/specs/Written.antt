@@ -1,4 +1,4 @@
--- The tables of a certificate as it is written: which keys each part has, in their order, and what stands under each. One row a key.
+-- The tables of a certificate as it is written: which keys each part has, in their order, and the data under each. One row per key.
 use Rattle.std.specs.Prelude.{◌≡◌, [], ◌∷◌, ◌++◌, codes}
 use Rattle.serde_json.specs.Data.{string, Members}
 use Rattle.serde_json.specs.View.{members_view}

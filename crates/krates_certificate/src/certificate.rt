@@ -19,7 +19,7 @@ use krates_rules::{Derivation, Fact, Step};
 use serde_json::Value;
 use std::alloc::{AllocError, Global};
 
-/// What one party hands to another, who trusts no search, to be checked against a document.
+/// What one party gives to another, who trusts no search, to be checked against a document.
 #[derive(Debug, Drop)]
 pub enum Certificate {
     /// A list of steps, each of which follows by a rule from earlier ones.
@@ -39,10 +39,10 @@ pub enum Certificate {
 }
 
 impl Certificate {
-    /// Reads a certificate: the JSON value of the text (RFC 8259), then the certificate of that value. Texts stay where they
-    /// stand until they are copied.
+    /// Reads a certificate: the JSON value of the text (RFC 8259), then the certificate of that value. Texts are borrowed
+    /// until they are copied.
     ///
-    /// Returns `NotJson` if the text isn't JSON, and otherwise what is wrong with its value. It may instead tell that memory ran
+    /// Returns `NotJson` if the text isn't JSON, and otherwise what is wrong with its value. It may instead report that memory ran
     /// out. Time O(n) in the length of the text.
     ///
     /// ```text
@@ -57,7 +57,7 @@ impl Certificate {
         if let Some(certificate) = parse_in_place(alloc, text)? {
             return Ok(certificate);
         }
-        // Why it is refused, `serde_json` and its values tell.
+        // `serde_json` and its values say why it is refused.
         let value = Value::from_str(alloc, text)?;
         Certificate::from_value(alloc, &value)
     }
@@ -121,7 +121,7 @@ fn certificate_of<J: JsonRef>(alloc: Global, value: J) -> Result<Option<Certific
     }
 }
 
-/// Reads a certificate whose texts stay where they stand until they are copied; `None` exactly where it is refused. Returns
+/// Reads a certificate whose texts are borrowed until they are copied; `None` exactly where it is refused. Returns
 /// `AllocError` if memory runs out.
 fn parse_in_place(alloc: Global, text: &str) -> Result<Option<Certificate>, AllocError>
     ensures { IfOk result (λ found. MatchOption found (IsNoCertificateText text.now)

@@ -9,7 +9,7 @@ use krates_cm::ReadError;
 use std::alloc::{AllocError, AllocFailed};
 use thiserror::Error;
 
-/// What is wrong with a certificate that isn't read. If several refusals are true of it, it is left open which one is named.
+/// What is wrong with a certificate that isn't read. If several refusals apply to it, it isn't specified which one is returned.
 #[derive(Clone, Copy, Debug, Error)]
 pub enum CertificateError {
     /// The text isn't JSON (RFC 8259), or nests deeper than is read.
@@ -20,13 +20,13 @@ pub enum CertificateError {
         /// The column where that shows.
         column: usize,
     },
-    /// A key is missing, or what stands under it has another JSON type; or memory ran out.
+    /// A key is missing, or the value under it has another JSON type; or memory ran out.
     #[error("{0}")]
     Read(ReadError),
     /// The text under this key isn't a package id.
     #[error("no package id at key: {0}")]
     BadId(&'static str),
-    /// The text under this key is none of the names that may stand there.
+    /// The text under this key is none of the names that are allowed there.
     #[error("unknown name at key: {0}")]
     UnknownName(&'static str),
     /// The number under this key is larger than the number of any rule.

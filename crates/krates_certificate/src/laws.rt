@@ -12,14 +12,14 @@ pub fn written_is_read()
     ensures certificate { WrittenIsRead CertificateWritten IsCertificate IsWritable IsSameCertificate }
 {}
 
-/// Data is read as one part at most.
+/// Data is read as at most one part.
 pub fn one_reading()
     ensures fact { ReadsOnce IsFact }
     ensures step { ReadsOnce IsStep }
     ensures certificate { ReadsOnce IsCertificate }
 {}
 
-/// No fault is true of data that is read: a refusal, but for memory that runs out, comes only where nothing is read.
+/// No fault is true of data that is read: except when memory runs out, a refusal comes only where nothing is read.
 pub fn faults_are_true()
     ensures fact { NeverBoth IsFact FactFault }
     ensures step { NeverBoth IsStep StepFault }

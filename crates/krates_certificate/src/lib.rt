@@ -1,5 +1,5 @@
 //! Certificates of what a resolution keeps, as JSON: a list of steps by which facts follow, or a list of facts that is closed, with the
-//! setting under which it was made. One party writes one, and another reads it and has it checked.
+//! setting under which it was made. One party writes one, and another reads and checks it.
 #![tactic(auto)]
 
 pub mod certificate;

@@ -1,4 +1,4 @@
-//! What a certificate is made of.
+//! The parts of a certificate.
 
 ghost use Rattle.std.specs.Prelude.{IfOk};
 ghost use Rattle.serde_json.specs.Data.{Data};
@@ -20,16 +20,16 @@ pub trait CertificatePart: Sized + Drop {
     /// Which data is read as the part.
     ghost Is: { Model → Data → Type 0 };
 
-    /// Which faults are true of data that is read as none.
+    /// Which faults data has that isn't read as a part.
     ghost IsFault: { Data → Fault → Type 0 };
 
     /// Which data may be written for the part.
     ghost Writes: { Model → Data → Type 0 };
 
-    /// Reads the part, wherever the JSON value is kept. A key that comes twice has its last value; other keys are passed over.
+    /// Reads the part, wherever the JSON value is kept. A key that occurs twice has its last value; other keys are skipped.
     /// Time O(n) in the size of the value.
     ///
-    /// A refusal is true of the value; if several are, it is left open which one is named.
+    /// A refusal is true of the value; if several are, it isn't specified which one is returned.
     fn from_json<J: JsonRef>(alloc: Global, value: J) -> Result<Self, CertificateError>
         ensures { Gives view (λ m. Is m (J.meaning value)) (IsFault (J.meaning value)) result };
 

@@ -45,7 +45,7 @@ fn check_against(
     Ok(())
 }
 
-/// Does what the words ask for.
+/// Does what the words say.
 fn answer(rt: &HostRuntime, words: &[String]) -> ExitCode {
     let asked = match check_words_of(rt.alloc(), words) {
         Ok(asked) => asked,
@@ -60,7 +60,7 @@ fn answer(rt: &HostRuntime, words: &[String]) -> ExitCode {
     }
 }
 
-/// Does what the words ask for.
+/// Does what the words say.
 fn main(rt: HostRuntime) -> ExitCode {
     match words_of(&rt) {
         Ok(words) => answer(&rt, &words),

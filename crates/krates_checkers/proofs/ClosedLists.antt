@@ -34,7 +34,7 @@ references_among r s fs p f values are = (
   λ h text among a is. h a ((are a).1 (record { text = text; among = among; is = is })),
 )
 
--- a reference that asks for the edges to what a name means gives them
+-- a reference that requires the edges to what a name means gives them
 edges_given : (r : Resolved) (s : SettingModel) (fs : List Fact) (p : Id) (a : Reference) (dep : Text) → Demands a dep → GivesIn r s fs p a → EdgesToIn r s fs p dep
 edges_given r s fs p (simple g) dep asks h = absurd asks
 edges_given r s fs p (krate c) dep asks h = subst (EdgesToIn r s fs p) (sym asks) h
@@ -161,7 +161,7 @@ fact_given r s fs (Kept e) lost closed here = kept_given r s fs e lost closed he
 fact_given r s fs (Toggled p c g) lost closed here = closed _ _ _ (toggled_feature {p = p} {c = c} {g = g}) (one (Contains fs) (Toggled p c g) here)
 fact_given r s fs (Lost c) lost closed here = tt
 
--- all that the roots and the facts give stands in the list, so the list is closed
+-- all that the roots and the facts give is in the list, so the list is closed
 facts_closed : (r : Resolved) (s : SettingModel) (fs : List Fact) → RootsIn r s fs → ((f : Fact) → Contains fs f → FactIn r s fs f) → IsClosed (questions r s) fs
 unfolding questions
 facts_closed r s fs roots facts n ps x (root_crate {p} root stands) from = (roots p root).kept stands
@@ -195,7 +195,7 @@ facts_closed r s fs roots facts n ps x (toggled_feature {p} {c} {g}) from = fact
 facts_closed r s fs roots facts n ps x (lost_toggled_weakly {e} {f} {g} {c} has is lacks) from =
     absurd (((facts (Feature e.parent f) (from _ (inl refl))).given (weak c g) has e.child is e (from _ (inr (inl refl))) refl refl).listed lacks)
 
--- a list without lost facts is closed exactly where all of that stands in it
+-- a list without lost facts is closed exactly where all of that is in it
 pub closed_told : (r : Resolved) (s : SettingModel) (xs : List ToldFact) → (RootsIn r s (facts_view xs) × ((f : Fact) → Contains (facts_view xs) f → FactIn r s (facts_view xs) f)) ↔ IsClosed (questions r s) (facts_view xs)
 closed_told r s xs = (
   λ h. facts_closed r s (facts_view xs) h.0 h.1,

@@ -30,13 +30,13 @@ use std::alloc::{AllocError, Global};
 /// rule from the facts of the earlier steps that it uses, in the order of the rule. So the fact of each step is derivable from
 /// the roots, that of the last among them (`laws::accepted_lists` of the rules).
 ///
-/// With an index each package counts as the index corrects it; the index isn't asked anything.
+/// With an index each package counts as the index corrects it; the index isn't asked again.
 ///
 /// It is refused as `Document`, `Empty` or `Step`, the first of these that applies; `Step` names the first step that doesn't
 /// follow. It may instead return `Memory`.
 ///
 /// Time: O((n + d) log d) for n steps and a document of d crates, features and dependencies, and for each step the
-/// dependencies of the node, and the references of the feature, that it speaks of.
+/// dependencies of the node, and the references of the feature, that it is about.
 pub fn check(
     alloc: Global,
     metadata: &Metadata,
@@ -56,15 +56,15 @@ pub fn check(
 }
 
 /// Checks that a list of facts is closed for a document and a setting: the document is admitted, and each fact that follows by
-/// one rule from facts of the list stands in it, and nothing lost follows. So each fact that is derivable from the roots stands
-/// in it (`laws::closed_lists` of the rules): a package whose crate it lacks is unreachable.
+/// one rule from facts of the list is in it, and nothing lost follows. So each fact that is derivable from the roots is
+/// in it (`laws::closed_lists` of the rules): a package whose crate isn't in it is unreachable.
 ///
-/// With an index each package counts as the index corrects it; the index isn't asked anything.
+/// With an index each package counts as the index corrects it; the index isn't asked again.
 ///
 /// It is refused as `Document`, otherwise as `Open`. It may instead return `Memory`.
 ///
 /// Time: O((n + d) log (n + d)) for n facts and a document of d crates, features and dependencies, and for each fact the
-/// dependencies of its crate's node, as often as an edge of it is asked for.
+/// dependencies of its crate's node, once for each edge of it that is looked up.
 pub fn check_closed(
     alloc: Global,
     metadata: &Metadata,

@@ -1,6 +1,6 @@
 //! Whether a list of facts is closed.
 //!
-//! For each fact there is one question: whether all that it gives stands in the list. What a feature gives together with an edge
+//! For each fact there is one question: whether all that it gives is in the list. What a feature gives together with an edge
 //! is asked with the feature, for the edges in the list.
 
 ghost use Rattle.std.specs.Prelude.{◌↔◌, IfOk, IsTrue, map};
@@ -41,7 +41,7 @@ pub(crate) fn is_closed<'a>(
     are_facts_in(&check, facts)
 }
 
-/// Whether all that these facts give stands in the list.
+/// Whether all that these facts give is in the list.
 fn are_facts_in<'a>(check: &ClosureCheck<'a, '_>, facts: &'a [Fact]) -> Result<bool, AllocError>
     ensures { IfOk result
         (λ b. IsTrue b ↔ AllIn (document_in check.now) (setting_in check.now) (facts_in check.now)
@@ -55,7 +55,7 @@ fn are_facts_in<'a>(check: &ClosureCheck<'a, '_>, facts: &'a [Fact]) -> Result<b
     Ok(true)
 }
 
-/// Whether all that a fact gives stands in the list.
+/// Whether all that a fact gives is in the list.
 fn is_fact_in<'a>(check: &ClosureCheck<'a, '_>, fact: &'a Fact) -> Result<bool, AllocError>
     ensures { IfOk result
         (λ b. IsTrue b ↔ FactIn (document_in check.now) (setting_in check.now) (facts_in check.now)
@@ -82,7 +82,7 @@ fn is_fact_in<'a>(check: &ClosureCheck<'a, '_>, fact: &'a Fact) -> Result<bool, 
     }
 }
 
-/// Whether all that a feature gives stands in the list.
+/// Whether all that a feature gives is in the list.
 fn is_feature_in<'a>(
     check: &ClosureCheck<'a, '_>,
     krate: &'a Kid,
@@ -98,7 +98,7 @@ fn is_feature_in<'a>(
     are_references_in(check, krate, check.context.document.values(krate, feature))
 }
 
-/// Whether all that these references of a feature of the crate give stands in the list.
+/// Whether all that these references of a feature of the crate give is in the list.
 fn are_references_in<'a>(
     check: &ClosureCheck<'a, '_>,
     krate: &'a Kid,
@@ -116,7 +116,7 @@ fn are_references_in<'a>(
     Ok(true)
 }
 
-/// Whether all that a reference of a feature of the crate gives stands in the list.
+/// Whether all that a reference of a feature of the crate gives is in the list.
 fn is_reference_in<'a>(
     check: &ClosureCheck<'a, '_>,
     krate: &'a Kid,

@@ -131,7 +131,7 @@ unkept_refused once a bytes krate (errors.NotKept other) utf8 unkept (_, refused
 unkept_refused once a bytes krate errors.Write utf8 unkept refused = inr tt
 unkept_refused once a bytes krate errors.Memory utf8 unkept refused = inr tt
 
--- words ask for one thing
+-- words mean one thing
 abbrev pub AskOnce : Type 0
 AskOnce = (words : List Text) (a b : OptionsModel) → IsCommandLine words a → IsCommandLine words b → a ≡ b
 
@@ -149,6 +149,6 @@ asked_refused once law alone words (Some bytes) cause listed (inr asked) =
     let refused = subst (λ (o : OptionsModel). LinesRefusal o.cargo (request_of o) (Some bytes) cause) same asked.2 in
     listed_refused once law (request_of listed.0) bytes listed.2.1.1.0 cause listed.2.1.0 listed.2.1.1.1 (read_refused listed.0.cargo (request_of listed.0) bytes cause listed.2.0 refused)
 
--- what holds where a program is asked for, of the words that ask for this
+-- words that set a program have one set in their options, so what follows from that holds
 pub where_program : AskOnce → (words : List Text) (o : OptionsModel) (P : Type 0) → IsCommandLine words o → (IsSome o.cargo → P) → AskForProgram words → P
 where_program alone words o P line h asked = h (subst (λ (a : OptionsModel). IsSome a.cargo) (alone words asked.0 o asked.1 line) asked.2)

@@ -69,7 +69,7 @@ text_unlisted a text m errors.Utf8 document unlisted = absurd unlisted
 text_unlisted a text m (errors.Parse cause) document unlisted = absurd unlisted
 text_unlisted a text m errors.Write document unlisted = absurd unlisted
 
--- nor a run of cargo that wrote it; it is no failed write
+-- nor a run of cargo that wrote it; it isn't a failed write
 pub cargo_unlisted : (a : Request) (m : Metadata) (e : RunError) → IsSomeAnswer (metadata_view m) → IsUnlisted a m e → CargoRefusal a e × (e ≡ errors.Write → ⊥)
 cargo_unlisted a m (errors.Build cause) written unlisted = (record { metadata = m; written = written; holds = unlisted }, λ is. subst NoWrite is tt)
 cargo_unlisted a m errors.Memory written unlisted = (tt, λ is. subst NoWrite is tt)
@@ -99,7 +99,7 @@ pub cargo_refused : {A : Type 0} (a : Request) (m : Metadata) (r : Result A RunE
 cargo_refused a m (Ok x) written unlisted = unlisted
 cargo_refused a m (Err e) written unlisted = cargo_unlisted a m e written unlisted
 
--- a run of cargo without a document has no listing, and is no failed write
+-- a run of cargo without a document has no listing, and isn't a failed write
 pub cargo_unrun : (a : Request) (cause : cm.Error) (e : RunError) → IsUnrun cause → ParseErrorBecomes cause e → CargoRefusal a e × (e ≡ errors.Write → ⊥)
 cargo_unrun a cause (errors.Parse same) unrun becomes = (
   record { unrun = subst IsUnrun (sym becomes.0) unrun; not_memory = λ is_memory. becomes.1 (sym becomes.0 ∙ is_memory) },
@@ -120,7 +120,7 @@ lines_listed (pkg ∷ packages) [] h = absurd h
 lines_listed (pkg ∷ packages) (l ∷ values) h =
     ap (λ (id : PackageId). id_line (codes "+ ") id ++ listed_lines values) h.0 ∙ ap (λ ls. line (codes "+ ") pkg ++ ls) (lines_listed packages values h.1)
 
--- what is built without an index is built of the document as it is given
+-- what is built without an index is built from the document as it is given
 pub built_as_given : {S F N E : Type 0} (may_answer : Answering S) (index : Option S) (s meant : SettingModel) (m : Metadata) (filters : F → Package → F → Type 0) (made : Package → N → Type 0) (made_edge : Edge → E → Type 0) (kept : KeptCrates N E) (before after : F)
     → index ≡ None → s ≡ meant
     → Sees may_answer index m (λ seen. IsBuilt filters made made_edge seen s before after kept) → IsBuilt filters made made_edge m meant before after kept
@@ -179,7 +179,7 @@ explained s m made_edge kept before after krate lines resolvable built e =
       written = e.written;
     }
 
--- what stands in the list of ids stands at some place of it
+-- what is in the list of ids is at some place of it
 place_of : (ids : List Identity) (i : Id) (k : ℕ) → k < length (map id_of ids) → get_or (map id_of ids) k i ≡ i → (n : ℕ) × StandsAt ids i n
 place_of [] i k lt is = absurd (omega arith)
 place_of (x ∷ xs) i zero lt is = (0, record { there = x; at = refl; same = is })

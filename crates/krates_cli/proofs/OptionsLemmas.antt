@@ -44,7 +44,7 @@ no_word option value flag wish k t s c w same (exclude h) e = differ option (cod
 no_word option value flag wish k t s c w same cargo e = differ option (codes "--cargo") flag refl e c same
 no_word option value flag wish k t s c w same (why h) e = differ option (codes "--why") flag refl e w same
 
--- an option without a value, and what it asks for
+-- an option without a value, and what it means
 abbrev pub IsFlag : Text → Wish → Type 0
 IsFlag option every_member = option ≡ codes "--workspace"
 IsFlag option every_namesake = option ≡ codes "--all-named"
@@ -60,7 +60,7 @@ no_flag option value wish (without_package s) asks e = e
 no_flag option value wish (by_program c) asks e = e
 no_flag option value wish (explaining i) asks e = e
 
--- and each asks for one thing
+-- and each means one thing
 same_flag : (option : Text) (a b : Wish) → IsFlag option a → IsFlag option b → a ≡ b
 same_flag option every_member every_member p q = refl
 same_flag option every_member every_namesake p q = differ option (codes "--workspace") (codes "--all-named") p q refl refl
@@ -82,7 +82,7 @@ same_flag option (without_package s) b p q = absurd p
 same_flag option (by_program c) b p q = absurd p
 same_flag option (explaining i) b p q = absurd p
 
--- an option of another name asks for nothing
+-- an option of another name means nothing
 pub no_value : (option value : Text) → (option ≡ codes "--ignore-kind" → ⊥) → (option ≡ codes "--target" → ⊥) → (option ≡ codes "--exclude" → ⊥) → (option ≡ codes "--cargo" → ⊥) → (option ≡ codes "--why" → ⊥) → IsNoValue option value
 no_value option value no_kind no_target no_spec no_cargo no_why wish (ignore_kind h) = no_kind refl
 no_value option value no_kind no_target no_spec no_cargo no_why wish target = no_target refl
@@ -104,18 +104,18 @@ no_id_value option value is none wish (exclude h) = differ option (codes "--excl
 no_id_value option value is none wish cargo = differ option (codes "--cargo") (codes "--why") refl is refl refl
 no_id_value option value is none wish (why {krate = krate} h) = none krate h
 
--- a value that is no specification is refused, and running out of memory stays that
+-- a value that isn't a specification is refused, and running out of memory stays that
 pub spec_refused : (option value : Text) (cause same : OptionsError) → option ≡ codes "--exclude" → IsUnread ((spec : Specification) → IsSpec value spec.name spec.version spec.url → ⊥) cause
     → same ≡ cause → IsUnread (IsNoValue option value) same
 spec_refused option value errors.Unknown same is none e = subst (IsUnread (IsNoValue option value)) (sym e) (no_spec_value option value is none)
 spec_refused option value errors.Memory same is none e = subst (IsUnread (IsNoValue option value)) (sym e) tt
 
--- a text with a fault is no id
+-- a text with a fault isn't an id
 pub no_id : (word : Text) (id : PackageId) (fault : Fault) → ((t : Text) (i : Identity) (f : Fault) → Reads t i → IsFault t f → ⊥) → id_view id ≡ word → IsFault (id_view id) fault
     → (krate : Identity) → Reads word krate → ⊥
 no_id word id fault law same is krate reads = law (id_view id) krate fault (subst (λ (t : Text). Reads t krate) (sym same) reads) is
 
--- a value that is no id is refused
+-- a value that isn't an id is refused
 pub id_refused : (option value : Text) (cause same : OptionsError) → option ≡ codes "--why" → IsUnread ((krate : Identity) → Reads value krate → ⊥) cause
     → same ≡ cause → IsUnread (IsNoValue option value) same
 id_refused option value errors.Unknown same is none e = subst (IsUnread (IsNoValue option value)) (sym e) (no_id_value option value is none)
@@ -212,7 +212,7 @@ later_still : {A : Type 0} (first : Option A) (next : A) (last : Option A) → l
 later_still first next None = refl
 later_still first next (Some other) = refl
 
--- a wish at the end of the first stands before the second
+-- a wish at the end of the first comes before the second
 moves_over : (a b : OptionsModel) (wish : Wish) → joined (and_wish a wish) b ≡ joined a (with_wish wish b)
 moves_over a b every_member = ap (λ x. record (joined a b) { workspace = x }) (sym (or-true a.workspace))
 moves_over a b every_namesake = ap (λ x. record (joined a b) { all_named = x }) (sym (or-true a.all_named))
@@ -318,7 +318,7 @@ one_read all old new left words rest split adds before = record {
 pub all_read : (all : List Text) (o : OptionsModel) (left : List Text) → left ≡ [] → AreReadTo all o left → IsCommandLine all o
 all_read all o left none are = subst (λ a. IsCommandLine all a) (joined_plain o) (are.whole plain_options (subst (λ l. IsCommandLine l plain_options) (sym none) no_words))
 
--- words of which some are left that begin with no option are no command line
+-- words of which some are left that begin with no option aren't a command line
 unknown_left : (all : List Text) (o : OptionsModel) (option : Text) (left values : List Text) → left ≡ option ∷ values → BeginsUnknown (option ∷ values) → AreReadTo all o left → IsUnknown all
 unknown_left all o option left values split unknown are p line = let (q, line_left) = are.back p line in never option values q unknown (line_begins (option ∷ values) q (subst (λ l. IsCommandLine l q) split line_left))
 

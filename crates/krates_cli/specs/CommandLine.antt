@@ -29,7 +29,7 @@ abbrev pub Asking : List Text → (OptionsModel → Type 0) → Type 0
 Asking words P = (o : OptionsModel) × IsCommandLine words o × P o
 
 -- What is added to the known bytes of a writer: the lines of what is to be read, where that is known; or, where a program is
--- asked for, of the document that it writes.
+-- set, those of the document that it writes.
 abbrev pub WritesLines : Option Text → Request → Option Text → Option Text → Option Text → Type 0
 WritesLines None a remaining old new = IfSome remaining (λ bytes. WritesListing a bytes old new)
 WritesLines (Some cargo) a remaining old new = WritesCargoListing a old new
@@ -44,18 +44,18 @@ abbrev pub LinesRefusal : Option Text → Request → Option Text → RunError �
 LinesRefusal None a remaining cause = IfSome remaining (λ bytes. RunRefusal a bytes cause)
 LinesRefusal (Some cargo) a remaining cause = CargoRefusal a cause
 
--- The cause is true of the words, and of the bytes that are to be read, where those are known, or of the program that is asked
--- for. Memory may always run out.
+-- The cause is true of the words, and of the bytes that are to be read, where those are known, or of the program that is
+-- set. Memory may always run out.
 abbrev pub IsCause : List Text → Option Text → RunError → Type 0
 IsCause words remaining cause =
     (cause ≡ errors.Memory) ⊎ Asking words (λ o. LinesRefusal o.cargo (request_of o) remaining cause)
 
--- the words ask for something and for no program, and what is to be read has a listing under it
+-- the words are options that set no program, and what is to be read has a listing under it
 abbrev pub AskForListing : List Text → Option Text → Type 0
 AskForListing words remaining = Asking words (λ o. (o.cargo ≡ None)
     × IsSomeAnd remaining (λ bytes. IsUtf8 bytes × ((lines : Text) × IsListing (request_of o) bytes lines)))
 
--- the words ask for a program
+-- the words set a program
 abbrev pub AskForProgram : List Text → Type 0
 AskForProgram words = Asking words (λ o. IsSome o.cargo)
 
@@ -70,7 +70,7 @@ pub record LeavesEnds {R W : Type 0} (input after : Counted R) (output left : Co
 abbrev pub refusal_line : Text → Text
 refusal_line cause = codes "refused: " ++ (cause ++ codes "\n")
 
--- The line was told with the text that is printed of the cause, which is this one where it is stated; or, in place of it, that
+-- The line was written with the text that is printed for the cause, which is this one where it is stated; or, instead of it, that
 -- memory ran out.
 abbrev pub TellsCause : {E : Type 0} → (E → Option Text) → Counted E → Counted E → Option Text → Type 0
 TellsCause contents old new printed =

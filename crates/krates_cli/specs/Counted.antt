@@ -14,7 +14,7 @@ inner_of c = end_of c.inner
 abbrev pub failures_of : {T : Type 0} → Counted T → ℕ
 failures_of c = number_of c.failures
 
--- a call failed: the number grew, or stands at its greatest value
+-- a call failed: the number grew, or is at its greatest value
 abbrev pub HasFailed : {T : Type 0} → Counted T → Counted T → Type 0
 HasFailed old new = (failures_of old < failures_of new) ⊎ (failures_of new ≡ 2 ^ 64 - 1)
 

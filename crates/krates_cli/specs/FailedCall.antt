@@ -1,4 +1,4 @@
--- Calls that failed, and how many of them are counted. Cited by private functions alone.
+-- Calls that failed, and how many of them are counted. Only private functions cite this.
 use Rattle.std.specs.Prelude.{◌≡◌, ◌↔◌, ℕ, Bool, true}
 use Rattle.std.specs.IoError.{error_kind}
 use Rattle.std.specs.declared.io.Error.{Error}

@@ -26,7 +26,7 @@ reported_lines packages = flat_map (line (codes "- ")) packages
 abbrev pub lines_of : List Package → List Package → Text
 lines_of kept others = kept_lines kept ++ reported_lines others
 
--- ---- of what a build keeps in the place of packages
+-- ---- of what a build holds instead of packages
 
 -- it is what is listed of the package
 abbrev pub IsListedOf : Package → Listed → Type 0

@@ -1,4 +1,4 @@
--- The listing of a document: what is written for a text that is read, where this is asked.
+-- The listing of a document: what is written for a text that is read, by what is asked.
 use Rattle.std.specs.Prelude.{◌≡◌, ◌↔◌, List, Option, Contains, IsUtf8, MatchOption, map}
 use Rattle.std.specs.Io.KnownBytes.{Appends}
 use Rattle.krates_cm.specs.Document.{Text, metadata_view}
@@ -46,11 +46,11 @@ pub record ExplainsCrate (s : SettingModel) (m : Metadata) (krate : Identity) (l
   pub why : IsWhyKept s (metadata_view m) split.kept_ids krate steps
   pub written : lines ≡ derivation_lines steps
 
--- These are the lines that are asked for: of the packages, or of the derivation of a crate.
+-- These are the lines that are requested: of the packages, or of the derivation of a crate.
 abbrev pub IsListingOf : Request → Metadata → Text → Type 0
 IsListingOf a m lines = MatchOption a.explaining (ListsPackages a.setting m lines) (λ krate. ExplainsCrate a.setting m krate lines)
 
--- The text is a document, and these are the lines that are asked for of it.
+-- The text is a document, and these are the lines that are requested of it.
 pub record IsListing (a : Request) (text lines : Text) : Type 0 where
   pub metadata : Metadata
   pub document : IsDocument text (metadata_view metadata)

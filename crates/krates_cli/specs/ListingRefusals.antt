@@ -17,7 +17,7 @@ use Rattle.krates_cli.specs.Request.{Request}
 use Rattle.krates_cli.specs.declared.run_error.RunError.{RunError}
 use Rattle.krates_cli.specs.declared.run_error.RunError.TheVariants as errors
 
--- the text is no document, for this reason, and not because memory ran out
+-- the text isn't a document, for this reason, and not because memory ran out
 pub record ParseRefusal (text : Text) (cause : cm.Error) : Type 0 where
   pub refused : IsRefusal text cause
   pub not_memory : cause ≡ cm_errors.Memory → ⊥
@@ -27,7 +27,7 @@ pub record IsUnbuilt (s : SettingModel) (m : Metadata) (cause : build.Error) : T
   pub refused : BuildRefusalAsGiven m s cause
   pub not_memory : cause ≡ build_errors.Memory → ⊥
 
--- the document is built under the setting, and doesn't keep the crate, whose derivation is asked for
+-- the document is built under the setting, and doesn't keep the crate, whose derivation is requested
 pub record IsUnkept (a : Request) (m : Metadata) (krate : Identity) : Type 0 where
   pub asked : a.explaining ≡ Some krate
   pub kept : List Package

@@ -1,4 +1,4 @@
--- What is asked of a run: which words ask for what, and the request that is meant.
+-- What is asked of a run: which words mean what, and the request that they make.
 use Rattle.std.specs.Prelude.{◌≡◌, List, [], ◌∷◌, Bool, true, false, Option, Some, None, bytes_eq, codes, if◌then◌else◌, map, option_map, string_bytes}
 use Rattle.std.specs.List.{list_any}
 use Rattle.krates_cm.specs.Document.{Text}
@@ -16,7 +16,7 @@ use Rattle.krates_cli.specs.declared.options.Options.{Options}
 -- ---- what is asked
 
 pub record OptionsModel : Type 0 where
-  -- whether every member is asked for
+  -- whether every member is a root
   pub workspace : Bool
   -- the kinds of the dependencies that are ignored
   pub ignored : List DepKind
@@ -24,11 +24,11 @@ pub record OptionsModel : Type 0 where
   pub targets : List Text
   -- the packages that are left out
   pub exclusions : List Specification
-  -- the program whose output is the document, where one is asked for
+  -- the program whose output is the document, where one is set
   pub cargo : Option Text
   -- the crate that is to be explained, where one is
   pub explaining : Option Identity
-  -- whether a name in a feature reference means all dependencies that answer to it
+  -- whether a name in a feature reference means all dependencies that match it
   pub all_named : Bool
 
 -- nothing is asked
@@ -49,7 +49,7 @@ options_view o = record {
 
 -- ---- words
 
--- what one option asks for
+-- what one option means
 pub data Wish : Type 0 where
   every_member : Wish
   every_namesake : Wish
@@ -59,7 +59,7 @@ pub data Wish : Type 0 where
   by_program : Text → Wish
   explaining : Identity → Wish
 
--- of two that are asked for, the later
+-- of two values, the later
 abbrev pub later : {A : Type 0} → Option A → Option A → Option A
 later first None = first
 later first (Some last) = Some last
@@ -82,7 +82,7 @@ kind_named word =
     else if bytes_eq word (codes "dev") then Some kinds.Dev
     else None
 
--- an option and its value ask for this
+-- an option and its value mean this
 pub data AsksWith : Text → Text → Wish → Type 0 where
   ignore_kind : {value : Text} {kind : DepKind} → kind_named value ≡ Some kind → AsksWith (codes "--ignore-kind") value (without_kind kind)
   target : {value : Text} → AsksWith (codes "--target") value (at_target value)
@@ -90,18 +90,18 @@ pub data AsksWith : Text → Text → Wish → Type 0 where
   cargo : {value : Text} → AsksWith (codes "--cargo") value (by_program value)
   why : {value : Text} {krate : Identity} → Reads value krate → AsksWith (codes "--why") value (explaining krate)
 
--- The words begin with an option that asks for this, and these words follow. A value is the next word, whatever it is.
+-- The words begin with an option that means this, and these words follow. A value is the next word, whatever it is.
 pub data AsksFirst : List Text → Wish → List Text → Type 0 where
   workspace : {rest : List Text} → AsksFirst (codes "--workspace" ∷ rest) every_member rest
   all_named : {rest : List Text} → AsksFirst (codes "--all-named" ∷ rest) every_namesake rest
   valued : {option value : Text} {wish : Wish} {rest : List Text} → AsksWith option value wish → AsksFirst (option ∷ value ∷ rest) wish rest
 
--- the words are options that ask for this
+-- the words are options that mean this
 pub data IsCommandLine : List Text → OptionsModel → Type 0 where
   no_words : IsCommandLine [] plain_options
   one_more : {words rest : List Text} {wish : Wish} {o : OptionsModel} → AsksFirst words wish rest → IsCommandLine rest o → IsCommandLine words (with_wish wish o)
 
--- the words ask for nothing that is known: one is no option, or an option has no value or a wrong one
+-- the words mean nothing that is known: one isn't an option, or an option has no value or a wrong one
 abbrev pub IsUnknown : List Text → Type 0
 IsUnknown words = (o : OptionsModel) → IsCommandLine words o → ⊥
 
@@ -126,7 +126,7 @@ set_of asked = record {
   dev = list_any (is_same kinds.Dev) asked;
 }
 
--- the setting that is meant; no manifest is asked for
+-- the setting that is meant; no manifest is set
 abbrev pub setting_of : OptionsModel → SettingModel
 setting_of o = record {
   targets = map asked_at o.targets;
@@ -145,6 +145,6 @@ request_of o = record { setting = setting_of o; explaining = o.explaining }
 abbrev pub meant_request : Options → Request
 meant_request options = request_of (options_view options)
 
--- the program that these options ask for
+-- the program that these options set
 abbrev pub asked_program : Options → Option Text
 asked_program options = (options_view options).cargo

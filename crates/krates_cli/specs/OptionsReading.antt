@@ -19,19 +19,19 @@ and_wish o (without_package spec) = record o { exclusions = o.exclusions ++ spec
 and_wish o (by_program cargo) = record o { cargo = Some cargo }
 and_wish o (explaining krate) = record o { explaining = Some krate }
 
--- the option and its value ask for something, which is added
+-- the option and its value mean something, which is added
 pub record AddsValue (option value : Text) (old new : OptionsModel) : Type 0 where
   pub wish : Wish
   pub asks : AsksWith option value wish
   pub added : new ≡ and_wish old wish
 
--- the words begin with an option, for which is added what it asks, and these words follow
+-- the words begin with an option, what it asks is added, and these words follow
 pub record AddsFirst (words : List Text) (old new : OptionsModel) (rest : List Text) : Type 0 where
   pub wish : Wish
   pub asks : AsksFirst words wish rest
   pub added : new ≡ and_wish old wish
 
--- the option and this value ask for nothing
+-- the option and this value mean nothing
 abbrev pub IsNoValue : Text → Text → Type 0
 IsNoValue option value = (wish : Wish) → AsksWith option value wish → ⊥
 

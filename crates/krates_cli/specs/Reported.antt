@@ -1,4 +1,4 @@
--- What the filter holds that makes a line of each package.
+-- What the filter that makes a line for each package holds.
 use Rattle.std.specs.Prelude.{◌≡◌, Bool, true, ◌++◌, codes, string_bytes}
 use Rattle.krates_cm.specs.Document.{Text}
 use Rattle.krates_cm.specs.declared.package.Package.{Package}

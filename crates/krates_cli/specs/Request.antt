@@ -3,7 +3,7 @@ use Rattle.std.specs.Prelude.{Option}
 use Rattle.krates_ids.specs.Identity.{Identity}
 use Rattle.krates_rules.specs.Setting.{SettingModel}
 
--- the setting of the build, and the crate that is to be explained in place of a list of the packages, where one is
+-- the setting of the build, and the crate to be explained instead of a list of the packages, where there is one
 pub record Request : Type 0 where
   pub setting : SettingModel
   pub explaining : Option Identity

@@ -1,4 +1,4 @@
--- Why a crate of a document is kept, as it is told.
+-- Why a crate of a document is kept, as it is reported.
 use Rattle.std.specs.Prelude.{◌≡◌, ℕ, ◌+◌, ◌<◌, List, All, length, ⊤}
 use Rattle.krates_cm.specs.Document.{MetadataModel, Text}
 use Rattle.krates_rules.specs.DerivationTexts.{derivation_lines}
@@ -17,7 +17,7 @@ use Rattle.krates_queries.specs.Why.{IsWhy}
 use Rattle.krates_cli.specs.declared.run_error.RunError.{RunError}
 use Rattle.krates_cli.specs.declared.run_error.RunError.TheVariants as errors
 
--- The steps are a derivation of the crate: they are accepted for the document and the setting, and end in it. No fact stands twice, and each step but
+-- The steps are a derivation of the crate: they are accepted for the document and the setting, and end in it. No fact occurs twice, and each step but
 -- the last is used by a later one. Their ids are of these, with their texts.
 pub record IsWhyKept (s : SettingModel) (m : MetadataModel) (kids : List Identity) (krate : Identity) (steps : List Step) : Type 0 where
   pub accepted : IsAcceptedFor m s (steps_view steps)

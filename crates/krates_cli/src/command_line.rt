@@ -33,12 +33,12 @@ const REFUSED: u8 = 1;
 
 const UNKNOWN_WORD: u8 = 2;
 
-/// Does all that `main` does, with the words after the program's name, and answers the exit status: 0 where the run succeeds and
+/// Does all that `main` does, with the words after the program's name, and returns the exit status: 0 where the run succeeds and
 /// the lines were written; 1 where it is refused, with what is printed of the cause in a line on `errors`; 2 where the words
 /// aren't options, with the usage line on `errors`. Where memory runs out for the line of a cause, it says that instead.
 ///
-/// All words are read before any input; where memory runs out meanwhile, the status is 1 and nothing was read. Where the words
-/// ask for a program, `host` runs it as cargo, its document is listed, and no input is read.
+/// All words are read before any input; where memory runs out while they are, the status is 1 and nothing was read. Where the words
+/// set a program, `host` runs it as cargo, its document is listed, and no input is read.
 ///
 /// `laws::listed_or_refused` says that a cause is the text's only where there is no listing. Time: that of `run`.
 pub fn program<R: Read, W: Write, E: Write>(
@@ -81,7 +81,7 @@ pub fn program<R: Read, W: Write, E: Write>(
     }
 }
 
-/// Writes the lines that are asked for: of the document that is read, or of that of the program that is asked for.
+/// Writes the lines that are requested: of the document that is read, or of the one that the program writes, where one is set.
 fn list<R: Read, W: Write>(
     options: &Options,
     input: &mut Counted<R>,
@@ -106,7 +106,7 @@ fn list<R: Read, W: Write>(
     }
 }
 
-/// Answers the exit status where the words aren't read: 2 and the usage line, or 1 and the line that memory ran out.
+/// Returns the exit status where the words aren't read: 2 and the usage line, or 1 and the line that memory ran out.
 fn refuse_options<E: Write>(error: &OptionsError, errors: &mut Counted<E>) -> u8
     ensures unknown { error.now ≡ options_errors.Unknown → (result ≡ 2)
         × IsTold E.contents errors.old errors.new usage_line }
@@ -125,7 +125,7 @@ fn refuse_options<E: Write>(error: &OptionsError, errors: &mut Counted<E>) -> u8
     }
 }
 
-/// Answers the exit status where the arguments couldn't be read: 2 and the usage line where one is no text, which is a word that
+/// Returns the exit status where the arguments couldn't be read: 2 and the usage line where one isn't a text, which is a word that
 /// isn't known; else 1 and the line that memory ran out. Time O(1), and one write.
 pub fn refuse_words<E: Write>(error: &io::Error, errors: &mut Counted<E>) -> u8
     ensures unknown_word { error_kind error.now ≡ ErrorKind.InvalidData → (result ≡ 2)
@@ -141,7 +141,7 @@ pub fn refuse_words<E: Write>(error: &io::Error, errors: &mut Counted<E>) -> u8
     REFUSED
 }
 
-/// Writes what is printed of the cause in a line; where there is no memory for that line, it says so in its place.
+/// Writes what is printed of the cause in a line; where there is no memory for that line, it says so instead.
 fn refuse<C: Display, E: Write>(alloc: Global, cause: &C, errors: &mut Counted<E>)
     ensures { TellsCause E.contents errors.old errors.new (C.output cause.now) }
 {

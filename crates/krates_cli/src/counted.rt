@@ -45,7 +45,7 @@ impl<T> Counted<T> {
 }
 
 impl<R: Read> Counted<R> {
-    /// One read into the front of the buffer, made again as long as it is interrupted: how many bytes came.
+    /// One read into the front of the buffer, repeated as long as it is interrupted; returns how many bytes came.
     fn read(&mut self, buffer: &mut [u8]) -> Result<usize, CountedCall>
         ensures bound { IfOk result (λ n. n ≤ length buffer.new) }
         ensures bytes { ReadConsumes (R.remaining (inner_of self.old))
@@ -68,7 +68,7 @@ impl<R: Read> Counted<R> {
         }
     }
 
-    /// All bytes that are left to read. A call that was interrupted is counted as failed, and made again.
+    /// All bytes that are left to read. A call that was interrupted is counted as failed, and repeated.
     ///
     /// It is refused as `Read` where a call failed, or as `Memory`; what was read before is then lost. Time O(bytes).
     pub fn read_to_end(&mut self, alloc: Global) -> Result<Vec<u8>, RunError>
@@ -86,7 +86,7 @@ impl<R: Read> Counted<R> {
                 Err(call) => return Err(call.of_reader()),
             };
             if count == 0 {
-                // what is read of the bytes stands behind them
+                // what is read comes after these bytes
                 bytes.shrink_to_fit();
                 return Ok(bytes);
             }
@@ -96,7 +96,7 @@ impl<R: Read> Counted<R> {
 }
 
 impl<W: Write> Counted<W> {
-    /// One write of the front of the bytes, made again as long as it is interrupted: how many bytes were taken.
+    /// One write of the front of the bytes, repeated as long as it is interrupted; returns how many bytes were taken.
     fn write(&mut self, bytes: &[u8]) -> Result<usize, CountedCall>
         requires { 0 < length bytes.now }
         ensures bound { IfOk result (λ n. (0 < n) × (n ≤ length bytes.now)) }
@@ -120,7 +120,7 @@ impl<W: Write> Counted<W> {
         }
     }
 
-    /// Writes all the bytes. A call that was interrupted is counted as failed, and made again.
+    /// Writes all the bytes. A call that was interrupted is counted as failed, and repeated.
     ///
     /// It is refused as `Write` where a call failed or took no byte; a beginning of the bytes is written then. Where there are no
     /// bytes, no call is made. Time O(bytes).

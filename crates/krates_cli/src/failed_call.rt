@@ -1,4 +1,4 @@
-//! Calls of a reader or a writer that failed: each is made known once, and counted once.
+//! Calls of a reader or a writer that failed: each is reported once, and counted once.
 
 ghost use Rattle.std.specs.Prelude.{◌≡◌, ◌+◌, ◌-◌, ◌<◌, ◌≤◌, ◌^◌, IfOk, length, min};
 ghost use Rattle.std.specs.Io.KnownBytes.{ReadConsumes, WriteAppends};
@@ -10,7 +10,7 @@ use std::io;
 use std::io::{ErrorKind, Read, Write};
 
 /// A call that failed and isn't counted yet. Only an `Endpoint` makes it. It is neither copied nor dropped, so
-/// whoever has it has to count it, and can do so only once.
+/// whoever has it must count it, and can do so only once.
 pub(crate) struct FailedCall {
     is_interrupted: bool,
 }
@@ -27,7 +27,7 @@ pub(crate) struct Failures {
     number: u64,
 }
 
-/// The call that was answered this error.
+/// The call that failed with this error.
 fn failed(error: io::Error) -> FailedCall
     ensures { FailedWith error result }
 {
@@ -36,15 +36,15 @@ fn failed(error: io::Error) -> FailedCall
     }
 }
 
-/// A reader or a writer whose calls are made here alone, one at a time. Nobody else reaches it to change it, so no failed call
-/// can be made again without having been handed on.
+/// A reader or a writer that is called only here, one call at a time. Nothing else can change it, so no failed call
+/// can be repeated without having been reported.
 #[derive(Drop)]
 pub(crate) struct Endpoint<T> {
     inner: T,
 }
 
 impl<T> Endpoint<T> {
-    /// The reader or writer, from now on called here alone.
+    /// The reader or writer, from now on called only here.
     pub(crate) fn new(inner: T) -> Endpoint<T>
         ensures { end_of result ≡ inner }
     {
@@ -60,7 +60,7 @@ impl<T> Endpoint<T> {
 }
 
 impl<R: Read> Endpoint<R> {
-    /// One call of the reader, into the front of the buffer: how many bytes came.
+    /// One call of the reader, into the front of the buffer; returns how many bytes came.
     pub(crate) fn read_once(&mut self, buffer: &mut [u8]) -> Result<usize, FailedCall>
         ensures bound { IfOk result (λ n. n ≤ length buffer.new) }
         ensures bytes { ReadConsumes (R.remaining (end_of self.old)) (R.remaining (end_of self.new))
@@ -71,7 +71,7 @@ impl<R: Read> Endpoint<R> {
 }
 
 impl<W: Write> Endpoint<W> {
-    /// One call of the writer, with the front of the bytes: how many were taken. A call that takes none has failed, so there have to
+    /// One call of the writer, with the front of the bytes; returns how many were taken. A call that takes none has failed, so there must
     /// be some.
     pub(crate) fn write_once(&mut self, bytes: &[u8]) -> Result<usize, FailedCall>
         requires { 0 < length bytes.now }
@@ -124,14 +124,14 @@ impl CountedCall {
         self.is_interrupted
     }
 
-    /// The refusal of a run whose reader failed so.
+    /// The refusal of a run whose reader failed in this way.
     pub(crate) fn of_reader(self) -> RunError
         ensures { result ≡ errors.Read }
     {
         RunError::Read
     }
 
-    /// The refusal of a run whose writer failed so.
+    /// The refusal of a run whose writer failed in this way.
     pub(crate) fn of_writer(self) -> RunError
         ensures { result ≡ errors.Write }
     {

@@ -14,7 +14,7 @@ ghost use Rattle.krates_cli.specs.Request.{Request};
 use krates_ids::laws;
 use krates_rules::laws as rules;
 
-/// Words ask for at most one thing.
+/// Words mean at most one thing.
 pub fn one_command_line()
     ensures { (words : List Text) (a b : OptionsModel) → IsCommandLine words a → IsCommandLine words b → a ≡ b }
 {
@@ -22,9 +22,9 @@ pub fn one_command_line()
     laws::one_reading();
 }
 
-/// Where words ask for a listing, and what is to be read has one, a run is refused only where a call fails, memory
-/// runs out, or more crates are kept than can be numbered. So it succeeds exactly where there is a listing, these
-/// aside. Where what is read doesn't keep the crate that is to be explained, a run is refused as that, these aside too.
+/// Where words request a listing, and what is to be read has one, a run is refused only if a call fails, memory
+/// runs out, or more crates are kept than can be numbered. So, apart from these cases, it succeeds exactly where there is a
+/// listing. Where the crate to be explained isn't kept, a run is refused for that, again apart from these cases.
 pub fn listed_or_refused()
     ensures text { (a : Request) (bytes lines : Text) (cause : RunError)
         → IsUtf8 bytes → IsListing a bytes lines → RunRefusal a bytes cause → IsOutside cause }

@@ -6,9 +6,9 @@ use krates::cm::PackageId;
 use krates::{FromPackage, Package};
 use std::alloc::{AllocError, Global};
 
-/// The id of a kept package, which is all that is listed of it.
+/// The id of a kept package, which is all that is listed for it.
 ///
-/// A node of the graph has room for what it holds in place of a package, also where it is that of a feature: with this
+/// A node of the graph has room for what it holds in place of a package, even if it is the node of a feature: with this
 /// it takes an eighth of what it would take with packages.
 #[derive(Drop)]
 pub struct Listed {

@@ -30,15 +30,15 @@ fn listing(alloc: Global, options: &Options, text: String) -> Result<String, Run
     ensures refused { IfErr result (ListingRefusal (meant_request options.now) (string_bytes text)) }
 {
     let metadata = MetadataCommand::parse(alloc, text.as_str())?;
-    // the graph takes its room
+    // the graph can use its memory
     drop(text);
     listing_of(alloc, options, metadata)
 }
 
 /// The lines of a document under the options: those of the kept packages, then those of the others; or those of the derivation of
-/// the crate that is to be explained. The program that the options may ask for is not looked at.
+/// the crate to be explained. The program that the options may set isn't looked at.
 ///
-/// It is refused as `Build`, or as `NotKept` where the crate that is to be explained isn't kept, each only where that is true of the
+/// It is refused as `Build`, or as `NotKept` where the crate to be explained isn't kept, each only where that is true of the
 /// document. It may instead return `Memory`. Time: that of the build.
 ///
 /// ```text
@@ -61,16 +61,16 @@ pub fn listing_of(alloc: Global, options: &Options, metadata: Metadata) -> Resul
 }
 
 /// Reads one document up to the end of the input, builds under the options, and writes a line `+ ` and the id for
-/// each kept crate, then a line `- ` and the id for each other package, both in the order of the ids. Where a crate is to be
-/// explained, it writes in their place a line for each step of its derivation, as its `Display` prints them; which
-/// derivation it is, where there are several, is left open.
+/// each kept crate, then a line `- ` and the id for each other package, both in the order of the ids. If a crate is to be
+/// explained, it writes instead a line for each step of its derivation, as its `Display` prints them; which
+/// derivation it is, if there are several, isn't specified.
 ///
 /// It is refused as `Read`, `Utf8`, `Parse`, `Build`, `NotKept` or `Write`, in this order and only where that is true of the
 /// reader, of what was read, or of the writer: as `NotKept` where the document is built and doesn't keep the crate that is to be
-/// explained. It may instead return `Memory`. The whole text is made before the first byte is written, so after each refusal but
-/// `Write` nothing was written, and after `Write` a beginning of it. What was read is gone.
+/// explained. It may instead return `Memory`. The whole text is made before the first byte is written, so after each refusal except
+/// `Write` nothing was written, and after `Write` a beginning of it. What was read is lost.
 ///
-/// The input is read whether or not the options ask for a program; `run_by_cargo` runs that in place of reading. Time: that of
+/// The input is read whether or not the options set a program; `run_by_cargo` runs that instead of reading. Time: that of
 /// `parse` and of the build.
 pub fn run<R: Read, W: Write>(
     alloc: Global,
@@ -99,11 +99,11 @@ pub fn run<R: Read, W: Write>(
     output.write_all(lines.as_bytes())
 }
 
-/// Runs the program as cargo, in place of reading a document, builds of the document that it writes under the options, and
+/// Runs the program as cargo, instead of reading a document, builds from the document that it writes under the options, and
 /// writes the lines that `run` writes of it.
 ///
 /// It is refused as `Parse` where the run has no document, else as `Build`, `NotKept` or `Write`, each only where that is true; it
-/// may instead return `Memory`. After each refusal but `Write` nothing was written, and after `Write` a beginning. Time: that of
+/// may instead return `Memory`. After each refusal except `Write` nothing was written, and after `Write` a beginning. Time: that of
 /// the run and of the build.
 pub fn run_by_cargo<W: Write>(
     alloc: Global,

@@ -18,7 +18,7 @@ use std::alloc::{AllocError, AllocFailed, Global};
 /// What is asked of a run.
 #[derive(Debug, Drop)]
 pub struct Options {
-    /// Whether every member of the workspace is a root, also where the graph has a root of its own: `--workspace`.
+    /// Whether every member of the workspace is a root, even where the graph has a root of its own: `--workspace`.
     pub workspace: bool,
     /// The dependencies of these kinds are ignored, whichever crate has them: `--ignore-kind`.
     pub ignored: Vec<DepKind>,
@@ -26,18 +26,18 @@ pub struct Options {
     pub targets: Vec<String>,
     /// The packages that one of these fits are left out: `--exclude`.
     pub exclusions: Vec<PkgSpec>,
-    /// The program that is run as cargo for the document, in place of reading it: `--cargo`. The last one counts.
+    /// The program that is run as cargo for the document, instead of reading it: `--cargo`. The last one counts.
     pub cargo: Option<String>,
-    /// The crate whose derivation is written in place of the lines of the packages: `--why`. The last one counts.
+    /// The crate whose derivation is written instead of the lines of the packages: `--why`. The last one counts.
     pub why: Option<Kid>,
-    /// Whether a name in a feature reference means all dependencies that answer to it: `--all-named`.
+    /// Whether a name in a feature reference means all dependencies that match it: `--all-named`.
     pub all_named: bool,
 }
 
 /// Why words aren't read as options.
 #[derive(Debug, Drop)]
 pub enum OptionsError {
-    /// A word is no option, an option has no value, or its value is no kind, no package specification or no package id.
+    /// A word isn't an option, an option has no value, or its value isn't a kind, a package specification or a package id.
     Unknown,
     /// Memory ran out.
     Memory,
@@ -75,7 +75,7 @@ impl Options {
         }
     }
 
-    /// The setting that is meant: what is asked for of the packages, the program and the crate that is to be explained apart. The
+    /// The setting that these options mean: what they say about the packages, without the program and the crate to be explained. The
     /// only error is running out of memory. Time O(length of the options).
     ///
     /// ```text
@@ -94,7 +94,7 @@ impl Options {
         Ok(setting)
     }
 
-    /// Adds what the words ask for that begin with this option, and answers the words that follow it.
+    /// Adds what the words that begin with this option mean, and answers the words after it.
     fn read_option<'w>(
         &mut self,
         alloc: Global,
@@ -122,7 +122,7 @@ impl Options {
         Ok(rest)
     }
 
-    /// Adds what the option asks for with this value.
+    /// Adds what the option means with this value.
     fn read_value(&mut self, alloc: Global, option: &str, value: &str) -> Result<(), OptionsError>
         ensures read { OnOk result (AddsValue option.now value.now (options_view self.old)
             (options_view self.new)) }
@@ -167,7 +167,7 @@ fn pkg_spec(alloc: Global, word: &str) -> Result<PkgSpec, OptionsError>
     }
 }
 
-/// The package id that a word is. It is refused as `Unknown` exactly where the word is none, or as `Memory`. Time O(length of the word).
+/// The package id that a word is. It is refused as `Unknown` exactly where the word isn't one, or as `Memory`. Time O(length of the word).
 ///
 /// ```text
 /// let krate = kid_of(alloc, "path+file:///w/b#0.1.0")?;
@@ -191,8 +191,9 @@ pub fn kid_of(alloc: Global, word: &str) -> Result<Kid, OptionsError>
 ///
 /// The options are `--workspace`; `--ignore-kind KIND`, where KIND is `normal`, `build` or `dev`; `--target TRIPLE`;
 /// `--exclude SPEC`, where SPEC is a package specification; `--cargo PROGRAM`; `--why ID`, where ID is a package id; and
-/// `--all-named`. What is asked stands in the order of the words; of several programs the last counts, and so of several ids. It is refused as `Unknown` where the words are no such options, and only
-/// there; it may instead return `Memory`. Time O(length of the words).
+/// `--all-named`. The answer has what is asked in the order of the words; of several programs the last counts, and likewise
+/// of several ids. It is refused as `Unknown` where the words aren't such options, and only there; it may instead return
+/// `Memory`. Time O(length of the words).
 pub fn options_of(alloc: Global, words: &[String]) -> Result<Options, OptionsError>
     ensures read { IfOk result
         (λ options. IsCommandLine (map string_bytes words.now) (options_view options)) }

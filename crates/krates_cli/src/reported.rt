@@ -7,7 +7,7 @@ use crate::lines::push_line;
 use krates::{OnFilter, Package};
 use std::alloc::{AllocError, Global};
 
-/// A filter that makes a line of each package that it is handed, as long as there is memory.
+/// A filter that makes a line for each package that it is given, as long as there is memory.
 #[derive(Drop)]
 pub(crate) struct Reported {
     lines: String,

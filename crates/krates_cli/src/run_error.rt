@@ -10,15 +10,15 @@ use std::fmt;
 
 /// Why a run wrote no lines, or not all of them.
 ///
-/// The first that is true counts: a failed read, then bytes that are no text, a text that is no document, a document that
+/// The first that applies counts: a failed read, then bytes that aren't a text, a text that isn't a document, a document that
 /// can't be built, a crate that it doesn't keep, then a failed write. Memory may run out at each of these.
 #[derive(Debug, Drop)]
 pub enum RunError {
     /// A call of the reader failed.
     Read,
-    /// What was read is no UTF-8.
+    /// What was read isn't UTF-8.
     Utf8,
-    /// The text is no document.
+    /// The text isn't a document.
     Parse(ParseError),
     /// The document has no graph of crates.
     Build(BuildError),

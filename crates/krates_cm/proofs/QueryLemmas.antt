@@ -102,7 +102,7 @@ among_told ids id b is = is ∙ sym (any_seen id_view (λ one. bytes_eq one (id_
 
 -- ---- the kind of a source
 
--- a text that has a plus is what stands before the first, that plus, and a rest
+-- a text that has a plus is the part before the first plus, that plus, and a rest
 cut_at_plus : (text : List ℕ) → list_any is_plus text ≡ true → (rest : List ℕ) × (text ≡ before_first is_plus text ++ 43 ∷ rest)
 cut_at_plus text has =
     let any = Any-from_list_any is_plus text has in
@@ -111,7 +111,7 @@ cut_at_plus text has =
     let plus = eqb-true (get_or text (position_or_len is_plus text) 0) 43 (passes_at_first is_plus text 0 within) in
     (after_first is_plus text, split_at_first is_plus text 0 within ∙ ap (λ b. before_first is_plus text ++ b ∷ after_first is_plus text) plus)
 
--- what stands before the first plus isn't a name with which, and a plus, the text doesn't begin
+-- the part before the first plus isn't a name with which, and a plus, the text doesn't begin
 other_name : (text name : List ℕ) → list_any is_plus text ≡ true → ((rest : List ℕ) → text ≢ name ++ 43 ∷ rest) → bytes_eq (before_first is_plus text) name ≡ false
 other_name text name has lacks = elim (cases_Bool (bytes_eq (before_first is_plus text) name)) [
   | inl same ↦

@@ -1,4 +1,4 @@
--- Which value each text of the document stands for, for the types that are written as a text.
+-- Which value each text of the document means, for the types that are written as a text.
 use Rattle.std.specs.Prelude.{◌++◌, count_by, ◌==◌, ◌||◌, Bool, Option, Some, None, codes, bytes_eq, if◌then◌else◌}
 use Rattle.std.specs.List.{list_any}
 use Rattle.std.specs.Result.{result_ok}
@@ -62,7 +62,7 @@ version_named s = result_ok (version_parts s)
 abbrev pub requirement_named : Text → Option RequirementModel
 requirement_named s = result_ok (req_of s)
 
--- a version of Rust may leave its patch out: `1.56` stands for `1.56.0`
+-- a version of Rust may leave its patch out: `1.56` means `1.56.0`
 abbrev pub with_patch : Text → Text
 with_patch s = if count_by (λ b. b == 46) s == 1 then s ++ codes ".0" else s
 

@@ -8,7 +8,7 @@ use Rattle.krates_cm.specs.declared.package_parts.About.{About}
 use Rattle.krates_cm.specs.declared.package_parts.Settings.{Settings}
 use Rattle.krates_cm.specs.declared.target.Edition.{Edition}
 
--- what a package says of itself
+-- what a package says about itself
 pub record AboutModel : Type 0 where
   pub authors : List Text
   pub description : Option Text
@@ -35,7 +35,7 @@ about_view a = record {
   documentation = option_map text_view a.documentation;
 }
 
--- what the package says of itself
+-- what the package says about itself
 abbrev pub about_of : PackageModel → AboutModel
 about_of p = record {
   authors = p.authors;

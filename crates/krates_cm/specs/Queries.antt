@@ -26,7 +26,7 @@ source_kind_named name =
     else if bytes_eq name (codes "path") then Path
     else Other
 
--- the kind of a source is named by what stands before its first plus
+-- the kind of a source is named by the part before its first plus
 abbrev pub source_kind : Text → SourceKind
 source_kind text = if list_any is_plus text then source_kind_named (before_first is_plus text) else Other
 

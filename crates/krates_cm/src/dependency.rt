@@ -14,11 +14,11 @@ pub struct Dependency {
     pub req: VersionReq,
     /// What the dependency is needed for.
     pub kind: DependencyKind,
-    /// Whether it is left out unless a feature asks for it.
+    /// Whether it is left out unless a feature enables it.
     pub optional: bool,
-    /// Whether the `default` feature of the package is asked for.
+    /// Whether the `default` feature of the package is requested.
     pub uses_default_features: bool,
-    /// The features of the package that are asked for.
+    /// The features of the package that are requested.
     pub features: Vec<String>,
     /// The target that the dependency is for: a triple or a `cfg(..)` expression.
     pub target: Option<String>,

@@ -35,7 +35,7 @@ pub enum Error {
     /// A JSON value isn't read as metadata.
     #[error("failed to interpret `cargo metadata`'s json: {0}")]
     Value(ReadError),
-    /// All features, or none but those named, were asked for twice.
+    /// All features, or only those named, were requested twice.
     #[error("features given twice")]
     FeaturesTwice,
     /// The path of a manifest has no parent.

@@ -15,7 +15,7 @@ pub struct Metadata {
     pub workspace_members: Vec<PackageId>,
     /// The default members of the workspace.
     pub workspace_default_members: WorkspaceDefaultMembers,
-    /// The resolved dependency graph; `None` if cargo was told not to resolve.
+    /// The resolved dependency graph; `None` if cargo was asked not to resolve.
     pub resolve: Option<Resolve>,
     /// The path of the workspace.
     pub workspace_root: String,

@@ -70,11 +70,11 @@ pub struct Source {
     pub repr: String,
 }
 
-/// What kind of place a source is: what stands before the first `+` of its text, as in `git+https://host/repository`
+/// What kind of place a source is: the part before the first `+` of its text, as in `git+https://host/repository`
 /// (Cargo Book, "Package ID Specifications").
 #[derive(Clone, Copy, Debug, PartialEq, Eq)]
 pub enum SourceKind {
-    /// A registry whose index is a git repository, `registry`; crates.io too is written so.
+    /// A registry whose index is a git repository, `registry`; crates.io is written this way too.
     Registry,
     /// A registry whose index is read by HTTP, `sparse`.
     SparseRegistry,
@@ -82,6 +82,6 @@ pub enum SourceKind {
     Git,
     /// A directory, `path`.
     Path,
-    /// None of these: another word stands there, or the text has no `+`.
+    /// None of these: another word is there, or the text has no `+`.
     Other,
 }

@@ -93,7 +93,7 @@ impl Metadata {
     }
 }
 
-/// The first package of an id, which has to be there.
+/// The first package with an id; there must be one. Time `O(packages)`.
 impl Index<&PackageId> for Metadata {
     type Output = Package;
 
@@ -183,8 +183,8 @@ impl Source {
         self.repr.as_str() == "registry+https://github.com/rust-lang/crates.io-index"
     }
 
-    /// What kind of place the source is, by exactly what stands before the first `+` of its text: `registry`, `sparse`,
-    /// `git` or `path`, in small letters. Any other text is `SourceKind::Other`, also one without a `+`. What follows
+    /// What kind of place the source is, by exactly the part before the first `+` of its text: `registry`, `sparse`,
+    /// `git` or `path`, in lower case. Any other text is `SourceKind::Other`, as is one without a `+`. What follows
     /// the `+` isn't read. Time O(1): four times at most nine bytes at the beginning of the text are compared.
     ///
     /// ```text
@@ -209,7 +209,7 @@ impl Source {
 }
 
 impl Target {
-    /// Whether the kinds have `lib`. Time O(kinds).
+    /// Whether `lib` is among the kinds. Time O(kinds).
     ///
     /// ```text
     /// let has_library = pkg.targets.iter().any(|target| target.is_lib());
@@ -220,42 +220,42 @@ impl Target {
         has_kind(self, TargetKind::Lib)
     }
 
-    /// Whether the kinds have `bin`. Time O(kinds).
+    /// Whether `bin` is among the kinds. Time O(kinds).
     pub fn is_bin(&self) -> bool
         ensures { IsTrue result ↔ Contains self.now.kind.items kinds.Bin }
     {
         has_kind(self, TargetKind::Bin)
     }
 
-    /// Whether the kinds have `example`. Time O(kinds).
+    /// Whether `example` is among the kinds. Time O(kinds).
     pub fn is_example(&self) -> bool
         ensures { IsTrue result ↔ Contains self.now.kind.items kinds.Example }
     {
         has_kind(self, TargetKind::Example)
     }
 
-    /// Whether the kinds have `test`. Time O(kinds).
+    /// Whether `test` is among the kinds. Time O(kinds).
     pub fn is_test(&self) -> bool
         ensures { IsTrue result ↔ Contains self.now.kind.items kinds.Test }
     {
         has_kind(self, TargetKind::Test)
     }
 
-    /// Whether the kinds have `bench`. Time O(kinds).
+    /// Whether `bench` is among the kinds. Time O(kinds).
     pub fn is_bench(&self) -> bool
         ensures { IsTrue result ↔ Contains self.now.kind.items kinds.Bench }
     {
         has_kind(self, TargetKind::Bench)
     }
 
-    /// Whether the kinds have `custom-build`. Time O(kinds).
+    /// Whether `custom-build` is among the kinds. Time O(kinds).
     pub fn is_custom_build(&self) -> bool
         ensures { IsTrue result ↔ Contains self.now.kind.items kinds.CustomBuild }
     {
         has_kind(self, TargetKind::CustomBuild)
     }
 
-    /// Whether the kinds have `proc-macro`. Time O(kinds).
+    /// Whether `proc-macro` is among the kinds. Time O(kinds).
     pub fn is_proc_macro(&self) -> bool
         ensures { IsTrue result ↔ Contains self.now.kind.items kinds.ProcMacro }
     {

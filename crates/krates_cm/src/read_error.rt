@@ -6,13 +6,13 @@ ghost use Rattle.krates_cm.specs.declared.read_error.ReadError.TheVariants.{Memo
 use std::alloc::{AllocError, AllocFailed};
 use thiserror::Error;
 
-/// What is wrong with a JSON value that isn't read. If several refusals are true of a value, it is left open which one is named.
+/// What is wrong with a JSON value that isn't read. If several refusals apply to a value, it isn't specified which one is returned.
 #[derive(Clone, Copy, Debug, Error)]
 pub enum ReadError {
     /// An object lacks this key.
     #[error("missing key: {0}")]
     Missing(&'static str),
-    /// What stands under this key, or in the list under it, has another JSON type, or is null where
+    /// The value under this key, or one in the list under it, has another JSON type, or is null where
     /// null isn't allowed. The key is empty for the whole value.
     #[error("wrong type at key: {0}")]
     WrongType(&'static str),

@@ -124,7 +124,7 @@ pub readable_beside : (n : ℕ) (ms : List Member) (k : List ℕ) → 124 ≤ n 
 readable_beside n ms k le less h =
     readable_object n _ less (readable_joined n 124 ms _ le h (readable_member n k (json.array json.no_items) json.no_members (no_list n (omega (arith, le)) (omega (arith, less))) (no_member n)))
 
--- ---- what stands under a key
+-- ---- what is under a key
 
 pub later_assoc : (a b c : Option Json) → tree.later_or (tree.later_or a b) c ≡ tree.later_or a (tree.later_or b c)
 later_assoc None b c = refl

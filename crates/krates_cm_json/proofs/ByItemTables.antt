@@ -106,7 +106,7 @@ get_other k key ms j others differs =
 get_list : (k : Text) (ms : List Member) → tree.get_member k (joined ms json.no_members) ≡ tree.get_member k (members_view ms)
 get_list k ms = get_joined k ms json.no_members
 
--- what stands under another key, whatever stands under that of the list
+-- what is under another key, whatever is under the list's key
 same_two : (k key : Text) (ms ns : List Member) (i j : Json) → bytes_eq key k ≡ false → tree.get_member k (split ms key i (joined ns json.no_members)) ≡ tree.get_member k (split (ms ++ ns) key j json.no_members)
 same_two k key ms ns i j differs =
     get_other k key ms i (joined ns json.no_members) differs ∙ ap (λ o. tree.later_or o (tree.get_member k (members_view ms))) (get_list k ns)
@@ -219,7 +219,7 @@ metadata_kept (Some u) (Some a) (Some b) (Some c) (Some d) (Some e) (Some f) (So
 metadata_kept (Some u) (Some a) (Some b) (Some c) (Some d) (Some e) (Some f) (Some g) (Some h) None ps r m is = absurd (cc)
 metadata_kept (Some u) (Some a) (Some b) (Some c) (Some d) (Some e) (Some f) (Some g) (Some h) (Some i) ps r m is = ap (option_map (with_lists ps r)) is
 
--- whether the same stands under each key but those of the packages and of the graph
+-- whether the same is under each key except those of the packages and of the graph
 record SameBeside (d e : Data) : Type 0 where
   members : get (codes "workspace_members") d ≡ get (codes "workspace_members") e
   defaults : get (codes "workspace_default_members") d ≡ get (codes "workspace_default_members") e

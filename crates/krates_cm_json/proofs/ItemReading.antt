@@ -62,7 +62,7 @@ few n no_items d is = absurd (cc)
 few zero (item e ds) d is = omega arith
 few (suc n) (item e ds) d is = omega (arith, few n ds d is)
 
--- an item stands within the array
+-- an item is within the array
 pub item_within : (n : ℕ) (v d : Data) → Some d ≡ at n v → n < items_len (array_items v)
 item_within n serde.null d is = absurd (cc)
 item_within n (serde.boolean b) d is = absurd (cc)

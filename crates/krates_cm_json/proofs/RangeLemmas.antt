@@ -22,7 +22,7 @@ after : {A B : Type 0} (o : Option A) (f g : A → Option B) → ((a : A) → is
 after None f g same = refl
 after (Some a) f g same = same a
 
--- whether members are in range is the same whichever members stand before them
+-- whether members are in range is the same whichever members come before them
 is_some-of_members : (ms : json.Members) (before others : serde.Members) → is_some (of_members ms before) ≡ is_some (of_members ms others)
 is_some-of_members json.no_members before others = refl
 is_some-of_members (json.member k j ms) before others =
@@ -32,7 +32,7 @@ pub member_in_range : (k : List ℕ) (j : Json) (ms : json.Members) → AreMembe
 member_in_range k j ms =
     both (of_json j) (λ d. of_members ms (put k d serde.no_members)) (is_some (of_members ms serde.no_members)) (λ d. is_some-of_members ms (put k d serde.no_members) serde.no_members)
 
--- the members from an index on, where one stands there
+-- the members from an index on, where there is one at it
 pub members_from : (i : ℕ) (ms : List Member) (m : Member) → i < length ms → m ≡ get_or ms i m
     → AreMembersInRange (members_view (drop i ms)) ↔ (IsInRange (value_view m.1) × AreMembersInRange (members_view (drop (i + 1) ms)))
 members_from i ms m within is =

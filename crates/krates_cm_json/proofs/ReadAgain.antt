@@ -152,7 +152,7 @@ only_any_again : {A : Type 0} (read : Reader A) (W : Writer A) → ReadsBack rea
 only_any_again read W again key [] d h = rw h refl
 only_any_again read W again key (x ∷ xs) d h = default_again (list read) (ListWritten W) (list_again read W again) [] key (x ∷ xs) d (rw (suc_apart (length xs)) at h)
 
--- a list for which null doesn't stand
+-- a list that isn't read from null
 pub present_again : {A : Type 0} (read : Reader A) (W : Writer A) → ReadsBack read W → (key : Text) (x : Option A) (d : Data)
     → MatchBool (is_some x) (MatchOption (get key d) ⊥ (OptionWritten W x)) (get key d ≡ None) → (or_default (present read) None key d).value ≡ Some x
 present_again read W again key None d h = rw h refl
@@ -160,7 +160,7 @@ present_again read W again key (Some x) d h = found_again (read_as None) (presen
 
 -- ---- objects
 
--- what a table says of what stands under a key
+-- what a table says of the data under a key
 abbrev pub Says : Table → Text → Option Data → Type 0
 Says no_more key o = o ≡ None
 Says (row there name W rest) key o = MatchOrdering (slice_cmp nat_cmp key name) (Says rest key o) (MatchBool there (MatchOption o ⊥ W) (Says rest key o)) (Says rest key o)

@@ -71,14 +71,14 @@ object_made : (o : Option serde.Members) (d : Data) → option_map serde.object 
 object_made None d is = absurd (cc)
 object_made (Some ms) d is = (ms, (refl, ap (λ o. unwrap_or o serde.null) (sym is)))
 
--- the data of an item, and of those behind it
+-- the data of an item, and of those after it
 item_made : (o : Option Data) (p : Option serde.Items) (ds : serde.Items) → option_and_then (λ d. option_map (serde.item d) p) o ≡ Some ds
     → (d : Data) × ((es : serde.Items) × ((o ≡ Some d) × ((p ≡ Some es) × (ds ≡ serde.item d es))))
 item_made None p ds is = absurd (cc)
 item_made (Some d) None ds is = absurd (cc)
 item_made (Some d) (Some es) ds is = (d, (es, (refl, (refl, ap (λ o. unwrap_or o serde.no_items) (sym is)))))
 
--- the data of a member, and that of those behind it
+-- the data of a member, and that of those after it
 member_made : (o : Option Data) (more : Data → Option serde.Members) (r : serde.Members) → option_and_then more o ≡ Some r → (d : Data) × ((o ≡ Some d) × (more d ≡ Some r))
 member_made None more r is = absurd (cc)
 member_made (Some d) more r is = (d, (refl, is))
@@ -100,7 +100,7 @@ finds_at n (json.string s) d is = subst (λ o. Finds None (option_and_then (foun
 finds_at n (json.array js) d is = let p = array_made (of_items js) d is in subst (λ e. Finds (tree.get_item n js) (found.at n e)) (sym p.1.1) (finds_item n js p.0 p.1.0)
 finds_at n (json.object ms) d is = nothing serde.object (found.at n) (λ _. refl) (of_members ms serde.no_members) d is
 
--- what stands under a key, once members were put to older ones
+-- what is under a key, after members were added to older ones
 abbrev Puts : Option Json → Option Data → Option Data → Type 0
 Puts None old new = new ≡ old
 Puts (Some j) old new = (d : Data) × ((of_json j ≡ Some d) × (new ≡ Some d))

@@ -12,11 +12,11 @@ use Rattle.serde_json.specs.Data.{Data}
 use Rattle.krates_cm_json.specs.Readable.{IsReadable, data_in}
 use Rattle.krates_cm_json.specs.Reading.{Reading}
 
--- a readable value that nests at most so deep
+-- a readable value that nests at most this deep
 abbrev pub IsShallow : ℕ → Json → Type 0
 IsShallow deepest j = IsReadable j × (depth j ≤ deepest)
 
--- The tokens `before` are those of a value that nests at most so deep, and then `after`; what is read from the value is x.
+-- The tokens `before` are those of a value that nests at most this deep, and then `after`; what is read from the value is x.
 abbrev pub ReadsNext : {A : Type 0} → ℕ → (Data → Reading A) → List Token → A → List Token → Type 0
 ReadsNext deepest read before x after =
     (j : Json) × IsShallow deepest j × (before ≡ json_tokens j ++ after) × ((read (data_in j)).value ≡ Some x)
@@ -25,7 +25,7 @@ ReadsNext deepest read before x after =
 abbrev pub Member : Type 0
 Member = Bor (List ℕ) × Value Global
 
--- each of their values is readable and nests at most so deep
+-- each of their values is readable and nests at most this deep
 abbrev pub AreShallow : ℕ → List Member → Type 0
 AreShallow deepest [] = ⊤
 AreShallow deepest (m ∷ ms) = IsShallow deepest (value_view m.1) × AreShallow deepest ms

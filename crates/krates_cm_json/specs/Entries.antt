@@ -6,7 +6,7 @@ use Rattle.std.specs.Ordering.{nat_cmp}
 use Rattle.std.specs.declared.cmp.Ordering.{Ordering}
 use Rattle.serde_json.specs.Data.{Data, Members, no_members, member}
 
--- what entries stand for, each seen as its data
+-- the members that entries are, each value seen as its data
 abbrev pub entries_data : {A : Type 0} → (A → Data) → List (Bor (List ℕ) × A) → Members
 entries_data meaning [] = no_members
 entries_data meaning (e ∷ es) = member e.0.now (meaning e.1) (entries_data meaning es)

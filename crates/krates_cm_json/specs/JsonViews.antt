@@ -1,4 +1,4 @@
--- The data that a value stands for.
+-- The data that a value represents.
 use Rattle.json.specs.Value.{value_view}
 use Rattle.serde_json.specs.Data.{Data}
 use Rattle.krates_cm_json.specs.Readable.{data_in}

@@ -53,7 +53,7 @@ MapWritten W es _ = ⊥
 
 -- ---- objects
 
--- The keys of an object in their order, one row each: whether the key is there, and which data may then stand
+-- The keys of an object in their order, one row for each: whether the key is there, and which data may then be
 -- under it.
 pub data Table : Type 1 where
   no_more : Table

@@ -17,7 +17,7 @@ abbrev pub Gives : {X Y : Type 0} → (X → Y) → Result X ReadError → Readi
 Gives view (Ok x) reading = reading.value ≡ Some (view x)
 Gives view (Err e) reading = (e ≡ errors.Memory) ⊎ ((reading.value ≡ None) × reading.IsFault (fault_of e))
 
--- what is read of data that stands under a key: faults name the key
+-- what is read from the data under a key: faults name the key
 abbrev pub Reader : Type 0 → Type 1
 Reader A = List ℕ → Data → Reading A
 
@@ -72,21 +72,21 @@ boolean key d = typed key read_as (as_bool d)
 abbrev pub whole : Reader ℕ
 whole key d = typed key read_as (option_and_then as_u64 (as_number d))
 
--- whatever stands there, as it is
+-- whatever is there, unchanged
 abbrev pub any : Reader Data
 any key d = read_as d
 
--- what a text stands for, if it stands for anything
+-- the value that a text means, if it means one
 abbrev pub named : {A : Type 0} → Fault → (List ℕ → Option A) → Reader A
 named wrong meaning key d = typed key (λ s. record { value = meaning s; IsFault = λ fault. (fault ≡ wrong) × (meaning s ≡ None) }) (as_str d)
 
 -- ---- null
 
--- null stands for this value
+-- null means this value
 abbrev pub null_as : {A : Type 0} → A → Reader A → Reader A
 null_as x read key d = found (read key d) (λ _. read_as x) (as_null d)
 
--- what stands there, where null isn't allowed
+-- what is there, where null isn't allowed
 abbrev pub present : {A : Type 0} → Reader A → Reader (Option A)
 present read key d = read_as (λ x. Some x) <*> read key d
 
@@ -100,7 +100,7 @@ abbrev pub items : {A : Type 0} → (Data → Reading A) → Items → Reading (
 items read no_items = read_as []
 items read (item d ds) = read_as (λ x xs. x ∷ xs) <*> read d <*> items read ds
 
--- a list: what stands in it has the list's key
+-- a list: faults in its items name the list's key
 abbrev pub list : {A : Type 0} → Reader A → Reader (List A)
 list read key d = typed key (items (read key)) (as_array d)
 
@@ -108,7 +108,7 @@ abbrev pub map_items : {A : Type 0} → (Data → Reading A) → Members → Rea
 map_items read no_members = read_as []
 map_items read (member name d ms) = read_as (λ x entries. (name, x) ∷ entries) <*> read d <*> map_items read ms
 
--- the names of an object, in order, and what stands under each: what stands there has the object's key
+-- the names of an object, in order, and the value under each: faults in the values name the object's key
 abbrev pub map_of : {A : Type 0} → Reader A → Reader (List (List ℕ × A))
 map_of read key d = typed key (map_items (read key)) (as_object d)
 
@@ -136,6 +136,6 @@ pub record IsExact {A : Type 0} (reading : Reading A) : Type 0 where
   pub unread : (fault : Fault) → reading.IsFault fault → reading.value ≡ None
   pub faulty : reading.value ≡ None → (fault : Fault) × reading.IsFault fault
 
--- whatever data stands under whatever key
+-- for any data under any key
 abbrev pub AlwaysExact : {A : Type 0} → Reader A → Type 0
 AlwaysExact read = (key : List ℕ) (d : Data) → IsExact (read key d)

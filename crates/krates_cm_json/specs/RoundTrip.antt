@@ -15,7 +15,7 @@ WasRead read x = (key : Text) × (d : Data) × ((read key d).value ≡ Some x)
 abbrev pub WrittenIsRead : {A : Type 0} → Reader A → Writer A → Writer A → Type 0
 WrittenIsRead {A} read Written Has = (x : A) (d : Data) → WasRead read x → Written x d → Has x d → (key : Text) → (read key d).value ≡ Some x
 
--- a property of what stands under a key
+-- a property of the data under a key
 abbrev pub Under : Text → (Data → Type 0) → Data → Type 0
 Under key W d = MatchOption (get key d) ⊥ W
 

@@ -1,5 +1,5 @@
--- The tables of the document: which keys each type has, how what stands under each is read, and so
--- which fault is true of a value that isn't read. One row a key.
+-- The tables of the document: which keys each type has, how the data under each is read, and so
+-- which fault a value has that isn't read. One row per key.
 use Rattle.std.specs.Prelude.{[], true, codes, None}
 use Rattle.serde_json.specs.Data.{null}
 use Rattle.krates_cm.specs.Document.{VersionModel, RequirementModel, DepKindInfoModel, NodeDepModel, NodeModel, ResolveModel, DependencyModel, TargetModel, PackageModel, MetadataModel}
@@ -112,7 +112,7 @@ target key d = object key d then (read_as (λ name kind crate_types required_fea
     <*> or_default boolean true (codes "test") d
     <*> or_default boolean true (codes "doc") d)
 
--- what a package says of itself
+-- what a package says about itself
 unfoldable pub about : Reader AboutModel
 about key d = read_as (λ authors description license license_file categories keywords readme repository homepage documentation. record {
   authors = authors;

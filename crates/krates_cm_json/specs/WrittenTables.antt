@@ -1,5 +1,5 @@
--- The tables of the document as it is written: which keys each type has, in their order, and what stands under
--- each. One row a key.
+-- The tables of the document as it is written: which keys each type has, in their order, and the data under
+-- each. One row per key.
 use Rattle.std.specs.Prelude.{◌==◌, length, not, is_some, codes}
 use Rattle.krates_cm.specs.Document.{DepKindInfoModel, NodeDepModel, NodeModel, ResolveModel, DependencyModel, TargetModel, PackageModel, MetadataModel}
 use Rattle.krates_cm_json.specs.Objects.{Writer, TextWritten, BooleanWritten, WholeWritten, AnyWritten, OptionWritten, ListWritten, MapWritten, Table, ObjectWritten, ◌also◌, always, only_where, no_more}

@@ -62,6 +62,6 @@ rust_version_text v = if v.2 == 0 then decimal v.0 ++ (46 ∷ decimal v.1) else 
 abbrev pub RustVersionWritten : Writer VersionModel
 RustVersionWritten v d = d ≡ string (rust_version_text v)
 
--- a requirement is a text, which is left open
+-- a requirement is written as a text, which isn't specified
 abbrev pub RequirementWritten : Writer RequirementModel
 RequirementWritten req d = (s : Text) × (d ≡ string s)

@@ -1,4 +1,4 @@
-//! Values that leave their texts where they stand.
+//! Values that borrow their texts from the text that was parsed.
 
 ghost use Rattle.std.specs.Prelude.{◌≡◌, option_map};
 ghost use Rattle.json.specs.Find.{as_array};
@@ -11,7 +11,7 @@ use serde_json::Value;
 use std::alloc::{AllocError, Global};
 use std::collections::BTreeMap;
 
-/// A value within a text that was read: it lasts as long as the text and what was read of it.
+/// A value within a text that was read: it lasts as long as the text and what was read from it.
 #[derive(Clone, Copy, Drop)]
 pub struct Borrowed<'v, 't> {
     pub(crate) tree: &'v Tree<'t>,
@@ -68,7 +68,7 @@ impl<'v, 't> JsonRef for Borrowed<'v, 't> {
         Ok(Some(found))
     }
 
-    /// By way of its text, which `serde_json` reads unless memory runs out; null, of which there is most, at once.
+    /// Made from its text, which `serde_json` reads unless memory runs out; null, the most common value, is made directly.
     fn to_value(&self, alloc: Global) -> Result<Value, AllocError> {
         if self.tree.is_null() {
             return Ok(Value::Null);

@@ -1,8 +1,8 @@
-//! Reading a document item by item: each package and each node of the graph is read as a tree, made a value of its type, and its
-//! tree given up before the next one is read. So the tree of the whole document never stands in memory.
+//! Reading a document item by item: each package and each node of the graph is read as a tree and turned into a value of its type, and
+//! the tree is dropped before the next one is read. So the tree of the whole document is never in memory.
 //!
-//! What is read so is what the text has. `None` says nothing of the text: a key that comes twice, or keys in another order, are
-//! left to those who read the whole.
+//! What is read in this way is what the text has. `None` says nothing about the text: a key that occurs twice, or keys in another order, are
+//! left to the reader of the whole document.
 
 ghost use Rattle.std.specs.Prelude.{◌≡◌, ◌∷◌, ◌++◌, [], IfSome, List, Some, map};
 ghost use Rattle.json.specs.Json.{object, array, no_items, no_members, member};
@@ -23,7 +23,7 @@ use json::{Reader, Scratch, Token, Value as Tree};
 use krates_cm::{Metadata, Package, Resolve};
 use std::alloc::Global;
 
-/// How deep an item nests at most, and any other value of the document or of its graph.
+/// How deep an item may nest, and any other value of the document or of its graph.
 const ITEM_DEPTH: usize = 124;
 
 /// The next value of the reader.
@@ -77,8 +77,8 @@ fn push<T: Drop>(list: &mut Vec<T>, item: T) -> Option<()>
     list.push(item).ok()
 }
 
-/// Adds the next members of an object to others, up to a key or to the end of the object; whether the key was found. It gives
-/// up at a key that was given before.
+/// Adds the next members of an object to others, up to a key or to the end of the object, and returns whether the key was found.
+/// `None` at the key that was found before.
 fn has_key_behind<'t>(
     alloc: Global,
     reader: &mut Reader<'t>,
@@ -103,7 +103,7 @@ fn has_key_behind<'t>(
     Some(false)
 }
 
-/// What is read from an object of these members and of an empty list under one key more.
+/// What is read from an object of these members and of an empty list under one more key.
 fn read_beside<'t, T: FromValue>(
     alloc: Global,
     members: Vec<(&'t str, Tree<'t>)>,
@@ -118,7 +118,7 @@ fn read_beside<'t, T: FromValue>(
     read_value(alloc, whole.root())
 }
 
-/// The object of these members and of an empty list under one key more.
+/// The object of these members and of an empty list under one more key.
 fn with_empty_list<'t>(
     alloc: Global,
     members: Vec<(&'t str, Tree<'t>)>,
@@ -135,7 +135,7 @@ fn with_empty_list<'t>(
     })
 }
 
-/// The graph that stands next, node by node.
+/// The graph that comes next, read node by node.
 fn next_resolve(alloc: Global, reader: &mut Reader<'_>) -> Option<Resolve>
     ensures { IfSome result
         (λ r. ReadsNext 126 (resolve []) reader.old (resolve_view r) reader.new) }
@@ -158,7 +158,7 @@ fn next_resolve(alloc: Global, reader: &mut Reader<'_>) -> Option<Resolve>
     })
 }
 
-/// The document that stands next, package by package and node by node.
+/// The document that comes next, read package by package and node by node.
 fn next_document(alloc: Global, reader: &mut Reader<'_>) -> Option<Metadata>
     ensures { IfSome result
         (λ m. ReadsNext 127 (metadata []) reader.old (metadata_view m) reader.new) }
@@ -182,7 +182,7 @@ fn next_document(alloc: Global, reader: &mut Reader<'_>) -> Option<Metadata>
     Some(with_parts(document, packages, resolve))
 }
 
-/// A document with these packages and this graph in place of its own.
+/// A document with these packages and this graph instead of its own.
 fn with_parts(document: Metadata, packages: Vec<Package>, resolve: Resolve) -> Metadata
     ensures { metadata_view result ≡ record (metadata_view document) {
       packages = map package_view packages.items;
@@ -195,7 +195,7 @@ fn with_parts(document: Metadata, packages: Vec<Package>, resolve: Resolve) -> M
     document
 }
 
-/// Reads a document item by item. `None` says nothing of the text.
+/// Reads a document item by item. `None` says nothing about the text.
 pub(crate) fn document(alloc: Global, text: &str) -> Option<Metadata>
     ensures { IfSome result (λ m. IsDocument text.now (metadata_view m)) }
 {

@@ -23,7 +23,7 @@ fn metadata_of<J: JsonRef>(alloc: Global, value: J) -> Result<Option<Metadata>, 
     }
 }
 
-/// Reads a document whose texts stay where they stand until they are copied; `None` exactly where it is refused. Returns
+/// Reads a document whose texts are borrowed until they are copied; `None` exactly where it is refused. Returns
 /// `AllocError` if memory runs out.
 fn parse_in_place(alloc: Global, text: &str) -> Result<Option<Metadata>, AllocError>
     ensures { IfOk result (λ found. MatchOption found (IsNoDocument text.now)
@@ -57,7 +57,7 @@ pub fn parse(alloc: Global, text: &str) -> Result<Metadata, Error>
     if let Some(metadata) = parse_in_place(alloc, text)? {
         return Ok(metadata);
     }
-    // Why it is refused, `serde_json` and its values tell.
+    // `serde_json` and its values say why it is refused.
     let value = Value::from_str(alloc, text)?;
     Ok(Metadata::from_value(alloc, &value)?)
 }

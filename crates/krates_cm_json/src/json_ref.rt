@@ -11,7 +11,7 @@ use serde_json::Value;
 use std::alloc::{AllocError, Global};
 use std::collections::BTreeMap;
 
-/// A JSON value (RFC 8259), wherever it is kept. It is handed on by value, as a reference is.
+/// A JSON value (RFC 8259), wherever it is kept. It is passed by value, as a reference is.
 ///
 /// Each look-up that doesn't say otherwise takes O(1), and answers `None` where the value is of another kind.
 pub trait JsonRef: Copy + Drop {
@@ -42,7 +42,7 @@ pub trait JsonRef: Copy + Drop {
     fn item(&self, index: usize) -> Option<Self>
         ensures { option_map meaning result ≡ at index (meaning self.now) };
 
-    /// What stands under a key of this object: the last such value, where the key comes twice. Time O(m) in the number of
+    /// The value under a key of this object: the last one, where the key occurs twice. Time O(m) in the number of
     /// members for a value in a text, and O(log m) for one of `serde_json`.
     fn get(&self, key: &str) -> Option<Self>
         ensures { option_map meaning result ≡ get key.now (meaning self.now) };

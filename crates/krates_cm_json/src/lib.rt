@@ -1,5 +1,5 @@
 //! The document of `cargo metadata --format-version 1` as JSON: how its types are read, and how they are written. They are read from JSON
-//! values of two kinds by one trait: those of `serde_json`, and those that leave their texts where they stand.
+//! values of two kinds by one trait: those of `serde_json`, and those that borrow their texts from the text that was parsed.
 #![tactic(auto)]
 
 pub mod borrowed;

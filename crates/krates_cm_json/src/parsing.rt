@@ -10,7 +10,7 @@ use crate::range::is_in_range;
 use json::{Reader, Scratch, Value as Tree};
 use std::alloc::{AllocError, Global};
 
-/// How deep arrays and objects nest at most, as in `serde_json`.
+/// How deep arrays and objects may nest, as in `serde_json`.
 const MAX_DEPTH: usize = 127;
 
 impl<'t> Parsed<'t> {
@@ -35,7 +35,7 @@ impl<'t> Parsed<'t> {
         Ok(Some(Parsed { tree }))
     }
 
-    /// The whole value.
+    /// The whole value. Time O(1).
     pub fn root(&self) -> Borrowed<'_, 't>
         ensures { borrowed_data result ≡ parsed_data self.now }
     {

@@ -67,7 +67,7 @@ fn is_unsigned_in_range(numeral: &Numeral<'_>) -> bool
     numeral.to_float::<f64>(false).is_finite() || numeral.to_u64().is_some()
 }
 
-/// The same of a number behind a minus. `-0` is a float.
+/// The same for a number after a minus. `-0` is a float.
 fn is_negative_in_range(numeral: &Numeral<'_>) -> bool
     ensures { result ≡ is_some (number_from true numeral.now) }
 {

@@ -74,7 +74,7 @@ doubled_so P R so memory errors.TooMany h = absurd h
 
 -- ---- a fault of an id is a fault of the document
 
--- what stands in a list of one
+-- what is in a list of one
 only : (t u : Text) (k : ℕ) → k < length (t ∷ []) → get_or (t ∷ []) k u ≡ u → t ≡ u
 only t u zero lt is = is
 only t u (suc k) lt is = absurd (omega (arith, lt))
@@ -101,7 +101,7 @@ node_bad m g = invalid_so (λ t. (n : NodeModel) × Contains g.nodes n × Contai
 pub bad_refused : (m : MetadataModel) (g : ResolveModel) → m.resolve ≡ Some g → (e : Error) → InvalidIdRefusal m g e → AdmissionRefusal m e
 bad_refused m g is = invalid_so (IsInvalidId m g) (AdmissionRefusal m) (λ t h. record { graph = g; has_graph = is; holds = h }) tt
 
--- ---- what stands twice
+-- ---- what occurs twice
 
 pub twice_in : (lists : List (List Identity)) (list : List Identity) → Contains lists list → (e : Error) → DoubledRefusal list e → DoubledInRefusal lists e
 twice_in lists list among = doubled_so (HasDoubled list) (DoubledInRefusal lists) (λ kid h. (list, among, h)) tt
@@ -179,7 +179,7 @@ doubled_of m g ids kid are (among_deps list among t) =
     let w = list_deps g.nodes ids.deps list among.0 are.deps among.1 among.2 in
     doubled_dep w.0 w.1 (twice_texts _ _ (id_of kid) w.2 t.1)
 
--- a document in which an id stands twice is refused
+-- a document in which an id occurs twice is refused
 pub twice_refused : (m : MetadataModel) (g : ResolveModel) (ids : IdsModel) → m.resolve ≡ Some g → AreIdsOf m g ids → (e : Error) → DoubledWithinRefusal ids e → AdmissionRefusal m e
 twice_refused m g ids is are = doubled_so (IsDoubledWithin ids) (AdmissionRefusal m) (λ kid h. record { graph = g; has_graph = is; holds = doubled_of m g ids kid are h }) tt
 
@@ -195,7 +195,7 @@ text_of (t ∷ texts) (i ∷ ids) kid z (suc k, lt, is) =
     let w = text_of texts ids kid z.1 (k, omega (arith, lt), is) in
     (w.0, (suc w.1.0, omega (arith, w.1.1), w.1.2), w.2)
 
--- an id that stands twice is read of the document
+-- an id that occurs twice is read from the document
 read_of : (m : MetadataModel) (g : ResolveModel) (ids : IdsModel) (kid : Identity) → AreIdsOf m g ids → IsDoubledWithin ids kid → IsReadOf (resolved m g) kid
 read_of m g ids kid are (among_packages t) = let w = text_of (package_texts m) ids.packages kid are.packages t.0 in (w.0, of_package w.1, w.2)
 read_of m g ids kid are (among_nodes t) = let w = text_of (node_texts g) ids.nodes kid are.nodes t.0 in (w.0, of_node w.1, w.2)

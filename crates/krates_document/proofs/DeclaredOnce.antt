@@ -18,7 +18,7 @@ one_first P xs j k x y a b = elim (cases_order j k) [
 pub declared_once : (ds : List DependencyModel) (n : DependencyEntry) (k : DepKindInfoModel) (p q : ℕ) (d e : DependencyModel) → IsDeclared ds n k p d → IsDeclared ds n k q e → (p ≡ q) × (d ≡ e)
 declared_once ds n k p q d e a b = one_first (IsMeant ds n k) ds p q d e a b
 
--- the declared dependency stands at its place
+-- the declared dependency is at its place
 pub declared_stands : (ds : List DependencyModel) (n : DependencyEntry) (k : DepKindInfoModel) (place : ℕ) (d : DependencyModel) → IsDeclared ds n k place d → slice_get ds place ≡ Some d
 declared_stands ds n k place d a = a.here
 

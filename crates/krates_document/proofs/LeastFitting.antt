@@ -131,7 +131,7 @@ under_other all name other target there k e f s =
 tied_folded : (a b : Text) (o : Ordering) → o ≡ folded_order a b → is_eq o ≡ true → folded a ≡ folded b
 tied_folded a b o is tied = (bytes_decides (folded a) (folded b)).0 (sym (is_eq-slice_cmp (folded a) (folded b)) ∙ ap is_eq (sym is) ∙ tied)
 
--- where the two names are the same, what stands under the first is all
+-- where the two names are the same, those under the first are all
 pub candidates_of_one_name : (places : List NamedPlace) (x : Sought) (all : Candidates) (o : Ordering) → o ≡ folded_order (entry_in x).dep.name (entry_in x).id.name → is_eq o ≡ true
     → ((k : ℕ) → StandsUnder places (entry_in x).dep.name (target_key (kind_in x).target) k → Contains (places_in all.of_dep.now) k) → AreCandidates places x all
 candidates_of_one_name places x all o is tied of_dep =
@@ -143,7 +143,7 @@ candidates_of_one_name places x all o is tied of_dep =
       of_package = λ k h. among_all k (under_other places (entry_in x).id.name (entry_in x).dep.name target target k names refl h);
     }
 
--- else what stands under both
+-- else those under both
 pub candidates_of_both : (places : List NamedPlace) (x : Sought) (all : Candidates)
     → ((k : ℕ) → StandsUnder places (entry_in x).dep.name (target_key (kind_in x).target) k → Contains (places_in all.of_dep.now) k)
     → ((k : ℕ) → StandsUnder places (entry_in x).id.name (target_key (kind_in x).target) k → Contains (places_in all.of_package.now) k) → AreCandidates places x all
@@ -210,7 +210,7 @@ several_found x all p d (Some j) from first found is =
     several_fit (map dependency_view x.declared.now) (entry_in x.sought.now) (kind_in x.sought.now) p j d w.fits.dependency first (omega (arith, from, w.from_there)) w.fits.at
     (fits_where x.by_source (entry_in x.sought.now) (kind_in x.sought.now) w.fits.dependency w.fits.fits)
 
--- ---- what stands at a place
+-- ---- what is at a place
 
 pub least_within : (x : Wanted) (all : List ℕ) (r : Option ℕ) → IsLeast (IsWantedAmong x all) r → IfSome r (λ place. place < length x.declared.now)
 least_within x all None none = tt

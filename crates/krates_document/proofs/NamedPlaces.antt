@@ -138,7 +138,7 @@ under_run xs rest run first count name target is_rest is_run before behind k s =
 pub stands_push : (all : List NamedPlace) (y : NamedPlace) (name target : Text) (k : ℕ) → StandsUnder all name target k → StandsUnder (all ++ y ∷ []) name target k
 stands_push all y name target k s = record { there = s.there; among = Contains-append_left all (y ∷ []) s.there s.among; key = s.key; is = s.is }
 
--- the items before a place stand under their names
+-- the items before a place are listed under their names
 abbrev pub StandBelow : {A : Type 0} → (A → Text) → (A → Text) → List A → List NamedPlace → ℕ → Type 0
 StandBelow {A} name target items places end = (k : ℕ) (x : A) → k < end → slice_get items k ≡ Some x → StandsUnder places (name x) (target x) k
 

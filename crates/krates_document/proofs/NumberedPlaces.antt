@@ -40,11 +40,11 @@ one_number ids m n i sorted at other = elim (cases_order m n) [
   ]
 ]
 
--- where a number stands before a place
+-- where a number is before a place
 abbrev pub IsWhereBelow : List (Option ℕ) → ℕ → ℕ → Option ℕ → Type 0
 IsWhereBelow numbers n k answer = MatchOption answer ((p : ℕ) → p < k → slice_get numbers p ≡ Some (Some n) → ⊥) (λ p. (p < k) × (slice_get numbers p ≡ Some (Some n)))
 
--- a place at which a number stands again, or none before a place
+-- a place at which a number occurs again, or none before a place
 abbrev pub TellsDoubledBelow : List (Option ℕ) → ℕ → Option ℕ → Type 0
 TellsDoubledBelow numbers k answer = MatchOption answer ((p : ℕ) → p < k → IsDoubledAt numbers p → ⊥) (IsDoubledAt numbers)
 
@@ -69,12 +69,12 @@ later numbers n k there None here other h = λ p below s. elim (cases_lt p k) [
       other (same_Some there (Some n) (sym here ∙ sym (ap (slice_get numbers) e) ∙ s)))
 ]
 
--- what is known of a number that stands already
+-- what is known of a number that is already there
 still : (numbers : List (Option ℕ)) (n k : ℕ) (answer : Option ℕ) → (answer ≡ None → ⊥) → IsWhereBelow numbers n k answer → IsWhereBelow numbers n (k + 1) answer
 still numbers n k (Some p) some h = (omega (arith, h.0), h.1)
 still numbers n k None some h = absurd (some refl)
 
--- no number stands again at the next place
+-- no number occurs again at the next place
 unrepeated : (numbers : List (Option ℕ)) (k : ℕ) (doubled : Option ℕ) → (IsDoubledAt numbers k → ⊥) → TellsDoubledBelow numbers k doubled → TellsDoubledBelow numbers (k + 1) doubled
 unrepeated numbers k (Some p) none h = h
 unrepeated numbers k None none h = λ p below d. elim (cases_lt p k) [
@@ -118,7 +118,7 @@ first_again : (numbers : List (Option ℕ)) (k : ℕ) (doubled : Option ℕ) →
 first_again numbers k None d h = d
 first_again numbers k (Some p) d h = h
 
--- a number stands again
+-- a number occurs again
 pub places_again : (count : ℕ) (numbers : List (Option ℕ)) (k m p : ℕ) (places : List (Option ℕ)) (doubled : Option ℕ) → m < count → slice_get numbers k ≡ Some (Some m) → get_or places m None ≡ Some p → ArePlacesBelow count numbers k places doubled
     → ArePlacesBelow count numbers (k + 1) places (option_or doubled (Some k))
 places_again count numbers k m p places doubled low here is h = record {
@@ -143,7 +143,7 @@ doubled_whole numbers k (Some p) le h = h
 
 -- ---- places of ids by places of their numbers
 
--- an id that is numbered, and whose number stands nowhere
+-- an id that is numbered, and whose number occurs nowhere
 unplaced : (ids : List Id) (numbers : List (Option ℕ)) (n p : ℕ) (i : Id) (o : Option ℕ) → AreNumbered ids → slice_get ids n ≡ Some i → IsNumberOf ids i o → slice_get numbers p ≡ Some o → (slice_get numbers p ≡ Some (Some n) → ⊥) → ⊥
 unplaced ids numbers n p i None sorted at number here none = number n at
 unplaced ids numbers n p i (Some m) sorted at number here none = none (here ∙ ap (λ (j : ℕ). Some (Some j)) (one_number ids m n i sorted number at))
@@ -169,7 +169,7 @@ index_by ids list numbers places sorted among are h = record {
   each = λ n i at. placed ids list numbers n i (get_or places n None) sorted at are (h.each n (slice_get_within ids n i at));
 }
 
--- ---- ids that stand twice
+-- ---- ids that occur twice
 
 -- the id at a place of a list
 id_there : (list : List Identity) (p : ℕ) (i : Id) → slice_get (map id_of list) p ≡ Some i → (k : Identity) × (slice_get list p ≡ Some k) × (id_of k ≡ i)
@@ -217,12 +217,12 @@ none_twice ids list numbers sorted among are none i t =
     let e : m.0 ≡ n.0 = one_number ids m.0 n.0 i sorted m.2 n.2 in
     none t.second (record { number = n.0; first = t.first; earlier = t.apart; at_first = m.1 ∙ ap (λ (j : ℕ). Some (Some j)) e; at_second = n.1 })
 
--- what is told of numbers is told of their ids
+-- what is said of numbers is said of their ids
 pub doubled_ids : (ids : List Id) (list : List Identity) (numbers : List (Option ℕ)) (answer : Option ℕ) → AreNumbered ids → Among list ids → AreNumbersOf ids list numbers → TellsDoubled numbers answer → TellsDoubledId list answer
 doubled_ids ids list numbers None sorted among are h = none_twice ids list numbers sorted among are h
 doubled_ids ids list numbers (Some p) sorted among are h = doubled_there ids list numbers p are h
 
--- ---- what stands at a number
+-- ---- what is at a number
 
 -- a number among the ids of a list is a place
 place_of_number : (list : List Identity) (i : Id) (answer : Option ℕ) → IsNumberOf (map id_of list) i answer → IsPlaceOf list i answer

@@ -46,14 +46,14 @@ IsDoubledBy P (errors.Doubled kid) = P kid
 IsDoubledBy P errors.Memory = ⊤
 IsDoubledBy P _ = ⊥
 
--- this id of the list stands at two places of it
+-- this id of the list is at two places of it
 abbrev pub HasDoubled : List Identity → Identity → Type 0
 HasDoubled ids kid = Contains ids kid × IsDoubledAmong ids (id_of kid)
 
 abbrev pub DoubledRefusal : List Identity → Error → Type 0
 DoubledRefusal ids = IsDoubledBy (HasDoubled ids)
 
--- this id stands twice in one of the lists
+-- this id occurs twice in one of the lists
 abbrev pub DoubledInRefusal : List (List Identity) → Error → Type 0
 DoubledInRefusal lists = IsDoubledBy (λ kid. (ids : List Identity) × Contains lists ids × HasDoubled ids kid)
 
@@ -62,7 +62,7 @@ pub record AreAllDistinct (ids : IdsModel) : Type 0 where
   pub nodes : AreDistinct ids.nodes
   pub deps : AllByRecursion AreDistinct ids.deps
 
--- this id stands twice among the packages, the nodes, or the dependencies of a node
+-- this id occurs twice among the packages, the nodes, or the dependencies of a node
 pub data IsDoubledWithin (ids : IdsModel) (kid : Identity) : Type 0 where
   among_packages : HasDoubled ids.packages kid → IsDoubledWithin ids kid
   among_nodes : HasDoubled ids.nodes kid → IsDoubledWithin ids kid

@@ -28,7 +28,7 @@ IsNumberOf ids i answer = MatchOption answer ((n : ℕ) → slice_get ids n ≡ 
 abbrev pub Among : List Identity → List Id → Type 0
 Among list ids = (i : Id) → IsNumberOf ids i None → IsNumberOf (map id_of list) i None
 
--- what a look-up of an id returns: a place at which it stands in the list, or none if it stands nowhere
+-- what a look-up of an id returns: a place of it in the list, or none if it isn't in the list
 abbrev pub IsPlaceOf : List Identity → Id → Option ℕ → Type 0
 IsPlaceOf list i answer = MatchOption answer ((place : ℕ) → StandsAt list i place → ⊥) (λ place. StandsAt list i place)
 
@@ -37,12 +37,12 @@ abbrev pub at_number : List (Option ℕ) → Option ℕ → Option ℕ
 at_number places None = None
 at_number places (Some n) = get_or places n None
 
--- one of these places at which the id stands in the list, or none where it stands at none of them
+-- one of these places at which the id is in the list, or none where it is at none of them
 abbrev pub IsPlaceAmong : List Identity → List ℕ → Id → Option ℕ → Type 0
 IsPlaceAmong list these i answer =
     MatchOption answer ((place : ℕ) → Contains these place → StandsAt list i place → ⊥) (λ place. StandsAt list i place)
 
--- each id of the list has a number, and under each number is a place of its id, or none where it stands nowhere
+-- each id of the list has a number, and under each number is a place of its id, or none where it isn't in the list
 pub record IsIndex (ids : List Id) (list : List Identity) (places : List (Option ℕ)) : Type 0 where
   pub among : Among list ids
   pub long : length places ≡ length ids
@@ -52,7 +52,7 @@ pub record IsIndex (ids : List Id) (list : List Identity) (places : List (Option
 abbrev pub AreNumbersOf : List Id → List Identity → List (Option ℕ) → Type 0
 AreNumbersOf ids list numbers = AllZip (IsNumberOf ids) (map id_of list) numbers
 
--- a place at which the number stands, or none where it stands nowhere
+-- a place of the number, or none where it is nowhere
 abbrev pub IsWhere : List (Option ℕ) → ℕ → Option ℕ → Type 0
 IsWhere numbers n answer =
     MatchOption answer ((place : ℕ) → slice_get numbers place ≡ Some (Some n) → ⊥) (λ place. slice_get numbers place ≡ Some (Some n))
@@ -66,7 +66,7 @@ pub record ArePlacesOf (count : ℕ) (numbers places : List (Option ℕ)) : Type
   pub long : length places ≡ count
   pub each : (n : ℕ) → n < count → IsWhere numbers n (get_or places n None)
 
--- the number that stands at the place stands before it, too
+-- the number at the place is also before it
 pub record IsDoubledAt (numbers : List (Option ℕ)) (place : ℕ) : Type 0 where
   pub number : ℕ
   pub first : ℕ
@@ -74,17 +74,17 @@ pub record IsDoubledAt (numbers : List (Option ℕ)) (place : ℕ) : Type 0 wher
   pub at_first : slice_get numbers first ≡ Some (Some number)
   pub at_second : slice_get numbers place ≡ Some (Some number)
 
--- a place at which a number stands again, or none where no number does
+-- a place at which a number occurs again, or none where no number does
 abbrev pub TellsDoubled : List (Option ℕ) → Option ℕ → Type 0
 TellsDoubled numbers answer = MatchOption answer ((place : ℕ) → IsDoubledAt numbers place → ⊥) (IsDoubledAt numbers)
 
--- the id that stands at the place stands twice
+-- the id at the place occurs twice
 pub record HasDoubledAt (list : List Identity) (place : ℕ) : Type 0 where
   pub there : Identity
   pub at : slice_get list place ≡ Some there
   pub twice : IsDoubledAmong list (id_of there)
 
--- a place of an id that stands twice, or none where no id does
+-- a place of an id that occurs twice, or none where no id does
 abbrev pub TellsDoubledId : List Identity → Option ℕ → Type 0
 TellsDoubledId list answer = MatchOption answer (AreDistinct list) (HasDoubledAt list)
 

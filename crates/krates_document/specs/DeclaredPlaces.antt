@@ -1,4 +1,4 @@
--- Where declared dependencies stand, by name and target, and which of them are considered.
+-- The places of declared dependencies, by name and target, and which of them are considered.
 use Rattle.std.specs.Prelude.{◌≡◌, ◌≤◌, ◌++◌, ℕ, Bool, false, true, List, Option, Some, None, MatchOption, Contains, map, slice_get, unwrap_or, cond, nat_lt, ◌<◌, ⊤}
 use Rattle.semver.specs.Identifiers.{parts_of}
 use Rattle.krates_cm.specs.Document.{Text, DependencyModel, DepKindInfoModel, dep_kind_info_view, dependency_view, node_dep_view}
@@ -26,13 +26,13 @@ kind_in x = dep_kind_info_view x.info.now
 abbrev pub HasItsVersion : Sought → Type 0
 HasItsVersion x = version_named x.kid.now.version ≡ Some (parts_of x.version.now)
 
--- ---- where declared dependencies stand
+-- ---- the places of declared dependencies
 
--- the text under which a target stands
+-- the text under which a target is listed
 abbrev pub target_key : Option Text → Text
 target_key target = unwrap_or target no_target
 
--- the places are in order, and each declared dependency stands under its name and target
+-- the places are in order, and each declared dependency is listed under its name and target
 abbrev pub AreDeclaredPlaces : List DependencyModel → List NamedPlace → Type 0
 AreDeclaredPlaces = AreNamed declared_name (λ d. target_key d.target)
 
@@ -68,7 +68,7 @@ FitsWhere true = FitsBySource
 abbrev pub FitsAs : Wanted → DependencyModel → Type 0
 FitsAs x = FitsWhere x.by_source (entry_in x.sought.now) (kind_in x.sought.now)
 
--- a declared dependency that fits stands at the place
+-- a declared dependency that fits is at the place
 pub record FitsAt (x : Wanted) (place : ℕ) : Type 0 where
   pub dependency : DependencyModel
   pub at : slice_get (map dependency_view x.declared.now) place ≡ Some dependency

@@ -1,4 +1,4 @@
--- The places of a list by the names of what stands there.
+-- The places of a list by the names of the items there.
 use Rattle.std.specs.Prelude.{◌≡◌, ℕ, List, [], Some, Contains, map, slice_get}
 use Rattle.std.specs.declared.cmp.Ordering.{Ordering}
 use Rattle.std.specs.Cmp.Lexicographic.{slice_cmp}
@@ -26,18 +26,18 @@ place_cmp = then_cmp (on (λ x. x.name) name_cmp) (then_cmp (on (λ x. x.target.
 abbrev pub AreInOrder : List NamedPlace → Type 0
 AreInOrder = IsSorted place_cmp
 
--- the place stands under the name, with '-' as '_', and the target
+-- the place is listed under the name, with '-' as '_', and the target
 pub record StandsUnder (all : List NamedPlace) (name target : Text) (place : ℕ) : Type 0 where
   pub there : NamedPlace
   pub among : Contains all there
   pub key : key_of there ≡ sought_key name target
   pub is : there.place ≡ place
 
--- the text that stands for no target
+-- the text for no target
 abbrev pub no_target : Text
 no_target = []
 
--- the places are in order, and each item of the list stands under its name and target
+-- the places are in order, and each item of the list is listed under its name and target
 pub record AreNamed {A : Type 0} (name target : A → Text) (items : List A) (places : List NamedPlace) : Type 0 where
   pub sorted : AreInOrder places
   pub each : (k : ℕ) (x : A) → slice_get items k ≡ Some x → StandsUnder places (name x) (target x) k

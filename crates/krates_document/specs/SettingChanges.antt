@@ -8,6 +8,6 @@ use Rattle.krates_text.specs.Passing.{Asked}
 abbrev pub with_exclusions : SettingModel → List Specification → SettingModel
 with_exclusions s specs = record s { exclusions = s.exclusions ++ specs }
 
--- these targets are asked for too
+-- dependencies are kept for these targets too
 abbrev pub with_targets : SettingModel → List Asked → SettingModel
 with_targets s targets = record s { targets = s.targets ++ targets }

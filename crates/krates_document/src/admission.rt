@@ -24,12 +24,12 @@ use std::collections::BTreeSet;
 
 /// Reads the ids of a document, and refuses a document that can't be resolved.
 ///
-/// The answer has an id for each place at which one has to stand, and the crates by number. It is refused, in this
-/// order of classes: as `NoResolveGraph` where the document has no resolved graph; as `InvalidId` where the text of a
+/// The answer has an id for each place where one is required, and the crates by number. It is refused, in this
+/// order of precedence: as `NoResolveGraph` where the document has no resolved graph; as `InvalidId` where the text of a
 /// package, a member, the root, a node or a node's dependency isn't an id, or the version of such a dependency isn't
 /// semantic; or as `Doubled` where two packages, two nodes or two dependencies of one node have the same id. Which of
-/// several true refusals of the last two is named is left open; a doubled id is one of the document's, its text
-/// included. It may instead return `Memory`. Time O(n log n) for n packages, nodes and dependencies of nodes.
+/// several applicable refusals of the last two is returned isn't specified; a doubled id is one of the document's, with
+/// its text. It may instead return `Memory`. Time O(n log n) for n packages, nodes and dependencies of nodes.
 pub fn admit(alloc: Global, metadata: &Metadata) -> Result<Ids, Error>
     ensures admitted { IfOk result (λ ids. IsAdmitted (metadata_view metadata.now) (ids_view ids)) }
     ensures refused { IfErr result (AdmissionRefusal (metadata_view metadata.now)) }
@@ -215,7 +215,7 @@ fn read_deps(alloc: Global, nodes: &[Node]) -> Result<DepLists, Error>
     Ok(DepLists { kids, versions })
 }
 
-/// Refuses an id that stands twice.
+/// Refuses an id that occurs twice.
 fn expect_distinct(alloc: Global, kids: &[Kid]) -> Result<(), Error>
     ensures distinct { OnOk result (AreDistinct kids.now) }
     ensures refused { IfErr result (DoubledRefusal kids.now) }
@@ -230,7 +230,7 @@ fn expect_distinct(alloc: Global, kids: &[Kid]) -> Result<(), Error>
     Ok(())
 }
 
-/// Refuses an id that stands twice in one of the lists.
+/// Refuses an id that occurs twice in one of the lists.
 fn expect_all_distinct(alloc: Global, lists: &[Vec<Kid>]) -> Result<(), Error>
     ensures distinct { OnOk result (AllByRecursion AreDistinct (map (λ kids. kids.items) lists.now)) }
     ensures refused { IfErr result (DoubledInRefusal (map (λ kids. kids.items) lists.now)) }

@@ -9,7 +9,7 @@ use std::alloc::{AllocError, Global};
 
 /// The document with each package corrected by what the index has answered, in their order; nothing else is changed.
 ///
-/// The index isn't asked anything. The only error is running out of memory. Time: that of a correction of each package.
+/// No index is asked. The only error is running out of memory. Time: that of a correction of each package.
 pub fn corrected(
     alloc: Global,
     index: &CachingIndex,

@@ -13,7 +13,7 @@ use crate::sorted::in_order;
 use krates_ids::{Error, Kid, laws};
 use std::alloc::{AllocError, Global};
 
-/// The ids of a document, numbered, and where the package, the node and a member of each stand.
+/// The ids of a document, numbered, and the places of the package, the node and a member of each.
 #[derive(Debug, Drop)]
 pub struct CrateTable {
     /// The ids in order, each once: the number of a crate is its place here.
@@ -24,9 +24,9 @@ pub struct CrateTable {
     pub nodes: Vec<Option<usize>>,
     /// A place of it among the members of the workspace.
     pub members: Vec<Option<usize>>,
-    /// The number of the crate of each node.
+    /// The number of each node's crate.
     pub node_numbers: Vec<Option<usize>>,
-    /// The number of the crate of each dependency of each node; none where it has neither package nor node and is no member.
+    /// The number of the crate of each dependency of each node; `None` where it has neither package nor node and isn't a member.
     pub dep_numbers: Vec<Vec<Option<usize>>>,
 }
 
@@ -105,11 +105,11 @@ struct Index {
     numbers: Vec<Option<usize>>,
     /// For each number, a place of its id in the list.
     places: Vec<Option<usize>>,
-    /// A place of an id that stands before it, too.
+    /// A place of an id that also occurs before it.
     doubled: Option<usize>,
 }
 
-/// The index of a list in which no id stands twice. It is refused where one does.
+/// The index of a list in which no id occurs twice. It is refused where one does.
 fn distinct_index(alloc: Global, ids: &[Kid], list: &[Kid]) -> Result<Index, Error>
     requires numbered { AreNumbered (map id_of ids.now) }
     requires among { Among list.now (map id_of ids.now) }
@@ -142,7 +142,7 @@ fn index_of(alloc: Global, ids: &[Kid], list: &[Kid]) -> Result<Index, AllocErro
     })
 }
 
-/// For each number below the count, the first place of it among these, and a place at which one stands again.
+/// For each number below the count, the first place of it among these, and a place at which one occurs again.
 fn places_of(
     alloc: Global,
     count: usize,

@@ -18,7 +18,7 @@ use krates_ids::Kid;
 use semver::{Version, VersionReq};
 use std::alloc::{AllocError, Global};
 
-/// The semantic version of an id, or none where its version isn't semantic (SemVer 2.0.0).
+/// The semantic version of an id, or `None` where its version isn't semantic (SemVer 2.0.0).
 ///
 /// The only error is running out of memory; a version without pre-release and build metadata takes none. Time O(length).
 pub fn version_of(alloc: Global, kid: &Kid) -> Result<Option<Version>, AllocError>
@@ -62,9 +62,9 @@ impl HasName for Dependency {
 
 /// The place of the declared dependency of a node's dependency, of one kind and for one target, among those that the node's
 /// package declares: the one that fits; where several fit, the first of them whose source is that of the dependency's
-/// id. None where none fits, and where several fit and none of them has the source.
+/// id. `None` where none fits, and where several fit but none of them has the source.
 ///
-/// Only those under one of the dependency's two names are looked at, which are found by halves. Time: O(log n + k) for k of
+/// Only those under one of the dependency's two names are looked at, which are found by binary search. Time: O(log n + k) for k of
 /// them.
 pub fn declared_of(
     declared: &[Dependency],
@@ -150,7 +150,7 @@ fn least_fitting(candidates: &Candidates<'_, '_>, wanted: &Wanted<'_>) -> Option
     lesser(of_dep, of_package)
 }
 
-/// The lesser of two numbers, where there are any.
+/// The lesser of two numbers, or the only one, where there is any.
 fn lesser(one: Option<usize>, other: Option<usize>) -> Option<usize>
     ensures { result ≡ lesser one other }
 {
@@ -193,7 +193,7 @@ fn is_below(number: usize, other: Option<usize>) -> bool
     }
 }
 
-/// Whether a declared dependency stands at the place and fits as it is wanted.
+/// Whether a declared dependency is at the place and fits as it is wanted.
 fn fits_at(wanted: &Wanted<'_>, place: usize) -> bool
     requires { HasItsVersion wanted.now.sought.now }
     ensures { IsTrue result ↔ FitsAt wanted.now place }
@@ -227,7 +227,7 @@ fn fits_by_source(sought: &Sought<'_>, declared: &Dependency) -> bool
 }
 
 /// Whether the declared dependency fits this dependency of a node, of this kind and for this target: the kind and the text
-/// of the target are equal, its name fits, and its requirement takes the version
+/// of the target are equal, its name fits, and its requirement allows the version
 /// (Cargo Book, "cargo metadata", `dependencies` and `resolve`).
 fn fits(sought: &Sought<'_>, declared: &Dependency) -> bool
     requires { HasItsVersion sought.now }
@@ -268,7 +268,7 @@ fn declared_name(declared: &Dependency) -> &str
     }
 }
 
-/// Whether the requirement takes the version: it matches, or it has no comparator and the version is a pre-release,
+/// Whether the requirement allows the version: it matches, or it has no comparator and the version is a pre-release,
 /// which the requirement `*` doesn't match.
 fn version_matches(version: &Version, req: &VersionReq) -> bool
     ensures { IsTrue result ↔ VersionMatches (parts_of version.now) (requirement_view req.now) }

@@ -1,4 +1,4 @@
-//! When the source that a package declares for a dependency is the one that the id of the dependency has.
+//! When the source that a package declares for a dependency is that of the dependency's id.
 
 ghost use Rattle.std.specs.Prelude.{◌≡◌, ◌≢◌, ◌∷◌, ◌↔◌, IsTrue, List, ℕ};
 ghost use Rattle.std.specs.Path.{components_remaining};
@@ -12,12 +12,12 @@ use krates_cm::Dependency;
 use krates_text::path::{components, same};
 use std::path::Components;
 
-/// Whether a source is that of the directory to which a declared path leads.
+/// Whether a source is the directory to which a declared path leads.
 ///
-/// The source has to begin with `path+file://`, and what follows is the directory (Cargo Book, "Package ID
-/// Specifications"). A path that begins with `/` leads there where both have equal components. Any other is one of
-/// Windows: its names between `\`, empty ones too, have to be the components of the directory without its first
-/// character, which has to be ASCII, as in `path+file:///D:/a` for `D:\a`. Time O(length of both).
+/// The source must begin with `path+file://`, and what follows is the directory (Cargo Book, "Package ID
+/// Specifications"). A path that begins with `/` leads there where both have equal components. Any other is a path of
+/// Windows: its names between `\`, empty ones too, must be the components of the directory without its first
+/// character, which must be ASCII, as in `path+file:///D:/a` for `D:\a`. Time O(length of both).
 pub fn is_path_of(path: &str, source: &str) -> bool
     ensures { IsTrue result ↔ IsPathOf path.now source.now }
 {
@@ -76,7 +76,7 @@ fn next_is(left: &mut Components<'_>, name: &str) -> bool
 }
 
 /// Whether the declared dependency has the source of an id with this text: by its source where it declares one, and else
-/// by its path. It hasn't where it declares neither.
+/// by its path. If it declares neither, it doesn't have it.
 pub(crate) fn has_source(declared: &Dependency, id: &str, source: &str) -> bool
     ensures { IsTrue result ↔ HasSource id.now source.now (dependency_view declared.now) }
 {
@@ -96,7 +96,7 @@ fn is_same_source(declared: &str, id: &str, source: &str) -> bool
     compared(id, declared) == source
 }
 
-/// What is compared of a declared source: all of it, but for git what `compared_of_git` answers.
+/// The part of a declared source that is compared: all of it, but of a git source what `compared_of_git` answers.
 fn compared<'a>(id: &str, declared: &'a str) -> &'a str
     ensures { IsSameSource id.now declared.now result.now }
 {
@@ -106,7 +106,7 @@ fn compared<'a>(id: &str, declared: &'a str) -> &'a str
     }
 }
 
-/// What is compared of a declared git source: all of it, but not its commit where the id is opaque, and so has none in
+/// The part of a declared git source that is compared: all of it, but without its commit where the id is opaque, and so has none in
 /// its source.
 fn compared_of_git<'a>(id: &str, declared: &'a str) -> &'a str
     requires { BeginsWith git declared.now }
@@ -119,7 +119,7 @@ fn compared_of_git<'a>(id: &str, declared: &'a str) -> &'a str
     }
 }
 
-/// What stands before the last `#`, or all of a text without one.
+/// The part before the last `#`, or all of a text without one.
 fn without_commit(text: &str) -> &str
     ensures { IsWithoutCommit text.now result.now }
 {

@@ -8,8 +8,8 @@ ghost use Rattle.krates_document.specs.FoldedNames.{folded_byte, folded_order, n
 
 use std::cmp::Ordering;
 
-/// A name, compared by its bytes as if each `-` in it were `_`: the name of a resolved dependency is equal to each declared
-/// one that it may stand for.
+/// A name, compared by its bytes as if each `-` in it were `_`: the name of a resolved dependency equals each declared
+/// name that it may mean.
 #[derive(Clone, Copy, Debug)]
 pub struct FoldedName<'a> {
     /// The name as it is written.

@@ -8,7 +8,7 @@ use crate::crate_table::CrateTable;
 use krates_ids::Kid;
 use semver::Version;
 
-/// An id for each place of a document at which one has to stand, in the order of the document, with its crates by number.
+/// An id for each place of a document where one is required, in the order of the document, with its crates by number.
 #[derive(Debug, Drop)]
 pub struct Ids {
     /// Those of the packages.

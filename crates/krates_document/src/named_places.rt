@@ -1,4 +1,4 @@
-//! Places of a list by the names that stand there: an index, made once, in which those of one name are found by halves.
+//! Places of a list by the names of the items there: an index, made once, in which those of one name are found by binary search.
 
 ghost use Rattle.std.specs.Prelude.{◌≡◌, ℕ, Contains, IfOk};
 ghost use Rattle.std.specs.Ordering.{is_le, is_lt};
@@ -11,7 +11,7 @@ use krates_ids::Kid;
 use std::alloc::{AllocError, Global};
 use std::cmp::Ordering;
 
-/// A place of a list, under the name that stands there, `-` as `_`, and a target.
+/// A place of a list, under the name of the item there, `-` as `_`, and a target.
 #[derive(Clone, Copy, Debug, PartialEq, Eq, PartialOrd, Ord)]
 pub struct NamedPlace<'a> {
     /// The name.
@@ -88,7 +88,7 @@ pub fn named_places<T: HasName>(
     Ok(places)
 }
 
-/// Those of the places, which are in order, that stand under this name and target; there may be others among them.
+/// Those of the places, which are in order, that are listed under this name and target; there may be others among them.
 ///
 /// Time: O(log n).
 pub fn places_under<'a, 's>(
@@ -105,14 +105,14 @@ pub fn places_under<'a, 's>(
     &rest[..count]
 }
 
-/// Whether the place stands before those under this name and target.
+/// Whether the place comes before those under this name and target.
 fn is_before(place: &NamedPlace<'_>, name: &str, target: &str) -> bool
     ensures { result ≡ is_lt (key_cmp (key_of place.now) (sought_key name.now target.now)) }
 {
     order_of(place, name, target).is_lt()
 }
 
-/// Whether the place doesn't stand behind those under this name and target.
+/// Whether the place doesn't come after those under this name and target.
 fn is_not_behind(place: &NamedPlace<'_>, name: &str, target: &str) -> bool
     ensures { result ≡ is_le (key_cmp (key_of place.now) (sought_key name.now target.now)) }
 {

@@ -19,7 +19,7 @@ use krates_text::target::Target;
 use std::alloc::{AllocError, Global};
 use std::marker::Model;
 
-/// What the caller asks for.
+/// What the caller sets.
 #[derive(Debug, Drop)]
 pub struct Setting {
     targets: Vec<(Target, Vec<String>)>,
@@ -61,7 +61,7 @@ impl Setting {
         }
     }
 
-    /// Ignores the dependencies of this kind of the crates of the scope, beside those that are ignored already. Time O(1).
+    /// Ignores the dependencies of this kind of the crates of the scope, in addition to those that are ignored already. Time O(1).
     pub fn ignore_kind(&mut self, kind: DepKind, scope: Scope)
         ensures ignored { IgnoresMore self.old.ignored self.new.ignored kind scope }
         ensures rest { self.new ≡ record self.old { ignored = self.new.ignored } }
@@ -69,7 +69,7 @@ impl Setting {
         self.ignored = self.ignored.with(kind, scope);
     }
 
-    /// Whether every member of the workspace is a root, also where the graph has a root of its own. The last call
+    /// Whether every member of the workspace is a root, even where the graph has a root of its own. The last call
     /// counts. Time O(1).
     pub fn workspace(&mut self, is_on: bool)
         ensures { self.new ≡ record self.old { workspace = is_on } }
@@ -77,15 +77,15 @@ impl Setting {
         self.workspace = is_on;
     }
 
-    /// Whether a dependency's name in a feature reference, as `dep:NAME` or `NAME/FEATURE`, means all dependencies that answer
-    /// to it, and not the least of them alone, by id. The last call counts. Time O(1).
+    /// Whether a dependency's name in a feature reference, as in `dep:NAME` or `NAME/FEATURE`, means all dependencies that
+    /// match it, rather than only the least of them by id. The last call counts. Time O(1).
     pub fn all_named(&mut self, is_on: bool)
         ensures { self.new ≡ record self.old { all_named = is_on } }
     {
         self.all_named = is_on;
     }
 
-    /// Leaves out the packages that one of the specifications fits, beside those that are left out already. After a
+    /// Leaves out the packages that one of the specifications fits, in addition to those that are left out already. After a
     /// refusal the setting is as it was. Time O(specifications).
     pub fn exclude(&mut self, mut specs: Vec<PkgSpec>) -> Result<(), AllocError>
         ensures appended { OnOk result (self.new ≡ with_exclusions self.old (map spec_view specs.items)) }
@@ -94,7 +94,7 @@ impl Setting {
         self.exclusions.append(&mut specs)
     }
 
-    /// Keeps only dependencies whose target text passes at one of the targets, beside those that are set already.
+    /// Keeps only dependencies whose target text passes at one of the targets, in addition to those that are set already.
     /// After a refusal the setting is as it was. Time O(targets).
     pub fn include_targets(
         &mut self,
@@ -106,7 +106,7 @@ impl Setting {
         self.targets.append(&mut targets)
     }
 
-    /// Asks for the crates with these manifests as roots, beside those that are asked for already. A path that
+    /// Makes the members with these manifests roots, in addition to those that were given already. A path that
     /// doesn't end in `Cargo.toml` means the manifest in that directory. After a refusal the setting is as it was.
     /// Time O(length of the paths).
     pub fn include_workspace_crates(
@@ -141,12 +141,12 @@ impl Setting {
         self.ignored.has(DepKind::from(kind), is_member)
     }
 
-    /// Whether a dependency with this target text passes: the text that stands behind `target` in a manifest
+    /// Whether a dependency with this target text passes: the text that follows `target` in a manifest
     /// (Cargo Book, "Platform specific dependencies").
     ///
-    /// A dependency without a text always passes. A text that is a cfg expression passes where one single target that is
+    /// A dependency without a text always passes. A text that is a cfg expression passes where one target that is
     /// set, with its features, makes the whole of it true, and any other text where it is the triple of one of them. Where
-    /// no target is set, every text passes but a false expression without predicates, as `cfg(any())`.
+    /// no target is set, every text passes except a false expression without predicates, as `cfg(any())`.
     ///
     /// The only error is running out of memory. Time: that of `krates_text::passing::passes`.
     pub fn passes(&self, alloc: Global, cfg: &Option<String>) -> Result<bool, AllocError>
@@ -158,21 +158,21 @@ impl Setting {
         }
     }
 
-    /// The manifests that are asked for. They stand in the order in which they were asked for. Time O(1).
+    /// The manifests of the crates that were made roots, in the order in which they were given. Time O(1).
     pub fn manifests(&self) -> &[String]
         ensures { map text_view result.now ≡ self.now.manifests }
     {
         &self.manifests
     }
 
-    /// Whether every member is asked for. Time O(1).
+    /// Whether every member of the workspace was made a root. Time O(1).
     pub fn is_workspace(&self) -> bool
         ensures { result ≡ self.now.workspace }
     {
         self.workspace
     }
 
-    /// Whether a name in a feature reference means all dependencies that answer to it. Time O(1).
+    /// Whether a name in a feature reference means all dependencies that match it. Time O(1).
     pub fn is_all_named(&self) -> bool
         ensures { result ≡ self.now.all_named }
     {

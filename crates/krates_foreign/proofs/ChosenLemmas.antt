@@ -17,7 +17,7 @@ exclusions : (specs : List PkgSpec) → map choice.exclusion_word specs ≡ map 
 exclusions [] = refl
 exclusions (spec ∷ specs) = ap (λ words. choice.exclusion_word spec ∷ words) (exclusions specs)
 
--- the word of a target that is asked for
+-- the word of a target that is set
 abbrev asked_word : Asked → Text
 asked_word asked = codes "--target=" ++ printed asked.target
 

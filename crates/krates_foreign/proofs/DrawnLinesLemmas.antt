@@ -48,7 +48,7 @@ edges_written (l ∷ ls) [] zip = absurd zip
 edges_written (l ∷ ls) (edge ∷ stored) zip =
     ap (λ of. edge_line of ++ stored_edge_lines stored) (same_line l edge zip.0) ∙ ap (λ lines. edge_line l ++ lines) (edges_written ls stored zip.1)
 
--- the lines of what is built of a document are those of its graph
+-- the lines of what is built from a document are those of its graph
 pub draws : {F : Type 0} (filters : F → Package → F → Type 0) (s : SettingModel) (m : Metadata) (kept : KeptCrates Listed Edge) (before after : F) (lines : Text) → IsResolvable (metadata_view m)
     → IsBuilt filters IsListedOf IsCopied m s before after kept → lines ≡ stored_node_lines kept.graph.nodes ++ stored_edge_lines kept.graph.edges → DrawsPackages s m lines
 draws filters s m kept before after lines resolvable built written =

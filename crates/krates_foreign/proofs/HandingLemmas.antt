@@ -1,4 +1,4 @@
--- What is told of the answer of a call is told of what the call's clauses say.
+-- What is said of the answer of a call follows from the call's clauses.
 use Rattle.std.proofs.Common.{IfErr, IfOk, Result, String, Global, string_bytes, subst}
 use Rattle.krates_cm.specs.Document.{Text}
 use Rattle.krates_foreign.specs.Handing.{Hands, Tells, TellsOf, answered, no_memory, refused}

@@ -39,7 +39,7 @@ unbuilt : ListsOrRefuses → (a : Request) (bytes lines : Text) (e : CallRefusal
 unbuilt law a bytes lines e cause is has (n, document, h) =
     subst IsOutside (sym is) (law a bytes lines (runs.Build cause) document.is_text (listing_in a bytes lines has) (document.is_text, record { metadata = n; document = document.document; unbuilt = h }))
 
--- a listing under the options, and a refusal that speaks of the words and the document
+-- a listing under the options, and a refusal about the words and the document
 refused : ListsOrRefuses → AskOnce → (a : Request) (bytes words lines : Text) (o : OptionsModel) (e : CallRefusal) → a.setting ≡ setting_of o → AsksFor words o → HasListing a bytes lines → ListRefusal bytes words e → IsOutside e
 refused law once a bytes words lines o refusals.Words same asks has h = absurd (h o asks)
 refused law once a bytes words lines o refusals.Utf8 same asks has h = absurd (h has.1.is_text)

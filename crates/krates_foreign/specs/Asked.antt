@@ -1,4 +1,4 @@
--- The setting that words ask for, one word a line, and the words that a certificate under this setting has.
+-- The setting that words give, one word per line, and the words that a certificate under this setting has.
 use Rattle.std.specs.Prelude.{◌≡◌, ◌++◌, IsUtf8, List, None, codes, map, ⊤}
 use Rattle.std.specs.Str.Lines.{lines}
 use Rattle.krates_cm.specs.Document.{Text}
@@ -11,22 +11,22 @@ use Rattle.krates_words.specs.SettingWords.{flag_words, kind_word}
 use Rattle.krates_foreign.specs.declared.refusal.CallRefusal.{CallRefusal}
 use Rattle.krates_foreign.specs.declared.refusal.CallRefusal.TheVariants as refusals
 
--- the options ask for no program, and for no crate that is to be explained
+-- the options set no program, and no crate to be explained
 pub record AskAlone (o : OptionsModel) : Type 0 where
   pub no_program : o.cargo ≡ None
   pub no_crate : o.explaining ≡ None
 
--- The bytes are a text whose lines are options, and these ask for a setting alone.
+-- The bytes are a text whose lines are options, and these give only a setting.
 pub record AsksFor (words : Text) (o : OptionsModel) : Type 0 where
   pub is_text : IsUtf8 words
   pub options : IsCommandLine (lines words) o
   pub alone : AskAlone o
 
--- The words ask for a setting, of which this is true.
+-- The words give a setting, of which this is true.
 abbrev pub Under : Text → (SettingModel → Type 0) → Type 0
 Under words P = (o : OptionsModel) × AsksFor words o × P (setting_of o)
 
--- They ask for none.
+-- They give none.
 abbrev pub AskForNone : Text → Type 0
 AskForNone words = (o : OptionsModel) → AsksFor words o → ⊥
 

@@ -16,7 +16,7 @@ pub record IsDocumentIn (bytes : Text) (m : Metadata) : Type 0 where
 abbrev pub OfDocument : Text → (Metadata → Type 0) → Type 0
 OfDocument bytes P = (m : Metadata) × IsDocumentIn bytes m × P m
 
--- why they are none
+-- why they aren't one
 abbrev pub IsNoDocumentIn : Text → CallRefusal → Type 0
 IsNoDocumentIn bytes refusals.Utf8 = IsUtf8 bytes → ⊥
 IsNoDocumentIn bytes (refusals.Parse cause) = IsUtf8 bytes × ParseRefusal bytes cause

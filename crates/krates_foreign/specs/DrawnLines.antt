@@ -14,7 +14,7 @@ use Rattle.krates_rules.specs.Setting.{SettingModel}
 use Rattle.krates_rules.specs.declared.kind.DepKind.{DepKind}
 use Rattle.krates_rules.specs.declared.kind.DepKind.TheVariants as kinds
 
--- a text behind its length in bytes and a colon, so that it can be read whole, whatever it has
+-- a text after its length in bytes and a colon, so that it can be read whole, whatever it has
 abbrev pub measured_text : Text → Text
 measured_text text = decimal (length text) ++ (codes ":" ++ text)
 

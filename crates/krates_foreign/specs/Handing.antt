@@ -1,4 +1,4 @@
--- How an answer is handed over in the room that the caller lends.
+-- How an answer is put into the room that the caller lends.
 use Rattle.std.specs.Prelude.{◌≡◌, ◌⊎◌, ◌++◌, ◌<◌, ◌≤◌, [], IfSome, Ok, Err, Result, String, drop, length, string_bytes}
 use Rattle.std.specs.declared.alloc.Global.{Global}
 use Rattle.krates_cm.specs.Document.{Text}
@@ -12,7 +12,7 @@ use Rattle.krates_foreign.specs.declared.status.Status.TheVariants as statuses
 
 -- ---- one text
 
--- The text stands at the front of the room, and behind it the room is as it was; the answer has its status and its length.
+-- The text is at the front of the room, and after it the room is as it was; the answer has its status and its length.
 pub record Fits (status : Status) (text : Text) (answer : Answer) (old new : Text) : Type 0 where
   pub room : length text ≤ length old
   pub status_is : answer.status ≡ number_of status
@@ -31,20 +31,20 @@ IsHanded status text answer old new = Fits status text answer old new ⊎ FitsNo
 
 -- ---- one of several
 
--- A text was handed over that may be told with its status.
+-- A text was handed over that may be returned with its status.
 abbrev pub Hands : (Status → Text → Type 0) → Answer → Text → Text → Type 0
 Hands MayTell answer old new = (status : Status) × (text : Text) × MayTell status text × IsHanded status text answer old new
 
--- What is told of a refusal: what is printed of it, where that is stated.
+-- The text of a refusal: what is printed for it, where that is stated.
 abbrev pub TellsRefusal : CallRefusal → Text → Type 0
 TellsRefusal refusal text = (refusal ≡ refusals.Memory → ⊥) × IfSome (refusal_text refusal) (λ stated. text ≡ stated)
 
--- An answer is told, or a refusal with its status; where memory runs out, no text.
+-- An answer, or a refusal with its status; where memory runs out, no text.
 pub data Tells (Answers : Text → Type 0) (Refuses : CallRefusal → Type 0) : Status → Text → Type 0 where
   answered : {text : Text} → Answers text → Tells Answers Refuses statuses.Answered text
   refused : {text : Text} {refusal : CallRefusal} → Refuses refusal → TellsRefusal refusal text → Tells Answers Refuses (status_of refusal) text
   no_memory : Tells Answers Refuses statuses.Memory []
 
--- what is told of the answer of a call
+-- the same for the result of a call
 abbrev pub TellsOf : Result (String Global) CallRefusal → Status → Text → Type 0
 TellsOf told = Tells (λ text. (s : String Global) × (told ≡ Ok s) × (string_bytes s ≡ text)) (λ refusal. told ≡ Err refusal)

@@ -1,4 +1,4 @@
--- The numbers by which other languages know how a call ended, and which refusal has which.
+-- The numbers by which other languages know how a call ended, and which refusal has which number.
 use Rattle.std.specs.Prelude.{ℕ}
 use Rattle.krates_foreign.specs.declared.refusal.CallRefusal.{CallRefusal}
 use Rattle.krates_foreign.specs.declared.refusal.CallRefusal.TheVariants as refusals

@@ -1,4 +1,4 @@
-//! The setting that words ask for.
+//! The setting that words give.
 
 ghost use Rattle.std.specs.Prelude.{◌≡◌, IfErr, IfOk, map, string_bytes};
 ghost use Rattle.std.specs.Str.Lines.{lines};
@@ -10,8 +10,8 @@ use krates_cli::{Options, OptionsError, laws, options_of};
 use std::alloc::{AllocError, Global};
 use std::str;
 
-/// The options that words ask for, one word a line: those of `krates-list` that ask for a setting. It is refused as `Words` where
-/// they are no UTF-8, are no options, or ask for a program or for a crate that is to be explained, and only there. It may instead
+/// The options that the words are, one word per line: those of `krates-list` that concern the setting. It is refused as `Words` where
+/// they aren't UTF-8, aren't options, or set a program or a crate to be explained, and only there. It may instead
 /// return `Memory`.
 pub(crate) fn options_in(alloc: Global, words: &[u8]) -> Result<Options, CallRefusal>
     ensures asked { IfOk result (λ options. AsksFor words.now (options_view options)) }
@@ -40,7 +40,7 @@ fn words_in(alloc: Global, text: &str) -> Result<Vec<String>, AllocError>
     Ok(words)
 }
 
-/// The options, where they ask for a setting alone.
+/// The options, where they give only a setting.
 fn alone(options: Options) -> Result<Options, CallRefusal>
     ensures same { IfOk result (λ same. (same ≡ options) × AskAlone (options_view options)) }
     ensures refused { IfErr result (IsAloneRefused (options_view options)) }

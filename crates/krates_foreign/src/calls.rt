@@ -1,4 +1,4 @@
-//! What is asked of a document under the setting that words ask for.
+//! What is asked of a document under the setting that words give.
 
 ghost use Rattle.std.specs.Prelude.{IfErr, IfOk, string_bytes};
 ghost use Rattle.krates_cli.specs.Options.{meant_request};
@@ -18,8 +18,8 @@ use krates_cli::{Listed, Options, OptionsError, kid_of, listing_of};
 use std::alloc::Global;
 use std::str;
 
-/// The lines of a document's packages, as `krates-list` writes them: behind `+ ` the kept ones, behind `- ` the others, both in the
-/// order of the ids. The words are options of `krates-list`, one a line, and ask for a setting alone.
+/// The lines of a document's packages, as `krates-list` writes them: after `+ ` the kept ones, after `- ` the others, both in the
+/// order of the ids. The words are options of `krates-list`, one per line, and give only a setting.
 ///
 /// It is refused as `Words`, `Utf8`, `Parse` or `Build`, in this order, each only where that is true; as `Build` also where the graph
 /// has more nodes or edges than can be numbered. It may instead return `Memory`. Time: that of reading and of the build.
@@ -35,7 +35,7 @@ pub fn list(alloc: Global, document: &[u8], words: &[u8]) -> Result<String, Call
     listed(alloc, &options, document)
 }
 
-/// The lines that the options ask for, of the document that the bytes are. It is refused as `Utf8`, `Parse`, `Build`, `NotKept` or
+/// The lines that the options request, of the document that the bytes are. It is refused as `Utf8`, `Parse`, `Build`, `NotKept` or
 /// `Memory`.
 fn listed(alloc: Global, options: &Options, document: &[u8]) -> Result<String, CallRefusal>
     ensures listed { IfOk result
@@ -66,7 +66,7 @@ pub fn why(alloc: Global, document: &[u8], words: &[u8], id: &[u8]) -> Result<St
     listed(alloc, &options, document)
 }
 
-/// The id that the bytes are. It is refused as `Id` where they are none, or as `Memory`.
+/// The id that the bytes are. It is refused as `Id` where they aren't one, or as `Memory`.
 fn kid_in(alloc: Global, id: &[u8]) -> Result<Kid, CallRefusal>
     ensures read { IfOk result (NamesCrate id.now) }
     ensures refused { IfErr result (IsNoId id.now) }
@@ -91,7 +91,7 @@ fn kid_in(alloc: Global, id: &[u8]) -> Result<Kid, CallRefusal>
 /// edge 2 0 feature
 /// ```
 ///
-/// A text stands behind its length in bytes and a colon. It is refused as `list` is. Time: that of reading and of the build.
+/// A text comes after its length in bytes and a colon. It is refused as `list` is. Time: that of reading and of the build.
 pub fn graph(alloc: Global, document: &[u8], words: &[u8]) -> Result<String, CallRefusal>
     ensures drawn { IfOk result (λ lines. Draws document.now words.now (string_bytes lines)) }
     ensures refused { IfErr result (ListRefusal document.now words.now) }
@@ -115,7 +115,7 @@ fn drawn(alloc: Global, setting: Setting, document: &[u8]) -> Result<String, Cal
     Ok(format!(in alloc; "{nodes}{edges}")?)
 }
 
-/// The line of the verdict on a certificate: what holds, behind `holds: `, as `krates_check` writes it. The certificate has to be of
+/// The line of the verdict on a certificate: what holds, after `holds: `, as `krates_check` writes it. The certificate has to be of
 /// this setting, and is judged against the document without a search.
 ///
 /// It is refused as `Words`, `Utf8`, `Parse` or `Certificate`, in this order, each only where that is true. It may instead return

@@ -1,4 +1,4 @@
-//! The lines of a graph: nodes and edges in the order of their numbers, and each text behind its length.
+//! The lines of a graph: nodes and edges in the order of their numbers, and each text after its length.
 
 ghost use Rattle.std.specs.Prelude.{◌≡◌, Some, option_map};
 ghost use Rattle.std.specs.List.{flat_map};
@@ -12,7 +12,7 @@ use krates::{DepKind, Edge, Node, NodeId};
 use krates_cli::Listed;
 use std::fmt;
 
-/// A text behind its length in bytes and a colon, so that it can be read whole, whatever it has: `3:a b`.
+/// A text after its length in bytes and a colon, so that it can be read whole, whatever it has: `3:a b`.
 #[derive(Clone, Copy)]
 struct Measured<'a>(&'a str);
 
@@ -24,7 +24,7 @@ impl fmt::Display for Measured<'_> {
     }
 }
 
-/// An entry of a mapping behind a blank: the number of a crate, or `-`.
+/// An entry of a mapping after a space: the number of a crate, or `-`.
 #[derive(Clone, Copy)]
 struct Entry(Option<NodeId>);
 
@@ -105,7 +105,7 @@ fn kind_name(kind: DepKind) -> &'static str
     }
 }
 
-/// The target that an edge is for, behind a blank, where it is for one.
+/// The target that an edge is for, after a space, where it is for one.
 #[derive(Clone, Copy)]
 struct ForTarget<'a>(&'a Option<String>);
 
@@ -120,7 +120,7 @@ impl fmt::Display for ForTarget<'_> {
     }
 }
 
-/// What an edge says, behind a blank: `dep` or `depfeature`, its kind and the target that it is for, or `feature`.
+/// What an edge says, after a space: `dep` or `depfeature`, its kind and the target that it is for, or `feature`.
 #[derive(Clone, Copy)]
 struct Says<'a>(&'a Edge);
 

@@ -1,4 +1,4 @@
-//! How an answer is handed over to whoever lends the room for it.
+//! How an answer is given to the caller, who lends the room for it.
 
 ghost use Rattle.std.specs.Prelude.{Err, IfErr, IfOk, length, string_bytes};
 ghost use Rattle.krates_foreign.specs.Handing.{Hands, IsHanded, TellsOf, TellsRefusal};
@@ -17,7 +17,7 @@ pub struct Answer {
     pub length: usize,
 }
 
-/// Writes the text to the front of the room, where there is room for all of it; otherwise nothing.
+/// Writes the text to the front of the room, if there is room for all of it; otherwise writes nothing.
 fn hand(status: Status, text: &[u8], room: &mut [u8]) -> Answer
     ensures { IsHanded status text.now result room.old room.new }
 {
@@ -31,7 +31,7 @@ fn hand(status: Status, text: &[u8], room: &mut [u8]) -> Answer
     Answer { status, length }
 }
 
-/// Hands an answer over: its text, or what is printed of the refusal, stands at the front of the room, and behind it the room is as
+/// Hands an answer over: its text, or what is printed for the refusal, is put at the front of the room, and after it the room is as
 /// it was. The answer has the status and the length of the text.
 ///
 /// Where the room is too short for the text, it is as it was, the status is that of `TooShort`, and the length is the room that the text
@@ -46,7 +46,7 @@ pub fn hand_over(alloc: Global, told: Result<String, CallRefusal>, room: &mut [u
     hand_result(alloc, &told, room)
 }
 
-/// The same of what is lent, so that it is let go in one place.
+/// The same for a borrowed result, so that it is dropped in one place.
 fn hand_result(alloc: Global, told: &Result<String, CallRefusal>, room: &mut [u8]) -> Answer
     ensures { Hands (TellsOf told.now) result room.old room.new }
 {

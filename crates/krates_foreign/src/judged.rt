@@ -1,4 +1,4 @@
-//! A certificate judged under the setting that options ask for.
+//! A certificate judged under the setting that options give.
 
 ghost use Rattle.std.specs.Prelude.{◌≡◌, IfErr, IfOk, string_bytes};
 ghost use Rattle.krates_cli.specs.Options.{options_view};

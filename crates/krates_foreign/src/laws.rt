@@ -7,8 +7,8 @@ ghost use Rattle.krates_foreign.specs.declared.refusal.CallRefusal.{CallRefusal}
 use krates_cli::laws as listings;
 use krates_ids::laws as ids;
 
-/// Where a document has an answer under the words, no refusal of the call is true but that memory ran out, or that there are more
-/// nodes or edges than can be numbered. So it is answered exactly where there is an answer, these aside.
+/// Where a document has an answer under the words, no refusal of the call is true except that memory ran out, or that there are more
+/// nodes or edges than can be numbered. So, apart from these cases, it is answered exactly where there is an answer.
 pub fn answered_or_refused()
     ensures listed { (bytes words lines : Text) (cause : CallRefusal)
         → Lists bytes words lines → ListRefusal bytes words cause → IsOutside cause }

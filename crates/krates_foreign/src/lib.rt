@@ -1,4 +1,4 @@
-//! What callers in other languages ask for: bytes come in, and a text or a refusal goes out, by a status and a length. `krates_c`
+//! The calls for other languages: bytes come in, and a text or a refusal goes out, by a status and a length. `krates_c`
 //! exports these calls.
 #![tactic(auto)]
 

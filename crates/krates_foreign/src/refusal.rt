@@ -15,13 +15,13 @@ use std::fmt;
 /// Why a call has no answer. Of several that are true the first counts, but memory may run out at each of them.
 #[derive(Debug, Drop)]
 pub enum CallRefusal {
-    /// The words are no UTF-8, or aren't options, or ask for more than a setting.
+    /// The words aren't UTF-8, or aren't options, or say more than a setting.
     Words,
     /// The id of the crate that is to be explained can't be read.
     Id,
-    /// The document is no UTF-8.
+    /// The document isn't UTF-8.
     Utf8,
-    /// The text is no document.
+    /// The text isn't a document.
     Parse(ParseError),
     /// The document has no graph of crates under the setting.
     Build(BuildError),

@@ -8,13 +8,13 @@ ghost use Rattle.krates_foreign.specs.Status.{number_of};
 pub enum Status {
     /// The answer was handed over.
     Answered,
-    /// The words aren't options, or ask for more than a setting.
+    /// The words aren't options, or say more than a setting.
     Words,
     /// The id of the crate that is to be explained can't be read.
     Id,
-    /// The document is no UTF-8.
+    /// The document isn't UTF-8.
     Utf8,
-    /// The text is no document.
+    /// The text isn't a document.
     Parse,
     /// The document has no graph of crates under the setting.
     Build,

@@ -76,7 +76,7 @@ numbers_at-below {E} edges node d =
         let lt : k < length edges = omega (arith, h, length-enumerate_from 0 edges) in
         rw (get_or-enumerate_from 0 edges k x lt) (omega arith)
 
--- the edges of the numbers that a filter leaves, where the remaining edges begin at number `n`
+-- the edges with the numbers that a filter leaves, where the remaining edges begin at number `n`
 numbered-filter : {E : Type 0} (all : List (GraphEdge E)) (test : ℕ × GraphEdge E → Bool) (n : ℕ) (rest : List (GraphEdge E))
     → ((k : ℕ) → slice_get all (n + k) ≡ slice_get rest k)
     → numbered all (map (λ (p : ℕ × GraphEdge E). p.0) (filter test (enumerate_from n rest))) ≡ filter test (enumerate_from n rest)

@@ -32,7 +32,7 @@ edges_at edges node direction = filter (is_at node direction) (enumerate_from 0 
 abbrev pub numbers_at : {E : Type 0} → List (GraphEdge E) → ℕ → Direction → List ℕ
 numbers_at edges node direction = map (λ pair. pair.0) (edges_at edges node direction)
 
--- the edges of these numbers, each with its number
+-- the edges with these numbers, each with its number
 abbrev pub numbered : {E : Type 0} → List (GraphEdge E) → List ℕ → List (ℕ × GraphEdge E)
 numbered edges numbers = filter_map (λ number. option_map (λ edge. (number, edge)) (slice_get edges number)) numbers
 

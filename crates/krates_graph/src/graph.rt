@@ -1,8 +1,8 @@
 //! A directed graph that only grows: nodes and edges are numbered in the order in which they were
 //! added. Two edges may join the same nodes, and an edge may join a node to itself.
 //!
-//! For each node the numbers of its outgoing and of its incoming edges are kept beside the edges, so
-//! walking them costs no search. No contract speaks of this: callers see two lists and two limits.
+//! For each node the numbers of its outgoing and incoming edges are kept in addition to the edges, so
+//! walking them takes no search. No contract mentions this: callers see two lists and two limits.
 ghost use Rattle.std.specs.Prelude.{◌≡◌, [], ◌∷◌, ◌++◌, ◌<◌, ◌≤◌, ◌↔◌, All, IfOk, IfErr, OnErr, Some, length, map, option_map, slice_get};
 ghost use Rattle.krates_graph.specs.Graph.{IsFull, edges_at, numbers_at, value_in, HasEnds};
 
@@ -23,7 +23,7 @@ use std::alloc::{AllocError, AllocFailed, Global};
 use std::marker::Model;
 use std::ops::Index;
 
-/// A graph of nodes `N` and directed edges `E`, with a limit to the number of each.
+/// A graph of nodes `N` and directed edges `E`, with a limit on the number of each.
 #[derive(Debug, Drop)]
 pub struct Graph<N, E> {
     nodes: Vec<N>,
@@ -209,7 +209,7 @@ impl<N, E> Graph<N, E> {
         self.edges.len()
     }
 
-    /// The edges of a node in one direction, by increasing number; none for no node. Time O(1), and O(1) for each
+    /// The edges of a node in one direction, by increasing number; none where there is no such node. Time O(1), and O(1) for each
     /// edge.
     ///
     /// ```text
@@ -226,7 +226,7 @@ impl<N, E> Graph<N, E> {
         }
     }
 
-    /// The numbers of a node's edges in one direction, in increasing order; none for no node. Time O(1).
+    /// The numbers of a node's edges in one direction, in increasing order; none where there is no such node. Time O(1).
     ///
     /// ```text
     /// let incoming = graph.edge_numbers(b, Direction::Incoming).len();
@@ -240,7 +240,7 @@ impl<N, E> Graph<N, E> {
         }
     }
 
-    /// The source and the target of an edge; `None` where there is no edge of that number. Time O(1).
+    /// The source and the target of an edge; `None` where there is no edge with that number. Time O(1).
     ///
     /// ```text
     /// if let Some((source, target)) = graph.edge_endpoints(edge) {
@@ -255,7 +255,7 @@ impl<N, E> Graph<N, E> {
     }
 }
 
-/// The node of that number, which has to exist.
+/// The node with that number, which has to exist.
 impl<N, E> Index<NodeId> for Graph<N, E> {
     type Output = N;
 

@@ -1,4 +1,4 @@
-//! The two small machines under a dependency graph: a stored graph that only grows, and an agenda
+//! The two small structures under a dependency graph: a stored graph that only grows, and an agenda
 //! that hands out each number once.
 #![tactic(auto)]
 

@@ -10,7 +10,7 @@ use std::fs;
 
 const WITHOUT_CARGO: &str = "; install Rust, or read a document by --metadata FILE";
 
-/// The document that is asked about: that of cargo, of a file, or of standard input. It is refused where none of these has one. Time: that
+/// The document that is asked about: that of cargo, of a file, or of standard input. It is refused where there is no document. Time: that
 /// of cargo, and O(n) in the length of the text.
 pub fn document(rt: &HostRuntime, asked: &Asked) -> Result<Metadata, Failure> {
     match &asked.input {
@@ -20,7 +20,7 @@ pub fn document(rt: &HostRuntime, asked: &Asked) -> Result<Metadata, Failure> {
     }
 }
 
-/// The document with which it is compared, where a word asks for that. It is refused as `document` is.
+/// The document with which it is compared, where the word is for a comparison. It is refused, and takes time, as `document` does.
 pub fn other(rt: &HostRuntime, word: &Word) -> Result<Option<Metadata>, Failure> {
     match word {
         Word::Diff { other } if other.as_str() == "-" => Ok(Some(in_input(rt)?)),
@@ -69,7 +69,7 @@ fn of_cargo(rt: &HostRuntime, words: &CargoWords) -> Result<Metadata, Failure> {
     }
 }
 
-/// Cargo is run in the folder of the manifest, so that has to be there.
+/// Refuses a manifest that can't be found, since cargo is run in its folder.
 fn check_manifest(rt: &HostRuntime, words: &CargoWords) -> Result<(), Failure> {
     let Some(path) = &words.manifest_path else {
         return Ok(());
@@ -80,7 +80,7 @@ fn check_manifest(rt: &HostRuntime, words: &CargoWords) -> Result<(), Failure> {
     }
 }
 
-/// Why this cargo gives no document.
+/// The failure for a cargo that gives no document, by its cause.
 fn without_document(alloc: Global, cargo: &str, cause: Error) -> Result<Failure, AllocError> {
     match cause {
         Error::Io(cause) => Ok(Failure::NotRun {

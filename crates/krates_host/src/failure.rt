@@ -21,12 +21,12 @@ pub enum Failure {
         /// The path of the file, or what printed it.
         file: String,
     },
-    /// A file is no document.
+    /// A file isn't a document.
     #[error("{file}: {cause}")]
     NoDocument {
         /// The path of the file, or what standard input is called.
         file: String,
-        /// Why it is none.
+        /// Why it isn't one.
         cause: Error,
     },
     /// Cargo ended with a failure, for this reason.
@@ -76,7 +76,8 @@ pub enum Failure {
 }
 
 impl Failure {
-    /// A file can't be read; `Memory` where that is the cause, or where there is none for the name of the file. Time O(length of the name).
+    /// The failure of a file that can't be read; `Memory` where that is the cause, or where there is none for the name of the file.
+    /// Time O(length of the name).
     pub fn unread(alloc: Global, file: &str, cause: io::Error) -> Failure {
         match String::from_str(alloc, file) {
             Ok(file) if cause.kind() != io::ErrorKind::OutOfMemory => {

@@ -21,7 +21,7 @@ pub fn words_of(rt: &HostRuntime) -> io::Result<Vec<String>> {
     Ok(words)
 }
 
-/// Says why the words can't be read, and answers the status.
+/// Says why the words can't be read, and returns the status.
 pub fn refuse_words(rt: &HostRuntime, cause: &io::Error) -> ExitCode {
     if cause.kind() == io::ErrorKind::InvalidData {
         said::error(rt, "a word isn't UTF-8");
@@ -31,7 +31,7 @@ pub fn refuse_words(rt: &HostRuntime, cause: &io::Error) -> ExitCode {
     ExitCode::from(NO)
 }
 
-/// Prints the help that was asked for, or says what is wrong with the words, and answers the status.
+/// Prints the help that was asked for, or says what is wrong with the words, and returns the status.
 pub fn refuse_asked(rt: &HostRuntime, error: &WordsError) -> ExitCode {
     match error {
         WordsError::Asked(text) => print(rt, text.as_str(), true),
@@ -46,7 +46,7 @@ pub fn refuse_asked(rt: &HostRuntime, error: &WordsError) -> ExitCode {
     }
 }
 
-/// Prints a text, and answers the status. Where nobody reads it any more, that is no error.
+/// Prints a text, and returns the status. If nobody reads it any more, that isn't an error.
 pub fn print(rt: &HostRuntime, text: &str, is_yes: bool) -> ExitCode {
     let mut output = rt.stdout();
     match output.write_all(text.as_bytes()) {

@@ -19,7 +19,7 @@ pub fn note(rt: &HostRuntime, text: impl Display + Drop) {
     say(rt, "note", YELLOW, text);
 }
 
-/// Says why the words are wrong, or which there are.
+/// Says why the words are wrong, or which words there are.
 pub fn wrong(rt: &HostRuntime, text: &str) {
     match text.strip_prefix("error: ") {
         Some(reason) => error(rt, reason.trim_end()),
@@ -29,7 +29,7 @@ pub fn wrong(rt: &HostRuntime, text: &str) {
     }
 }
 
-/// Says a word and a text. Where that fails there is nowhere to say so.
+/// Says a word and a text. If that fails there is nowhere to say so.
 fn say(rt: &HostRuntime, word: &str, colour: &str, text: impl Display + Drop) {
     let _ = if has_colours(rt) {
         eprintln!(rt; "\u{1b}[1;{colour}m{word}\u{1b}[0m: {text}")

@@ -18,7 +18,7 @@ pub(crate) fn in_file(rt: &HostRuntime, path: &str) -> Result<String, Failure> {
     }
 }
 
-/// The text in standard input. Where someone has to type it, that is said.
+/// The text in standard input. If someone has to type it, a note says so.
 pub(crate) fn in_input(rt: &HostRuntime) -> Result<String, Failure> {
     if rt.stdin().is_terminal() {
         said::note(rt, "reading a document from standard input");
@@ -31,7 +31,7 @@ pub(crate) fn in_input(rt: &HostRuntime) -> Result<String, Failure> {
     }
 }
 
-/// The text of these bytes, which are called so, without a byte order mark.
+/// The text of these bytes, without a byte order mark; a refusal has this name for them.
 pub(crate) fn text_of(alloc: Global, name: &str, bytes: Vec<u8>) -> Result<String, Failure> {
     match String::from_utf8(bytes) {
         Ok(text) => Ok(without_mark(alloc, text)?),

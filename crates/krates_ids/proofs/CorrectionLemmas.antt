@@ -48,7 +48,7 @@ Values = Vec (String Global)
 bytes_eq-sym : (s t : Text) → bytes_eq s t ≡ bytes_eq t s
 bytes_eq-sym s t = same_tests (bytes_eq s t) (bytes_eq t s) (λ e. true_from_eq t s (sym (eq_from_true s t e))) (λ e. true_from_eq s t (sym (eq_from_true t s e)))
 
--- a value that is inserted is found under its name; under any other name stands what stood before
+-- a value that is inserted is found under its name; under any other name is what was there before
 pub named-put : (m n : BTreeMap (String Global) Values) (key : String Global) (values : Values) → tree.Updates string_cmp m n key (Some values) → (name : Text)
     → named (features_view n) name ≡ cond (bytes_eq name (text_view key)) (Some (texts_view values)) (named (features_view m) name)
 named-put m n key values updates name =
@@ -70,7 +70,7 @@ absent_put None true x left h = refl
 absent_put (Some y) true x left h = absurd (let e = h refl in cc)
 absent_put there false x left h = refl
 
--- under equal names stands the same
+-- under equal names are the same values
 pub named_at : (m : BTreeMap (String Global) Values) (name key : Text) → bytes_eq name key ≡ true → named (features_view m) name ≡ named (features_view m) key
 named_at m name key e = ap (named (features_view m)) (eq_from_true name key e)
 
@@ -105,6 +105,6 @@ named-put-as m n key values k vs same seen updates name =
     named-put m n key values updates name ∙ ap (λ t. cond (bytes_eq name t) (Some (texts_view values)) (named (features_view m) name)) same
     ∙ ap (λ v. cond (bytes_eq name k) (Some v) (named (features_view m) name)) seen
 
--- nothing stands in an empty map
+-- an empty map has nothing
 pub empty_first : (m : BTreeMap (String Global) Values) (name : Text) (found : Option (List Text)) → m.entries ≡ [] → option_or (named (features_view m) name) found ≡ found
 empty_first m name found e = ap (λ es. option_or (named (entries_view es) name) found) e

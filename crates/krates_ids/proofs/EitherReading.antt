@@ -86,7 +86,7 @@ opaque_rest t x y v [] f g =
     inr (λ h. IsOpaqueForm-not_opened t x y v [] f g (λ rest is. absurd (cc)) h.0 h.1 h.2 h.3)
 opaque_rest t x y v (b ∷ body) f g = opaque_opened t x y v b body f g (cases_eq b opening)
 
--- a text with a blank is of the opaque form, or isn't
+-- a text with a space is of the opaque form, or isn't
 opaque_or : (t x y : Text) → FirstCut blank t x y → Decided (IsOpaque t)
 opaque_or t x y f =
     ⊎_elim (λ none. inr (λ h. IsOpaqueForm-one_blank t x y f none h.0 h.1 h.2 h.3)) (λ g. opaque_rest t x y g.0 g.1 f g.2) (FirstCut-or blank y)
@@ -121,7 +121,7 @@ fragment_or t x f whole cut (inr h) = inl (x, f, h.0, h.1, record { no_blank = w
 fragment_or t x f whole cut (inl none) =
     alone_or t x f whole cut none (FirstCut-or slash f) (FirstCut-or question_mark f) (name_or x)
 
--- a text without a blank is of the stable form, or isn't
+-- a text without a space is of the stable form, or isn't
 stable_or : (t : Text) → Lacks blank t → Decided (IsStable t)
 stable_or t whole =
     ⊎_elim (λ none. inr (λ s. IsStableForm-no_hash t none s.0 s.1 s.2 s.3 s.4)) (λ h. fragment_or t h.0 h.1 whole h.2 (FirstCut-or at_sign h.1)) (LastCut-or hash_sign t)

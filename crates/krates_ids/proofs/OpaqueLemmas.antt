@@ -27,7 +27,7 @@ pub IsBody-unclosed : (t body x tail : Text) → LastCut hash_sign t x tail → 
 IsBody-unclosed t body x tail cut unclosed source b =
     ⊎_elim (λ e. LastCut-lacks e.0 cut) (λ e. unclosed e.commit (LastCut-once cut e.cut).1) b.ends
 
--- the last '#' of the text stands before the body
+-- the last '#' of the text comes right before the body
 pub IsBody-hash_before : (t body x tail : Text) → LastCut hash_sign t x tail → Lacks hash_sign body → (source : Text) → IsBody t body source → ⊥
 IsBody-hash_before t body x tail cut none source b =
     ⊎_elim (λ e. LastCut-lacks e.0 cut) (λ e. Lacks-middle hash_sign source (e.commit ++ closing ∷ []) (rw (← e.is, ← b.is) none)) b.ends
@@ -43,7 +43,7 @@ IsBody-hash t body x tail front source m w cut close inner =
 
 -- ---- the whole form, from the cuts that find it
 
--- the name, the version and the rest are what the blanks separate
+-- the name, the version and the rest are what the spaces separate
 form_cuts : (t n v s x y v' z : Text) → FirstCut blank t x y → FirstCut blank y v' z → (o : IsOpaqueForm t n v s) → (x ≡ n) × (v' ≡ v) × (z ≡ opening ∷ (s ++ o.end))
 form_cuts t n v s x y v' z f g o =
     let a = FirstCut-once f (record { is = o.is; lacks = o.name_whole }) in
@@ -74,7 +74,7 @@ pub IsOpaqueForm-found : (t x y v z body s : Text) → FirstCut blank t x y → 
 IsOpaqueForm-found t x y v z body s f g is b =
     record { end = b.end; is = rw (f.is, g.is, is, b.is) refl; name_whole = f.lacks; version_whole = g.lacks; ends = b.ends }
 
--- ---- where the parts stand
+-- ---- where the parts are
 
 pub StandsAt-version : (t x y v z : Text) (i : ℕ) → IsUtf8 t → FirstCut blank t x y → FirstCut blank y v z → i ≡ length x + 1 → StandsAt t v i
 StandsAt-version t x y v z i text f g at =

@@ -45,7 +45,7 @@ abbrev pub HasValue : FeaturesModel → Text → Type 0
 HasValue [] t = ⊥
 HasValue (e ∷ es) t = Contains e.1 t ⊎ HasValue es t
 
--- what stands in the first entry, or after it
+-- what is in the first entry, or after it
 value_in_front : (b : Bool) (e : Text × List Text) (es : FeaturesModel) (found : Option (List Text)) (values : List Text) (t : Text) → cond b (Some e.1) found ≡ Some values → Contains values t
     → (found ≡ Some values → HasValue es t) → HasValue (e ∷ es) t
 value_in_front true e es found values t is among later = let same : e.1 ≡ values = cc in inl (subst (λ x. Contains x t) (sym same) among)
@@ -79,7 +79,7 @@ reference_added names value old new put before q c =
       | inr same ↦ put q ∙ rw (true_from_eq q value (sym same)) (ap (λ n. Some (dependency_reference n ∷ [])) same)
     ]
 
--- under any other name stands what stood before
+-- under any other name is what was there before
 pub reference_kept : (names : List Text) (value : Text) (old new first : Text → Option (List Text))
     → ((q : Text) → new q ≡ cond (bytes_eq q value) (Some (dependency_reference value ∷ [])) (old q))
     → ((q : Text) → (Contains names q → ⊥) → old q ≡ first q)

@@ -51,7 +51,7 @@ Marks-stands t piece start end text s end_is =
 pub AreSpans-marks : (t : Text) (parts : Parts) (n v s : Text) → MarksParts t parts n v s → AreSpans t parts
 AreSpans-marks t parts n v s marks = record { name = marks.name.placed; version = marks.version.placed; source = marks.source.placed }
 
--- ---- where pieces stand
+-- ---- where pieces are
 
 pub StandsAt-before : (c : ℕ) (t x y : Text) → c < 128 → IsUtf8 t → t ≡ x ++ c ∷ y → StandsAt t x 0
 StandsAt-before c t x y small text is =

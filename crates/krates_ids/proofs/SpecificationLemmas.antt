@@ -66,7 +66,7 @@ before_both c d (b ∷ x) y (b' ∷ x') y' none has none' e =
     let heads : b' ≡ b = cc in
     (rw heads none.0, before_both c d x y x' y' none.1 (λ rest. has (rw (← heads) none'.0, rest)) none'.1 (cc))
 
--- where an '@' stands before the first ':', the text is split at its first '@'
+-- where an '@' comes before the first ':', the text is split at its first '@'
 pub Splits-at : (t x y : Text) (r : Option (Bor Text × Bor Text)) → FirstCut colon t x y → Has at_sign x → CutsFirst at_sign t r → Splits t r
 Splits-at t x y None cut has none = absurd (has (Lacks-before at_sign colon x y (rw cut.is at none)))
 Splits-at t x y (Some p) cut has at_cut = record {
@@ -132,7 +132,7 @@ IsUrlOf-tells s found url b is h = (
 pub IsUrlOf-none : (s url : Text) → ((found : Text) → IsUrlOf s found → ⊥) → (IsTrue false) ↔ IsUrlOf s url
 IsUrlOf-none s url none = (λ wrong. absurd (false≢true wrong), λ h. absurd (none url h))
 
--- where the first '+' stands after the end, there is no url
+-- where the first '+' comes after the end, there is no url
 pub IsUrlOf-late : (s f : Text) → IsBeforeQuery s f → Lacks plus_sign f → Has plus_sign s → (url : Text) → IsUrlOf s url → ⊥
 IsUrlOf-late s f b none has url h =
     no_url s f url none has (rw (IsBeforeQuery-once s h.front f h.before_query b) at h.is)

@@ -72,7 +72,7 @@ pass_apart (c ∷ cs) ds h =
 
 -- ---- what a specification that was read has
 
--- the version is one that a text names; where there is none, the name can be told from a version
+-- the version is one that a text names; where there is none, the name can be distinguished from a version
 abbrev IsTold : Option Text → Text → Option VersionModel → Type 0
 IsTold piece name (Some v) = IsValid v
 IsTold None name None = Unit {0}

@@ -63,7 +63,7 @@ IsSource-not_git left other = as_written (λ front query q. false≢true (sym ot
 pub IsSource-no_query : (left : Text) → Lacks question_mark left → IsSource left left
 IsSource-no_query left none = as_written (λ front query q. LastCut-lacks none q.cut) refl
 
--- the last '?' stands before the last piece
+-- the last '?' comes before the last piece
 pub IsSource-slash : (left front query : Text) → LastCut question_mark left front query → Has slash query → IsSource left left
 IsSource-slash left front query cut has =
     as_written (λ front' query' q. has (rw (LastCut-once cut q.cut).1 q.in_last_piece)) refl
@@ -72,9 +72,9 @@ pub IsSource-no_percent : (left front query : Text) → IsGitQuery left front qu
 IsSource-no_percent left front query q none =
     decoded front query q (AreEscapes-lacks query none) (q.cut.is ∙ ap (λ z. front ++ question_mark ∷ z) (sym (percent_decode-lacks query none)))
 
--- ---- where the name stands in the source
+-- ---- where the name is in the source
 
--- a text is cut at `a`, and at `c` with no `a` behind that: the second cut is in what follows the first
+-- a text is cut at `a`, and at `c` with no `a` after that: the second cut is in what follows the first
 cut_inside : (a c : ℕ) → a ≢ c → (b p front q : Text) → Lacks a q → b ++ a ∷ p ≡ front ++ c ∷ q → (m : Text) × (p ≡ m ++ c ∷ q) × (front ≡ b ++ a ∷ m)
 cut_inside a c apart [] p [] q none e = absurd (apart (cc))
 cut_inside a c apart [] p (d ∷ front) q none e = (front, cc, cc)
@@ -85,7 +85,7 @@ cut_inside a c apart (d ∷ b) p (d' ∷ front) q none e =
     let inner = cut_inside a c apart b p front q none (cc) in
     (inner.0, inner.1, cc (inner.2))
 
--- the name of a git source stands right before its query
+-- the name of a git source comes right before its query
 name_before_query : (left name front query : Text) (h : NameInLeft left name) → IsGitQuery left front query → front ≡ h.before ++ slash ∷ name
 name_before_query left name front query h q =
     let of_git : IsNameOfPiece true h.piece name = rw q.git at h.name_is in

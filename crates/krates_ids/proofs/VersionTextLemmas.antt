@@ -1,4 +1,4 @@
--- The text of a version that was read: it reads as the version, and can be told from a name and from what follows one.
+-- The text of a version that was read: it reads as the version, and can be distinguished from a name and from what follows one.
 use Rattle.std.proofs.Common.{◌≡◌, ℕ, suc, ◌+◌, ◌<◌, ◌^◌, ◌%◌, List, [], ◌∷◌, ◌++◌, Bool, true, false, length, refl, sym, ap, ◌∙◌, arith, append_assoc}
 use Rattle.std.specs.Prelude.{◌==◌, ◌||◌, ◌&&◌, not, nat_lt, Some, Ok, Err, Result}
 use Rattle.std.specs.Fmt.{decimal}

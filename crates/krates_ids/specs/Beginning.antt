@@ -2,7 +2,7 @@
 use Rattle.std.specs.Prelude.{◌≡◌, ℕ, zero, suc, ◌+◌, ◌*◌, ◌<◌, get_or}
 use Rattle.krates_cm.specs.Document.{Text}
 
--- the first so many bytes, the first of them the most significant; behind the end of the text stand zeros
+-- the first bytes, as many as the number says, the first of them the most significant; past the end of the text they are zeros
 abbrev pub beginning : ℕ → Text → ℕ
 beginning zero t = 0
 beginning (suc n) t = beginning n t * 256 + get_or t n 0

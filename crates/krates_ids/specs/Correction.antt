@@ -1,4 +1,4 @@
--- The features of a package, corrected by what the index of crates.io knows of it: an index may have features that the
+-- The features of a package, corrected by what the index of crates.io knows about it: an index may have features that the
 -- manifest lacks, and an optional dependency is a feature of its name.
 use Rattle.std.specs.Prelude.{◌≡◌, ◌≢◌, ℕ, ◌<◌, List, [], ◌∷◌, ◌++◌, Option, Some, None, codes, slice_get, map, option_map}
 use Rattle.std.specs.Option.{option_or}
@@ -38,11 +38,11 @@ index_view a = map (λ e. (text_view e.0, option_map index_krate_view e.1)) a.kr
 
 -- ---- which package is touched
 
--- what stands under a name
+-- the value under a name
 abbrev pub named : {A : Type 0} → List (Text × A) → Text → Option A
 named entries name = lookup (bytes_eq name) entries
 
--- at this place stands the first of the versions that equals this one in all five parts, with these features
+-- at this place is the first of the versions that equals this one in all five parts, with these features
 pub record IsFirstEqual (versions : List IndexVersionModel) (version : VersionModel) (place : ℕ) (features : FeaturesModel) : Type 0 where
   pub here : slice_get versions place ≡ Some (record { version = version; features = features })
   pub first : (k : ℕ) (v : IndexVersionModel) → k < place → slice_get versions k ≡ Some v → v.version ≢ version
@@ -77,7 +77,7 @@ abbrev pub dependency_reference : Text → Text
 dependency_reference name = codes "dep:" ++ name
 
 -- The corrected features: those of the manifest keep their values, and those that only the index has are added; then a simple
--- reference to a name that is no feature so far makes it one, which enables the dependency of that name; there are no others.
+-- reference to a name that isn't a feature so far makes it one, which enables the dependency of that name; there are no others.
 pub record IsCorrection (manifest index corrected : FeaturesModel) : Type 0 where
   pub has_joined : (name : Text) (values : List Text) → joined manifest index name ≡ Some values → named corrected name ≡ Some values
   pub referred : (name : Text) → joined manifest index name ≡ None → Refers (joined manifest index) name

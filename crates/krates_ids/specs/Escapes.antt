@@ -4,7 +4,7 @@ use Rattle.std.specs.Char.{digit_value, IsAsciiPunctuation}
 use Rattle.krates_cm.specs.Document.{Text}
 use Rattle.krates_ids.specs.Separators.{blank, percent_sign}
 
--- the bytes that an escape may stand for: the blank and ASCII punctuation, which are 20 to 2F, 3A to 40, 5B to 60 and
+-- the bytes that an escape may encode: the space and ASCII punctuation, which are 20 to 2F, 3A to 40, 5B to 60 and
 -- 7B to 7E in hexadecimal
 abbrev pub IsEscapable : ℕ → Type 0
 IsEscapable b = (b ≡ blank) ⊎ IsAsciiPunctuation b
@@ -15,7 +15,7 @@ pub record IsEscape (high low : ℕ) : Type 0 where
   pub low_digit : digit_value low < 16
   pub byte : IsEscapable (16 * digit_value high + digit_value low)
 
--- where a '%' stands at k, it begins an escape
+-- if there is a '%' at k, it begins an escape
 abbrev pub IsEscapedAt : Text → ℕ → Type 0
 IsEscapedAt q k = slice_index q k ≡ percent_sign → (k + 2 < length q) × IsEscape (slice_index q (k + 1)) (slice_index q (k + 2))
 

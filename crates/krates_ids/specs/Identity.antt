@@ -17,10 +17,10 @@ pub record Identity : Type 0 where
   pub name : Text
   pub version : Text
   pub source : Text
-  -- whether the text as it was written has a blank
+  -- whether the text as it was written has a space
   pub is_opaque : Bool
 
--- the id of nothing: an empty text with three empty parts
+-- the empty id: an empty text with three empty parts
 abbrev pub empty_identity : Identity
 empty_identity = record { text = []; name = []; version = []; source = []; is_opaque = false }
 
@@ -37,7 +37,7 @@ pub record EndsFromHash (t end : Text) : Type 0 where
 abbrev pub IsOpaqueEnd : Text → Text → Type 0
 IsOpaqueEnd t end = (Lacks hash_sign t × (end ≡ closing ∷ [])) ⊎ EndsFromHash t end
 
--- a text with blanks: name and version end at the first two of them, and the source ends where the end begins
+-- a text with spaces: name and version end at the first two of them, and the source ends where the end begins
 pub record IsOpaqueForm (t name version source : Text) : Type 0 where
   pub end : Text
   pub is : t ≡ name ++ blank ∷ (version ++ blank ∷ opening ∷ (source ++ end))
@@ -55,19 +55,19 @@ git = codes "git+"
 abbrev pub is_git : Text → Bool
 is_git left = starts_with ◌==◌ left git
 
--- the name in the last piece of a left part: the piece, and for git what stands before its last '?', where it has one
+-- the name in the last piece of a left part: the piece, and for git the part before its last '?', where it has one
 abbrev pub IsNameOfPiece : Bool → Text → Text → Type 0
 IsNameOfPiece false piece name = name ≡ piece
 IsNameOfPiece true piece name = (Lacks question_mark piece × (name ≡ piece)) ⊎ ((query : Text) × LastCut question_mark piece name query)
 
--- the name stands in the left part, after its last '/'
+-- the name is in the left part, after its last '/'
 pub record NameInLeft (left name : Text) : Type 0 where
   pub before : Text
   pub piece : Text
   pub cut : LastCut slash left before piece
   pub name_is : IsNameOfPiece (is_git left) piece name
 
--- a fragment that is the version alone, beside a left part that has the name
+-- a fragment that is the version alone, with a left part that has the name
 pub record IsVersionAlone (left fragment name version : Text) : Type 0 where
   pub version_is : version ≡ fragment
   pub no_at : Lacks at_sign fragment
@@ -75,7 +75,7 @@ pub record IsVersionAlone (left fragment name version : Text) : Type 0 where
   pub no_query : Lacks question_mark fragment
   pub name_in_left : NameInLeft left name
 
--- a text without a blank, cut at its last '#': the fragment is NAME "@" VERSION, or the version alone
+-- a text without a space, cut at its last '#': the fragment is NAME "@" VERSION, or the version alone
 pub record IsStableForm (t left fragment name version : Text) : Type 0 where
   pub no_blank : Lacks blank t
   pub cut : LastCut hash_sign t left fragment
@@ -87,7 +87,7 @@ pub record IsGitQuery (left front query : Text) : Type 0 where
   pub cut : LastCut question_mark left front query
   pub in_last_piece : Lacks slash query
 
--- the source that a left part gives: the left part as it is written, but for git with its query decoded, in one pass
+-- the source that a left part gives: the left part as it is written, except that for git its query is decoded, in one pass
 pub data IsSource (left source : Text) : Type 0 where
   as_written : ((front query : Text) → IsGitQuery left front query → ⊥) → source ≡ left → IsSource left source
   decoded : (front query : Text) → IsGitQuery left front query → AreEscapes query → source ≡ front ++ question_mark ∷ percent_decode query → IsSource left source
@@ -136,8 +136,8 @@ pub data Fault : Type 0 where
   no_stable_form : Fault
   bad_escape : Fault
 
--- the fault is true of the text: it has a blank and is not of the opaque form; it has none and is not of the stable form;
--- or it is of the stable form, and a '%' in the query of its git source begins no escape
+-- the fault is true of the text: it has a space and is not of the opaque form; it has none and is not of the stable form;
+-- or it is of the stable form, and a '%' in the query of its git source doesn't begin an escape
 abbrev pub IsFault : Text → Fault → Type 0
 IsFault t no_opaque_form = Has blank t × ((name version source : Text) → IsOpaqueForm t name version source → ⊥)
 IsFault t no_stable_form = Lacks blank t × ((left fragment name version : Text) → IsStableForm t left fragment name version → ⊥)

@@ -1,4 +1,4 @@
--- A text of the opaque form, taken apart.
+-- A text of the opaque form, split into its parts.
 use Rattle.std.specs.Prelude.{◌≡◌, ◌++◌, Option, MatchOption}
 use Rattle.std.specs.Borrow.{Bor}
 use Rattle.krates_cm.specs.Document.{Text}

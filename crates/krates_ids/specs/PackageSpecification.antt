@@ -73,12 +73,12 @@ begins_with_letter (b ∷ rest) = is_ascii_alphabetic b
 abbrev pub Checks : Type 0
 Checks = List (Bool × Text)
 
--- the refusal of the first test that is true, or the value
+-- the refusal of the first test that is true, or else the value
 abbrev pub checked : {A : Type 0} → Checks → A → Result A Text
 checked [] a = Ok a
 checked ((wrong, refusal) ∷ more) a = if wrong then Err refusal else checked more a
 
--- a text has a value with these checks, and this is what they leave of it
+-- this is the value that a text has, or the refusal of the first of these checks that is true
 pub record GivesChecked {A : Type 0} (IsRead : Checks → A → Type 0) (r : Result A Text) : Type 0 where
   pub checks : Checks
   pub value : A
@@ -106,7 +106,7 @@ pub record IsUnsplit (t : Text) : Type 0 where
   pub no_colon : Lacks colon t
   pub no_at : Lacks at_sign t
 
--- a name and a version on both sides of a separator: something has to follow it, and the name is checked first
+-- a name and a version on both sides of a separator: something must follow it, and the name is checked first
 abbrev pub sides_checks : Text → Text → Checks
 sides_checks name version = (length version == 0, ends_with_separator) ∷ name_check name ∷ version_check version ∷ []
 
@@ -129,13 +129,13 @@ scheme_end = codes "://"
 abbrev pub HasScheme : Text → Type 0
 HasScheme t = HasSubslice t scheme_end
 
--- the last piece of a url, after its last '/'; a '/' that ends the last "://" ends no path
+-- the last piece of a url, after its last '/'; a '/' that ends the last "://" doesn't end a path
 pub data IsUrl (url : Text) : Checks → Text → Type 0 where
   with_scheme : (before piece : Text) → HasScheme url → LastCut slash url before piece
       → IsUrl url ((ends_with ◌==◌ url (codes "/"), ends_with_slash) ∷ (ends_with ◌==◌ before (codes ":/"), missing_path) ∷ []) piece
   without_scheme : (HasScheme url → ⊥) → IsUrl url ((ends_with ◌==◌ url (codes "/"), ends_with_slash) ∷ (true, missing_scheme) ∷ []) []
 
--- A text with a url is cut at its first '#': something has to follow it, and then the url is checked first. Without a fragment the
+-- A text with a url is cut at its first '#': something must follow it, and then the url is checked first. Without a fragment the
 -- last piece of the url is the name.
 pub data IsLocated (t : Text) : Checks → Specification → Type 0 where
   url_alone : (checks : Checks) (piece : Text) → Lacks hash_sign t → IsUrl t checks piece
@@ -168,13 +168,13 @@ IsSpecFault t refusal = Gives t (Err refusal)
 
 -- ---- which packages a specification fits
 
--- what stands before the query of a source, or else before its fragment
+-- the part before the query of a source, or else before its fragment
 abbrev pub IsBeforeQuery : Text → Text → Type 0
 IsBeforeQuery source front = ((query : Text) × FirstCut question_mark source front query)
     ⊎ (Lacks question_mark source × (((fragment : Text) × FirstCut hash_sign source front fragment) ⊎ (Lacks hash_sign source × (front ≡ source))))
 
 -- the url of a source: from after the source's first '+', or from its start where it has none, to the query or the fragment.
--- There is none where that end stands before the first '+'
+-- There is none where that end comes before the first '+'
 pub record IsUrlOf (source url : Text) : Type 0 where
   pub front : Text
   pub before_query : IsBeforeQuery source front

@@ -1,4 +1,4 @@
--- Where the pieces of a text stand, and the parts of an id by their spans.
+-- Where the pieces of a text are, and the parts of an id by their spans.
 use Rattle.std.specs.Prelude.{◌≡◌, ℕ, Bool, ◌-◌, ◌≤◌, ◌++◌, length, take, drop}
 use Rattle.std.specs.Str.{IsUtf8, IsCharBoundary}
 use Rattle.krates_cm.specs.Document.{Text}
@@ -6,7 +6,7 @@ use Rattle.krates_ids.specs.Identity.{Identity}
 use Rattle.krates_ids.specs.declared.span.Span.{Span}
 use Rattle.krates_ids.specs.declared.span.Parts.{Parts}
 
--- the piece stands in the text from this place on, and a character begins behind it, if anything does
+-- the piece is in the text from this place on, and a character begins after it, if anything does
 pub record StandsAt (t piece : Text) (start : ℕ) : Type 0 where
   pub before : Text
   pub after : Text

@@ -1,9 +1,9 @@
-//! How a text begins, as one number, by which most texts are ordered at once.
+//! How a text begins, as one number, by which most texts can be ordered in one comparison.
 
 ghost use Rattle.std.specs.Prelude.{◌≡◌, get_or};
 ghost use Rattle.krates_ids.specs.Beginning.{IsBeginning};
 
-/// The first eight bytes of a text as one number, the first of them the most significant. A shorter text is filled up with zeros.
+/// The first eight bytes of a text as one number, the first of them the most significant. A shorter text is padded with zeros.
 pub(crate) fn beginning_of(text: &[u8]) -> u64
     ensures { IsBeginning text.now result }
 {
@@ -19,7 +19,7 @@ pub(crate) fn beginning_of(text: &[u8]) -> u64
     ])
 }
 
-/// The byte at a place, and zero behind the end.
+/// The byte at a place, and zero after the end.
 fn byte_or_zero(text: &[u8], place: usize) -> u8
     ensures { result ≡ get_or text.now place 0 }
 {

@@ -1,4 +1,4 @@
-//! The corrected features of a package, made apart from it.
+//! The corrected features of a package, made separately from it.
 
 ghost use Rattle.std.specs.Prelude.{◌≡◌, ◌↔◌, ◌⊎◌, [], ◌∷◌, IsTrue, IfOk, OnOk, Some, None, map};
 ghost use Rattle.std.specs.Option.{option_or};

@@ -57,7 +57,7 @@ impl CachingIndex {
     }
 }
 
-/// The features that the index has of a package of crates.io, where it has its version.
+/// The features that the index has for a package of crates.io, if it has its version.
 fn indexed_features<'a>(answer: &'a IndexAnswer, pkg: &Package) -> Option<&'a FeaturesMap>
     ensures { let index = index_view answer.now in let model = package_view pkg.now in
         MatchOption result ((features : FeaturesModel) → IsIndexed index model features → ⊥)

@@ -3,7 +3,7 @@
 ghost use Rattle.std.specs.Prelude.{◌<◌};
 ghost use Rattle.krates_text.specs.Cuts.{CutsFirst, CutsLast, FollowsFront, ComesBeforeEnd, TellsHas};
 
-/// What stands before and after the first such character.
+/// The parts before and after the first such character.
 pub(crate) fn cut_first(text: &str, c: char) -> Option<(&str, &str)>
     requires { c < 128 }
     ensures { CutsFirst c text.now result }
@@ -11,7 +11,7 @@ pub(crate) fn cut_first(text: &str, c: char) -> Option<(&str, &str)>
     text.split_once(c)
 }
 
-/// What stands before and after the last such character.
+/// The parts before and after the last such character.
 pub(crate) fn cut_last(text: &str, c: char) -> Option<(&str, &str)>
     requires { c < 128 }
     ensures { CutsLast c text.now result }

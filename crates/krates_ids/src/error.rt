@@ -8,8 +8,8 @@ use crate::kid::Kid;
 use std::alloc::{AllocError, AllocFailed};
 use std::fmt;
 
-/// Why a build has no graph. The first class of refusals that is true of a document counts: no graph, then ids that
-/// aren't read or stand twice, then what is lost, then no root.
+/// Why a build has no graph. The first kind of refusal that applies to a document counts: no graph, then ids that
+/// can't be read or occur twice, then what is lost, then no root.
 #[derive(Debug, Drop)]
 pub enum Error {
     /// The document has no resolved graph.
@@ -20,11 +20,11 @@ pub enum Error {
     InvalidPkgSpec(&'static str),
     /// No root is left to start from.
     NoRootKrates,
-    /// A text of the document has to be an id and isn't read, or is the id of a dependency without a semantic version.
+    /// A text of the document must be an id and isn't one, or is the id of a dependency without a semantic version.
     InvalidId(String),
     /// Two packages, two nodes or two dependencies of one node have this id.
     Doubled(Kid),
-    /// The document lacks what its graph asks for.
+    /// The document lacks what its graph refers to.
     Lost(Lost),
     /// The graph has more nodes or edges than can be numbered.
     TooMany,
@@ -39,7 +39,7 @@ pub enum Lost {
     Package(Kid),
     /// A root or a dependency that is needed has a package and no node.
     Node(Kid),
-    /// A feature is asked for that the crate's node doesn't list.
+    /// A feature is required that the crate's node doesn't list.
     Feature {
         /// The crate that lacks it.
         krate: Kid,

@@ -8,7 +8,7 @@ ghost use Rattle.krates_ids.specs.Separators.{hash_sign, question_mark};
 use percent_encoding::{DecodeError, percent_decode};
 use std::alloc::{AllocError, Global};
 
-/// Whether an escape may stand for the byte: the blank or ASCII punctuation.
+/// Whether an escape may encode the byte: the space or ASCII punctuation.
 fn is_escapable(byte: u8) -> bool
     ensures { Tells (IsEscapable byte) result }
 {
@@ -28,7 +28,7 @@ fn is_escape(high: u8, low: u8) -> bool
     is_escapable((16 * high + low) as u8)
 }
 
-/// Whether the byte at `i` is no `%`, or begins an escape.
+/// Whether the byte at `i` isn't a `%`, or begins an escape.
 fn is_escaped_at(bytes: &[u8], i: usize) -> bool
     requires { i < length bytes.now }
     ensures { Tells (IsEscapedAt bytes.now i) result }

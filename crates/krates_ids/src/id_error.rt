@@ -3,13 +3,13 @@
 use krates_cm::PackageId;
 use thiserror::Error;
 
-/// Why a package id is not read; each hands the id back unchanged.
+/// Why a package id is not read; each error returns the id unchanged.
 #[derive(Debug, Drop, Error)]
 pub enum IdError {
-    /// The text has a blank, and is not of the opaque form.
+    /// The text has a space, and is not of the opaque form.
     #[error("bad opaque id: {}", .0.repr)]
     Opaque(PackageId),
-    /// The text has no blank, and is not of the stable form.
+    /// The text has no space, and is not of the stable form.
     #[error("bad stable id: {}", .0.repr)]
     Stable(PackageId),
     /// A `%` in the query of a git source does not begin an escape of a byte that may be escaped.

@@ -1,7 +1,7 @@
 //! What the index of crates.io knows of packages.
 //!
-//! The manifest of a published package may lack features that the index has, and the features that its optional
-//! dependencies are. Source: the Cargo Book, "Features", and "Registry Index".
+//! The manifest of a published package may lack features that the index has, including those that its optional
+//! dependencies imply. Source: the Cargo Book, "Features", and "Registry Index".
 
 ghost use Rattle.std.specs.Prelude.{◌≡◌};
 ghost use Rattle.krates_ids.specs.Correction.{index_krate_view, index_version_view};
@@ -52,7 +52,7 @@ impl Clone for IndexKrate {
     }
 }
 
-/// The names of the packages that an index is asked for.
+/// The names of the packages that an index is asked about.
 #[derive(Drop)]
 pub struct PackageNames {
     /// The names.
@@ -66,5 +66,5 @@ pub struct IndexAnswer {
     pub krates: BTreeMap<String, Option<IndexKrate>>,
 }
 
-/// What looks the names of packages up in an index, once.
+/// A function that looks the names of packages up in an index, and can be called once.
 pub type BuildIndexCache = Box<dyn FnOnce(PackageNames) -> IndexAnswer>;

@@ -30,13 +30,13 @@ use std::marker::Model;
 /// A package's unique id: the text that cargo gives it, and the name, version and source in it (Cargo Book, "Package ID
 /// Specifications").
 ///
-/// Two ids are equal where these three parts are, whatever else their texts have, as the commit of an opaque id. They are
+/// Two ids are equal where these three parts are, whatever else their texts contain, such as the commit of an opaque id. They are
 /// ordered by name, then version, then source, each compared by its bytes.
 #[derive(Debug, Drop)]
 pub struct Kid {
     repr: String,
     parts: Parts,
-    /// How the name begins, as a number: by it alone most ids are ordered.
+    /// How the name begins, as a number: most ids can be ordered by it alone.
     beginning: u64,
     is_opaque: bool,
 }
@@ -62,11 +62,11 @@ impl TryFrom<PackageId> for Kid {
 
     /// Reads the text of a package id.
     ///
-    /// A text with a blank has to be of the opaque form, `NAME VERSION (SOURCE)`; any other has to be of the stable form,
+    /// A text with a space must be of the opaque form, `NAME VERSION (SOURCE)`; any other must be of the stable form,
     /// `SOURCE#NAME@VERSION`, or `SOURCE#VERSION` where the name is the last piece of the source. The query of a git source
-    /// is decoded (RFC 3986, section 2.1), which alone takes memory, and only where it has an escape.
+    /// is decoded (RFC 3986, section 2.1), which is the only step that takes memory, and only where it has an escape.
     ///
-    /// A refusal hands the id back unchanged. Time O(length).
+    /// A refusal returns the id unchanged. Time O(length).
     fn try_from(id: PackageId) -> Result<Kid, IdError> {
         if !has(id.repr.as_str(), ' ') {
             return read_stable(id);
@@ -78,7 +78,7 @@ impl TryFrom<PackageId> for Kid {
     }
 }
 
-/// Reads an id whose text has no blank.
+/// Reads an id whose text has no space.
 fn read_stable(id: PackageId) -> Result<Kid, IdError>
     requires { Lacks blank (id_view id) }
     ensures { Converts id result }
@@ -100,7 +100,7 @@ fn read_stable(id: PackageId) -> Result<Kid, IdError>
     Ok(kid_of(repr, parts, false))
 }
 
-/// The id of a text in which its parts stand so.
+/// The id of a text whose parts are at these places.
 fn kid_of(repr: String, parts: Parts, is_opaque: bool) -> Kid
     requires { AreSpans (string_bytes repr) parts }
     ensures { result ≡ identity_of (string_bytes repr) parts is_opaque }
@@ -115,7 +115,7 @@ fn kid_of(repr: String, parts: Parts, is_opaque: bool) -> Kid
 }
 
 impl Kid {
-    /// The id of nothing: an empty text with three empty parts. Time O(1).
+    /// The empty id: an empty text with three empty parts. Time O(1).
     pub fn empty(alloc: Global) -> Kid
         ensures { result ≡ empty_identity }
     {
@@ -165,7 +165,7 @@ impl Kid {
         part(self.repr(), self.parts.source)
     }
 
-    /// Whether the id was of the opaque form, so whether its text as it was written has a blank. Time O(1).
+    /// Whether the id was of the opaque form, that is, whether its text as it was written has a space. Time O(1).
     pub fn is_opaque(&self) -> bool
         ensures { result ≡ self.now.is_opaque }
     {
@@ -223,7 +223,7 @@ impl Ord for Kid {
     }
 }
 
-/// How the names of two ids compare by their bytes: mostly as their beginnings do.
+/// How the names of two ids compare by their bytes: usually as their beginnings do.
 fn order_of_names(one: &Kid, other: &Kid) -> Ordering
     ensures { result ≡ slice_cmp nat_cmp one.now.name other.now.name }
 {

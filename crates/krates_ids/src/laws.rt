@@ -11,7 +11,7 @@ ghost use Rattle.krates_ids.specs.PackageSpecification.{Specification, IsSpec, I
 ghost use Rattle.krates_ids.specs.SpecificationText.{spec_text};
 
 /// Each text is an id or has a fault, never both; it is at most one id, and has at most one fault. A text that has an escape to
-/// be decoded is an id, so that running out of memory never stands in place of a fault.
+/// be decoded is an id, so running out of memory never replaces a fault.
 pub fn one_reading()
     ensures either { (t : Text) → ((id : Identity) × Reads t id) ⊎ ((fault : Fault) × IsFault t fault) }
     ensures once { (t : Text) (a b : Identity) → Reads t a → Reads t b → a ≡ b }
@@ -44,8 +44,8 @@ pub fn one_specification()
         → IsSpecFault t refusal → IsSpecFault t other → refusal ≡ other }
 {}
 
-/// A package specification that was read is printed as a text that reads as exactly it, whatever the text was; two
-/// that differ are printed otherwise. So `PkgSpec::from_str` of the printed text returns an equal one, unless memory
+/// A package specification that was read is printed as a text that reads as exactly that specification, whatever the text was; two
+/// that differ are printed differently. So `PkgSpec::from_str` of the printed text returns an equal one, unless memory
 /// runs out.
 pub fn printed_specification()
     ensures again { (t : Text) (a : Specification)
@@ -62,8 +62,8 @@ pub fn correcting_twice()
         → (name : Text) → named again.features name ≡ named once.features name }
 {}
 
-/// A package has one correction by an answer, but for the order in which features are listed: two have the same values under each
-/// name, and are equal in all else.
+/// A package has one correction by an answer, except for the order in which features are listed: two have the same values under each
+/// name, and are equal in everything else.
 pub fn one_correction()
     ensures { (index : IndexModel) (before a b : PackageModel)
         → IsCorrected index before a → IsCorrected index before b

@@ -1,4 +1,4 @@
-//! Package ids: the text that cargo gives a package, taken apart into name, version and source.
+//! Package ids: the text that cargo gives a package, split into name, version and source.
 #![tactic(auto)]
 
 mod beginning;

@@ -23,7 +23,7 @@ fn source_in<'a>(text: &str, body: &'a str) -> Option<&'a str>
     Some(source)
 }
 
-/// Where the parts of a text of the opaque form stand; none where it is not of that form.
+/// The spans of the parts of a text of the opaque form; `None` where it is not of that form.
 pub(crate) fn opaque_parts(text: &str) -> Option<Parts>
     ensures { GivesOpaqueParts text.now result }
 {

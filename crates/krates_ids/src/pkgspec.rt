@@ -16,7 +16,7 @@ use krates_cm::{Package, Source};
 use semver::Version;
 use std::alloc::{AllocError, Global};
 
-/// Which packages are meant: those of a name, and perhaps of a version and from a url.
+/// Which packages are meant: those with a name, and perhaps with a version and from a url.
 #[derive(Debug, Drop)]
 pub struct PkgSpec {
     /// The name of the packages.
@@ -47,9 +47,9 @@ impl PkgSpec {
     /// `cargo://` where the text has none, and after it one of these or the version alone; the last piece of the url is the
     /// name where no other is given. A name has ASCII letters, digits, `-` and `_`, and may be empty.
     ///
-    /// `Error::InvalidPkgSpec` says the first that is wrong: a `#` that ends the text; a url that ends with `/`, has no `://`
+    /// `Error::InvalidPkgSpec` says the first thing that is wrong: a `#` that ends the text; a url that ends with `/`, has no `://`
     /// or no path after it; a `:` or `@` that ends the text; the name and the version, of which the name comes first where a
-    /// `:` or `@` stands between them. Out of memory is `Error::Memory`. Time O(length).
+    /// `:` or `@` is between them. Out of memory is `Error::Memory`. Time O(length).
     ///
     /// ```text
     /// let spec = PkgSpec::from_str(alloc, "openssl@0.10.64")?;
@@ -68,7 +68,7 @@ impl PkgSpec {
     /// Whether the package is meant: its name is equal, its version is equal in all five parts where one is given, and the url
     /// of its source is equal where it has a source and a url is given.
     ///
-    /// The url of a source is what follows its first `+`, or all of it, up to its first `?`, or else its first `#`. It takes no
+    /// The url of a source is what follows its first `+`, or all of it, up to its first `?`, or else its first `#`. Matching takes no
     /// memory, and time O(length of the texts that are compared).
     ///
     /// ```text
@@ -166,7 +166,7 @@ fn with_name(
     Err(Error::InvalidPkgSpec("found an invalid character for the package name"))
 }
 
-/// The specification of a name and a version that stand on both sides of a separator.
+/// The specification of a name and a version on the two sides of a separator.
 fn of_both_sides(
     alloc: Global,
     name: &str,
@@ -186,7 +186,7 @@ fn of_both_sides(
     of_parts(alloc, name, Some(version), url)
 }
 
-/// What stands before and after the first `:` or `@`.
+/// The parts before and after the first `:` or `@`.
 fn split(text: &str) -> Option<(&str, &str)>
     ensures { Splits text.now result }
 {
@@ -275,7 +275,7 @@ fn version_fits(version: &Option<Version>, found: &Version) -> bool
     }
 }
 
-/// What stands before the query of a source, or else before its fragment.
+/// The part before the query of a source, or else before its fragment.
 fn before_query(source: &str) -> &str
     ensures { grammar.IsBeforeQuery source.now result.now }
 {

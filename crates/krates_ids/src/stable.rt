@@ -12,14 +12,14 @@ ghost use Rattle.krates_ids.specs.StableParts.{FindsName, FindsEscapedQuery, Tel
 use crate::cuts::{cut_first, cut_last, has};
 use crate::span::{Parts, Span, span_of};
 
-/// A text of the stable form, taken apart.
+/// A text of the stable form, split into its parts.
 #[derive(Clone, Copy)]
 pub(crate) struct StablePieces<'a> {
     pub left: &'a str,
     pub fragment: &'a str,
     pub name: &'a str,
     pub version: &'a str,
-    /// Where the name stands in the left part; none where it stands in the fragment.
+    /// Where the name is in the left part; `None` where it is in the fragment.
     pub name_in_left: Option<usize>,
 }
 
@@ -30,7 +30,7 @@ fn is_git(left: &str) -> bool
     left.starts_with("git+")
 }
 
-/// The name in a left part, and where it stands.
+/// The name in a left part, and where it is.
 fn name_in(left: &str) -> Option<(usize, &str)>
     ensures { FindsName left.now result }
 {
@@ -86,7 +86,7 @@ pub(crate) fn stable_pieces(text: &str) -> Option<StablePieces<'_>>
     })
 }
 
-/// The query of a git source, and what stands before its `?`, where the query has an escape.
+/// The query of a git source, and the part before its `?`, where the query has an escape.
 pub(crate) fn escaped_query(left: &str) -> Option<(&str, &str)>
     ensures { FindsEscapedQuery left.now result }
 {
@@ -105,7 +105,7 @@ pub(crate) fn escaped_query(left: &str) -> Option<(&str, &str)>
     Some((front, query))
 }
 
-/// Where the parts stand in a text that is a source, `#` and the fragment.
+/// The spans of the parts of a text that is a source, `#` and the fragment.
 pub(crate) fn parts_in(text: &str, stable: StablePieces<'_>) -> Parts
     requires { (source : Text) × IsWithSource text.now source stable.fragment.now
         stable.name.now stable.version.now stable.name_in_left }

@@ -18,13 +18,13 @@ fn words_of(rt: &HostRuntime) -> io::Result<Vec<String>> {
 /// The size up to which blocks of memory are used again, in bytes.
 const LARGEST_BLOCK: usize = 1 << 24;
 
-/// Has the allocator keep large blocks that are given back. glibc's returns each to the system until one as large was given back,
-/// and the graph would then be built in pages that are new in place of those of the text.
+/// Makes the allocator keep large blocks that are freed. glibc's returns each to the system until one as large was freed,
+/// and the graph would then be built in new pages instead of those of the text.
 fn keep_large_blocks(rt: &HostRuntime) {
     drop(Vec::<u8>::with_capacity(rt.alloc(), LARGEST_BLOCK));
 }
 
-/// Hands the words and the standard streams to the program.
+/// Passes the words and the standard streams to the program.
 fn main(rt: HostRuntime) -> ExitCode {
     keep_large_blocks(&rt);
     let mut input = Counted::new(rt.reader());

@@ -65,7 +65,7 @@ fn told_of(alloc: Global, answer: Result<Report, ReportError>) -> Result<String,
     }
 }
 
-/// What the words of a line are answered, of the documents behind `<`, with `//` between them.
+/// The answer to the words of a line, about the documents after `<`, with `//` between them.
 pub(crate) fn answered_of(alloc: Global, line: &str) -> Result<String, Fail> {
     let (words, documents) = line.split_once(" < ").unwrap_or((line, ""));
     match asked_of(alloc, &words_of(alloc, words)?) {
@@ -74,7 +74,7 @@ pub(crate) fn answered_of(alloc: Global, line: &str) -> Result<String, Fail> {
     }
 }
 
-/// Lines that are words, with the documents behind `<`.
+/// Lines that are words, with the documents after `<`.
 pub(crate) struct Answered;
 
 impl Question for Answered {
@@ -86,7 +86,7 @@ impl Question for Answered {
 /// The words with which cargo is run for the words of a line.
 struct CargoTold;
 
-/// Words, with a blank between each two.
+/// Words, with a space between each two.
 fn line_of(alloc: Global, words: &[String]) -> Result<String, Fail> {
     let mut line = String::new(alloc);
     for word in words {

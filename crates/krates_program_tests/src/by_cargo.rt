@@ -1,4 +1,4 @@
-//! Runs of the program over the document that a stand-in for cargo writes.
+//! Runs of the program over the document that a substitute for cargo writes.
 
 use krates_cli::{Counted, Options, RunError, program, run_by_cargo};
 use krates_samples::stand_in::DOCUMENT;
@@ -7,7 +7,7 @@ use std::alloc::Global;
 use std::test::Fail;
 use std::{env, str};
 
-/// Writes the document behind a warning, as cargo does, if words follow the name of the test.
+/// Writes the document after a warning, as cargo does, if words follow the name of the test.
 pub(crate) fn stand_in(rt: &HostRuntime) -> Result<(), Fail> {
     if env::args(rt)?.nth(2).is_some() {
         println!(rt; "a warning\n{DOCUMENT}")?;
@@ -15,7 +15,7 @@ pub(crate) fn stand_in(rt: &HostRuntime) -> Result<(), Fail> {
     Ok(())
 }
 
-/// The words of a run of the program, `SELF` being the stand-in, and the status, what it tells and what it lists; of what is told
+/// The words of a run of the program, where `SELF` is the substitute; then the status, what it reports and what it lists; of what it reports
 /// only the beginning up to the mark.
 const LISTINGS: &[Row] = &[
     (
@@ -35,7 +35,7 @@ const LISTINGS: &[Row] = &[
         "--exclude a --cargo SELF",
         "1 refused: no root crates available\n|",
     ),
-    // why a crate is kept of its document, and one that isn't
+    // why a crate of its document is kept, and one that isn't
     (
         "--why path+file:///w/b#0.1.0 --cargo SELF",
         "0 |0 rule 1: crate path+file:///w/a#0.1.0\n1 rule 5: kept path+file:///w/a#0.1.0 -> path+file:///w/b#0.1.0 (dev) from 0\n2 rule 5: crate path+file:///w/b#0.1.0 from 1\n",
@@ -90,14 +90,14 @@ fn listed(rt: &HostRuntime, words: &[String]) -> Result<String, Fail> {
     )
 }
 
-/// What a run of the program with these words tells and lists.
+/// What a run of the program with these words reports and lists.
 fn listing(rt: &HostRuntime, line: &str) -> Result<String, Fail> {
     let mut words = Vec::new(rt.alloc());
     push_words(&mut words, rt, line)?;
     listed(rt, words.as_slice())
 }
 
-/// Compares what such a run tells and lists with what is known.
+/// Compares what such a run reports and lists with what is known.
 fn hold_listing(rt: &HostRuntime, line: &str, answer: &str) -> Result<(), Fail> {
     let told = listing(rt, line)?;
     compare(line, told.as_str(), answer)

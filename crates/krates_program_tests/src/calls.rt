@@ -1,4 +1,4 @@
-//! The calls of which the program is made, each by itself.
+//! The calls that make up the program, one by one.
 
 use crate::listing::words_of;
 use krates::{Builder, Kid, Krates, NoneFilter};
@@ -25,7 +25,7 @@ fn shown(alloc: Global, options: &Options) -> Result<String, AllocError> {
     )
 }
 
-/// What the words ask for.
+/// What the words mean.
 struct Read;
 
 impl Question for Read {
@@ -63,7 +63,7 @@ fn count_kept(alloc: Global, options: &Options, line: &str) -> Result<String, Fa
     Ok(format!(in alloc; "{}", krates.len())?)
 }
 
-/// How many crates a builder keeps for which the words are set; a line has its words, and behind `<` the document.
+/// How many crates a builder keeps for which the words are set; a line has its words, and after `<` the document.
 struct Kept;
 
 impl Question for Kept {

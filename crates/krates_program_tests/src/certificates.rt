@@ -1,4 +1,4 @@
-//! Certificates as `cargo krates` writes them, and what the program says that checks them.
+//! Certificates as `cargo krates` writes them, and what the program that checks them says.
 
 use crate::asked::{Answered, add_targets, answered_of, document_of};
 use crate::listing::words_of;
@@ -59,7 +59,7 @@ fn judged(
     }
 }
 
-/// What the checker says of a certificate under the words of a line, about the document behind `<`.
+/// What the checker says of a certificate under the words of a line, about the document after `<`.
 fn checked(alloc: Global, line: &str, certificate: &[u8]) -> Result<String, Fail> {
     let (words, document) = line.split_once(" < ").unwrap_or((line, ""));
     match check_words_of(alloc, &words_of(alloc, words)?) {
@@ -68,7 +68,7 @@ fn checked(alloc: Global, line: &str, certificate: &[u8]) -> Result<String, Fail
     }
 }
 
-/// The words that ask for a certificate and its document, and behind `=>` the words and the document by which it is checked: what the
+/// The words that request a certificate and its document, and after `=>` the words and the document by which it is checked: what the
 /// checker says of the certificate as it is printed.
 struct Certified;
 
@@ -144,7 +144,7 @@ const CERTIFIED: &[Row] = &[
     ),
 ];
 
-/// A certificate, without a name behind its document: what the checker says of it about the document `a b|b`.
+/// A certificate, without a name after its document: what the checker says of it about the document `a b|b`.
 struct ByHand;
 
 impl Question for ByHand {
@@ -168,7 +168,7 @@ const BY_HAND: &[Row] = &[
         r#"{"kind":"derivation","setting":[],"steps":[]}"#,
         "refused: the derivation has no step",
     ),
-    // a crate that is told twice counts once
+    // a crate that is listed twice counts once
     (
         r#"{"kind":"closed","setting":[],"facts":[{"fact":"crate","krate":"path+file:///w/a#0.1.0"},{"fact":"kept","parent":"path+file:///w/a#0.1.0","child":"path+file:///w/b#0.1.0","kind":"normal","cfg":null},{"fact":"crate","krate":"path+file:///w/b#0.1.0"},{"fact":"crate","krate":"path+file:///w/b#0.1.0"}]}"#,
         "holds: nothing but these 2 crates can be reached\n",

@@ -1,4 +1,4 @@
-//! Calls over bytes, as other languages make them: what stands in the room that the caller lends.
+//! Calls over bytes, as other languages make them: what is in the room that the caller lends.
 
 use krates_foreign::{CallRefusal, Status, check, graph, hand_over, list, why};
 use krates_samples::documents::{document, section};
@@ -7,7 +7,7 @@ use std::alloc::Global;
 use std::str;
 use std::test::Fail;
 
-/// What a line asks: the call, the length of the room, the words, and what stands behind `<`.
+/// What a line asks: the call, the length of the room, the words, and what comes after `<`.
 #[derive(Clone, Copy)]
 struct Asked<'l> {
     call: &'l str,
@@ -30,7 +30,7 @@ impl<'l> Asked<'l> {
         }
     }
 
-    /// The bytes of a section behind the document.
+    /// The bytes of a section after the document.
     fn bytes_of(self, name: &str) -> &'l [u8] {
         match section(self.document, name) {
             Some(text) => text.as_bytes(),
@@ -38,7 +38,7 @@ impl<'l> Asked<'l> {
         }
     }
 
-    /// What the call answers of a document under words, one a line; the id and the certificate stand in sections.
+    /// What the call answers of a document under words, one per line; the id and the certificate are in sections.
     fn called(self, alloc: Global, json: &[u8], words: &[u8]) -> Result<String, CallRefusal> {
         match self.call {
             "list" => list(alloc, json, words),
@@ -48,7 +48,7 @@ impl<'l> Asked<'l> {
         }
     }
 
-    /// What is handed over of a document.
+    /// What is handed over for a document.
     fn handed(self, alloc: Global, json: &[u8]) -> Result<String, Fail> {
         let words = lines_of(alloc, self.words)?;
         let told = self.called(alloc, json, words.as_bytes());
@@ -56,7 +56,7 @@ impl<'l> Asked<'l> {
     }
 }
 
-/// The words between blanks, one a line.
+/// The words between spaces, one per line.
 fn lines_of(alloc: Global, words: &str) -> Result<String, Fail> {
     let mut lines = String::new(alloc);
     for word in words.split_whitespace() {
@@ -66,7 +66,7 @@ fn lines_of(alloc: Global, words: &str) -> Result<String, Fail> {
     Ok(lines)
 }
 
-/// What is handed over in a room of so many bytes, each of them a full stop before: the status, the length, and the room.
+/// What is handed over in a room of this many bytes, each of them a full stop before: the status, the length, and the room.
 fn room_of(
     alloc: Global,
     told: Result<String, CallRefusal>,
@@ -78,8 +78,8 @@ fn room_of(
     Ok(format!(in alloc; "{} {} {room}", answer.status, answer.length)?)
 }
 
-/// What a call hands over: a line has the call, the length of the room and the words, and behind `<` the document, or `no text`, which
-/// is no UTF-8.
+/// What a call hands over: a line has the call, the length of the room and the words, and after `<` the document, or `no text`, which
+/// isn't UTF-8.
 struct Handed;
 
 impl Question for Handed {

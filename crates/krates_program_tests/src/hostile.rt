@@ -12,7 +12,7 @@ use krates_samples::stand_in::DOCUMENT;
 use std::alloc::Global;
 use std::test::Fail;
 
-/// Whether a run over these bytes is refused since they are no JSON.
+/// Whether a run over these bytes is refused since they aren't JSON.
 fn is_no_json(alloc: Global, bytes: &[u8]) -> bool {
     let mut input = Counted::new(bytes);
     let mut output = Counted::new(Vec::new(alloc));
@@ -20,7 +20,7 @@ fn is_no_json(alloc: Global, bytes: &[u8]) -> bool {
     matches!(result, Err(RunError::Parse(MetadataError::Json(_))))
 }
 
-/// Whether the program refuses these bytes as no JSON, with status 1 and nothing listed.
+/// Whether the program refuses these bytes because they aren't JSON, with status 1 and nothing listed.
 fn is_refused(alloc: Global, bytes: &[u8]) -> Result<bool, Fail> {
     let told = outcome(alloc, &[], bytes)?;
     Ok(
@@ -46,7 +46,7 @@ fn refuses_a_document_that_ends_too_early(rt: HostRuntime) -> Result<(), Fail> {
     Ok(())
 }
 
-/// A document whose free-form metadata is so many lists, each in the one before it.
+/// A document whose free-form metadata is this many lists, each in the one before it.
 fn nested(alloc: Global, depth: usize) -> Result<String, Fail> {
     let (opened, closed) = ("[".repeat(alloc, depth)?, "]".repeat(alloc, depth)?);
     let json = document(alloc, "a")?;

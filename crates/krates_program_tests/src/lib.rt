@@ -1,9 +1,9 @@
 //! Worked examples of the program: what it answers to words, documents, runs of cargo and failing streams where the answer is known, with
 //! ample memory and with little.
 //!
-//! They stand apart from the crate that they test, since a crate with tests is proved twice. An example is a row of a table.
+//! They are separate from the crate that they test, since a crate with tests is proved twice. An example is a row of a table.
 //!
-//! A test doesn't get the path of another program, so this test program stands in for cargo: cargo's first word is `metadata`, and
+//! A test doesn't get the path of another program, so this test program acts as cargo: cargo's first word is `metadata`, and
 //! the test of this name writes the document.
 #![tactic(auto)]
 
@@ -39,7 +39,7 @@ mod why;
 #[cfg(test)]
 use std::test::Fail;
 
-/// Stands in for cargo, if words follow.
+/// Acts as cargo, if words follow.
 #[cfg(test)]
 #[test]
 fn metadata(rt: HostRuntime) -> Result<(), Fail> {

@@ -1,4 +1,4 @@
-//! Whole runs of the command line: from a document, or what is none, to the lines, the refusal and the status.
+//! Whole runs of the command line: from a document, or what isn't one, to the lines, the refusal and the status.
 
 use crate::no_programs::NoPrograms;
 use krates_cli::{Counted, Options, RunError, program, refuse_words, run};
@@ -9,7 +9,7 @@ use std::io::{ErrorKind, Read, Write};
 use std::test::Fail;
 use std::{io, str};
 
-/// The words of a line, with a blank for each tilde.
+/// The words of a line, with a space for each tilde.
 pub(crate) fn words_of(alloc: Global, line: &str) -> Result<Vec<String>, Fail> {
     let mut words = Vec::new(alloc);
     for word in line.split_whitespace() {
@@ -44,7 +44,7 @@ pub(crate) fn outcome<R: Read + Drop>(
     Ok(format!(in alloc; "{told}|{lines}")?)
 }
 
-/// What a run tells and writes; a line has its words, and behind `<` the document that it reads, or the text itself, which begins
+/// What a run reports and writes; a line has its words, and after `<` the document that it reads, or the text itself, which begins
 /// with `{`.
 pub(crate) struct Listed;
 
@@ -183,7 +183,7 @@ fn refuses_where_the_first_write_fails(rt: HostRuntime) -> Result<(), Fail> {
     hold::<Unwritten>(rt.alloc(), UNWRITTEN)
 }
 
-/// What is told of words that are no options.
+/// What is reported of words that aren't options.
 pub(crate) const USAGE: &str =
     "usage: krates-list [--workspace] [--ignore-kind KIND] [--target TRIPLE] [--exclude SPEC] [--cargo PROGRAM] [--why ID] [--all-named]\n";
 

@@ -1,11 +1,11 @@
-//! A host on which no program can be started, for runs that ask for none, and for those that ask for one in vain.
+//! A host on which no program can be started, for runs that need none, and for those that need one in vain.
 
 use std::alloc::Allocator;
 use std::io;
 use std::io::ErrorKind;
 use std::process::{Child, Command, ExitStatus, OpenProcess, Processes, Stdio};
 
-/// Programs of which none is found.
+/// Programs that aren't found.
 #[derive(Drop)]
 pub(crate) struct NoPrograms;
 

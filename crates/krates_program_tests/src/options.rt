@@ -1,4 +1,4 @@
-//! Options of the command line: what they leave out of a document, and which words are none.
+//! Options of the command line: what they leave out of a document, and which words aren't options.
 
 use crate::listing::{Listed, USAGE, told, words_of};
 use krates_cli::Counted;
@@ -40,7 +40,7 @@ const TARGETS: &[Row] = &[
         "--target x86_64-unknown-linux-gnu --target x86_64-pc-windows-msvc < a b&on=cfg(unix)|b",
         BOTH,
     ),
-    // the word behind an option is its value, whatever it is
+    // the word after an option is its value, whatever it is
     ("--target --workspace < a b&on=cfg(unix)|b", WITHOUT_B),
 ];
 
@@ -57,7 +57,7 @@ const LEAST: &str =
 const ALL: &str =
     "0 |+ path+file:///w/a#0.1.0\n+ path+file:///w/d#d@0.10.0\n+ path+file:///w/d#d@0.9.0\n";
 
-// A feature of the only member asks for a dependency by a name to which two versions answer.
+// A feature of the only member enables a dependency by a name that two versions match.
 const NAMED: &[Row] = &[
     (
         "< a d?;x=dep:d|d@0.10.0|d@0.9.0 / nodes a d@0.10.0 d@0.9.0;x|d@0.10.0|d@0.9.0",
@@ -77,7 +77,7 @@ fn leaves_out_and_keeps_what_options_ask(rt: HostRuntime) -> Result<(), Fail> {
     hold::<Listed>(rt.alloc(), NAMED)
 }
 
-/// What is told before the usage line, or before the cause for which a program isn't found, and a mark for the rest.
+/// What is reported before the usage line, or before the cause for which a program isn't found, and a mark for the rest.
 fn beginning(told: &str) -> (&str, &str) {
     if let Some(status) = told.strip_suffix(USAGE) {
         return (status, "usage");
@@ -88,7 +88,7 @@ fn beginning(told: &str) -> (&str, &str) {
     }
 }
 
-/// How a run with these words over two bytes begins to tell, how many of the bytes it leaves unread, and what it writes.
+/// How a run with these words over two bytes begins to report, how many of the bytes it leaves unread, and what it writes.
 fn run_unread(alloc: Global, words: &[String]) -> Result<String, Fail> {
     let mut input = Counted::new(b"{}".as_slice());
     let mut output = Counted::new(Vec::new(alloc));
@@ -119,7 +119,7 @@ const NO_OPTIONS: &[Row] = &[
     ("--exclude a@", "2 usage, 2 left|"),
     ("--target", "2 usage, 2 left|"),
     ("--cargo", "2 usage, 2 left|"),
-    // no id: no word, none with a version, another word, and escapes of what is none or may not be escaped
+    // not an id: no word, none with a version, another word, and escapes of what isn't one or may not be escaped
     ("--why", "2 usage, 2 left|"),
     ("--why a", "2 usage, 2 left|"),
     ("--why x#1/2", "2 usage, 2 left|"),
@@ -142,7 +142,7 @@ const NO_PROGRAMS: &[Row] = &[
         "--why path+file:///w/b#0.1.0 --cargo x",
         "1 refused: failed to start `cargo metadata`, 2 left|",
     ),
-    // the word behind an option is its value, whatever it is
+    // the word after an option is its value, whatever it is
     (
         "--workspace --cargo --cargo",
         "1 refused: failed to start `cargo metadata`, 2 left|",

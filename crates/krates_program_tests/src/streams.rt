@@ -30,7 +30,7 @@ struct Pace {
 }
 
 impl Pace {
-    /// At most so many bytes in a call, of which one goes wrong.
+    /// At most this many bytes in a call, one of which goes wrong.
     fn new(most: usize, kind: Option<ErrorKind>, call: usize) -> Pace {
         let mishap = Mishap { call, kind };
         Pace {
@@ -40,7 +40,7 @@ impl Pace {
         }
     }
 
-    /// How many bytes of so many are moved by the next call.
+    /// How many of this many bytes are moved by the next call.
     fn next(&mut self, wanted: usize) -> io::Result<usize> {
         let call = self.calls;
         self.calls = call.saturating_add(1);
@@ -93,7 +93,7 @@ impl Write for Taking {
     }
 }
 
-/// A document of so many bytes: the first package needs the second for its tests, and blanks follow the first brace.
+/// A document of this many bytes: the first package needs the second for its tests, and spaces follow the first brace.
 fn document_of(alloc: Global, size: usize) -> Result<String, Fail> {
     let json = document(alloc, "a b&dev|b")?;
     let blanks = " ".repeat(alloc, size.saturating_sub(json.len()))?;
@@ -110,7 +110,7 @@ fn extent(text: &str, taken: &[u8]) -> &'static str {
     }
 }
 
-/// What runs of one kind tell at a pace.
+/// What runs of one kind report at a pace.
 trait Course {
     /// The status and the refusal, how much was written, and how many calls have failed.
     fn run(alloc: Global, json: &str, pace: Pace) -> Result<String, Fail>;
@@ -136,7 +136,7 @@ impl Course for Reading {
     }
 }
 
-/// What a run with these words tells whose writer goes at the pace, how much of the text was written, and how many calls failed.
+/// What a run with these words whose writer goes at the pace reports, how much of the text was written, and how many calls failed.
 fn written(
     alloc: Global,
     words: &[String],
@@ -172,10 +172,10 @@ impl Course for Explaining {
     }
 }
 
-/// What is told of bytes that are no text.
+/// What is reported of bytes that aren't a text.
 const REFUSAL: &str = "refused: input is not UTF-8\n";
 
-/// Runs over bytes that are no text, whose writer of refusals goes at the pace. No document is read.
+/// Runs over bytes that aren't a text, whose writer of refusals goes at the pace. No document is read.
 struct Telling;
 
 impl Course for Telling {
@@ -197,7 +197,7 @@ impl Course for Telling {
     }
 }
 
-/// What runs tell of which one call goes wrong, each call in turn, and how many calls there are. A line has the size of the
+/// What runs report in which one call goes wrong, each call in turn, and how many calls there are. A line has the size of the
 /// document, how many bytes a call moves at most, and how it goes wrong.
 struct EachCall<C> {
     course: C,
@@ -223,7 +223,7 @@ fn kind_of(mishap: &str) -> Option<ErrorKind> {
     }
 }
 
-/// How many calls there are, with what the first run tells, where none goes wrong any more; what the run tells where that is
+/// How many calls there are, with what the first run reports, where none goes wrong any more; what the run reports where that is
 /// something else than the first one; and nothing where it is the same.
 fn end_of<C: Course>(
     alloc: Global,
@@ -241,7 +241,7 @@ fn end_of<C: Course>(
     Ok(Some(told))
 }
 
-/// Lets each call but the first go wrong in turn, up to the run in which none does any more.
+/// Makes each call except the first go wrong in turn, up to the run in which none does any more.
 fn each_call<C: Course>(
     alloc: Global,
     json: &str,
@@ -257,7 +257,7 @@ fn each_call<C: Course>(
     Ok(String::from_str(alloc, first)?)
 }
 
-// The buffer of a run has 16,384 bytes; the last call of each reader finds the end. A document without blanks has 777 bytes.
+// The buffer of a run has 16,384 bytes; the last call of each reader finds the end. A document without spaces has 777 bytes.
 const FAILED_READS: &[Row] = &[
     (
         "0 1 fails",
@@ -474,7 +474,7 @@ fn writes_all_lines_or_steps_or_a_beginning(rt: HostRuntime) -> Result<(), Fail>
     hold::<EachCall<Explaining>>(rt.alloc(), EXPLAINED)
 }
 
-// Twenty-eight bytes are written. The status is that of the refusal, whether it is told or not.
+// Twenty-eight bytes are written. The status is that of the refusal, whether it is reported or not.
 const TOLD: &[Row] = &[
     (
         "0 1 fails",

@@ -1,10 +1,10 @@
-//! Runs that write why a crate is kept, in place of a list of the packages. Each of these crates is kept for one reason.
+//! Runs that write why a crate is kept, instead of a list of the packages. Each of these crates is kept for one reason.
 
 use crate::listing::{Listed, outcome, words_of};
 use krates_samples::table::{Row, compare, hold};
 use std::test::Fail;
 
-/// Why a crate is kept that the only member needs for its tests.
+/// Why a crate that the only member needs for its tests is kept.
 pub(crate) const STEPS: &str =
     "0 rule 1: crate path+file:///w/a#0.1.0\n1 rule 5: kept path+file:///w/a#0.1.0 -> path+file:///w/b#0.1.0 (dev) from 0\n2 rule 5: crate path+file:///w/b#0.1.0 from 1\n";
 
@@ -28,7 +28,7 @@ const KEPT: &[Row] = &[
         "--why path+file:///w/b#0.1.0 < a b&build&on=cfg(unix)|b",
         "0 |0 rule 1: crate path+file:///w/a#0.1.0\n1 rule 5: kept path+file:///w/a#0.1.0 -> path+file:///w/b#0.1.0 (build) 'cfg(unix)' from 0\n2 rule 5: crate path+file:///w/b#0.1.0 from 1\n",
     ),
-    // an enabled feature asks for it
+    // an enabled feature requires it
     (
         "--why path+file:///w/b#0.1.0 < a b?;x=dep:b|b",
         "0 |0 rule 1: feature x of path+file:///w/a#0.1.0\n1 rule 4: kept path+file:///w/a#0.1.0 -> path+file:///w/b#0.1.0 from 0\n2 rule 5: crate path+file:///w/b#0.1.0 from 1\n",
@@ -41,7 +41,7 @@ const KEPT: &[Row] = &[
 ];
 
 const NOT_KEPT: &[Row] = &[
-    // a package that no crate needs, one that isn't there, and its id as it is asked for
+    // a package that no crate needs, one that isn't there, and its id as it is asked about
     (
         "--why path+file:///w/c#0.1.0 < a b|b|c",
         "1 refused: not kept: path+file:///w/c#0.1.0\n|",
@@ -91,7 +91,7 @@ const UNDER_OPTIONS: &[Row] = &[
         "--workspace --why path+file:///w/b#0.1.0 < a|b / members a b / root a",
         "0 |0 rule 1: crate path+file:///w/b#0.1.0\n",
     ),
-    // a feature asks for a dependency by a name to which two versions answer
+    // a feature enables a dependency by a name that two versions match
     (
         "--why path+file:///w/d#d@0.9.0 < a d?;x=dep:d|d@0.10.0|d@0.9.0 / nodes a d@0.10.0 d@0.9.0;x|d@0.10.0|d@0.9.0",
         "1 refused: not kept: path+file:///w/d#d@0.9.0\n|",

@@ -15,7 +15,7 @@ use Rattle.krates_drawing.specs.declared.node.Node.TheVariants.{Krate, Feature}
 
 -- ---- a crate among the nodes
 
--- the crate's node stands at this place behind those that are numbered below k
+-- the crate's node is at this place, after those that are numbered below k
 record Listed {N : Type 0} (k : ℕ) (nodes : List (Node N)) (c : Match N) : Type 0 where
   place : ℕ
   number : c.number ≡ k + place

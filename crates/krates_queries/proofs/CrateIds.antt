@@ -21,7 +21,7 @@ as_few_crates (Feature k name ∷ nodes) n lt = let more = as_few_crates nodes n
 pub crate_id : (ids : List Identity) (n : ℕ) (id : Identity) → slice_get ids n ≡ Some id → id_at ids n ≡ id_of id
 crate_id ids n id at = get_or_from_slice_get (map id_of ids) n (id_of id) no_id (slice_get-map id_of ids n ∙ ap (λ (o : Option Identity). option_map id_of o) at)
 
--- the crates of two lists of nodes, one behind the other
+-- the crates of two lists of nodes, one after the other
 ids_joined : {N : Type 0} (xs ys : List (Node N)) → crate_ids (xs ++ ys) ≡ crate_ids xs ++ crate_ids ys
 ids_joined [] ys = refl
 ids_joined (Krate i k f m ∷ xs) ys = ap (λ is. i ∷ is) (ids_joined xs ys)

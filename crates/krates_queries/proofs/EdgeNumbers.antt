@@ -13,7 +13,7 @@ use Rattle.krates_rules.proofs.Members.{Member, mapped_of, member_map, kept_of, 
 
 -- ---- which they are
 
--- the edge of this number
+-- the edge with this number
 pub record EdgeAt {E : Type 0} (edges : List (GraphEdge E)) (node : ℕ) (d : Direction) (k : ℕ) : Type 0 where
   pub edge : GraphEdge E
   pub at : slice_get edges k ≡ Some edge

@@ -33,7 +33,7 @@ use Rattle.krates_rules.proofs.SeenInOrder.{equal_self}
 pub feature_total : IsTotalOrder feature_order
 feature_total = search (comparing, rules) depth 9
 
--- ---- where a feature stands
+-- ---- where a feature is
 
 -- a crate isn't a feature
 not_feature : {N : Type 0} (id : Identity) (krate : N) (features : BTreeSet (String Global)) (mapping : Vec (Option ℕ)) (node : Node N) (number : ℕ) (name : Text)

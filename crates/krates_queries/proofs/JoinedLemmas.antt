@@ -78,7 +78,7 @@ home_of nodes d t x v (inr w) = home_feature (slice_get nodes t) t d (feature_of
 
 -- ---- the least edge
 
--- the edge of this number leads from `p` to `d` or to a feature of `d`
+-- the edge with this number leads from `p` to `d` or to a feature of `d`
 pub record Leads {N E : Type 0} (nodes : List (Node N)) (edges : List (GraphEdge E)) (p d k : ℕ) : Type 0 where
   pub edge : GraphEdge E
   pub at : slice_get edges k ≡ Some edge
@@ -283,7 +283,7 @@ source_at (Some e) k s h =
     let same : record { krate = e.source; edge = k } ≡ s = same_Some _ s h in
     record { edge = e; is = refl; source = ap (λ (n : Neighbour). n.krate) same; number = ap (λ (n : Neighbour). n.edge) same }
 
--- the edge of this number leads from `n` to `t` itself
+-- the edge with this number leads from `n` to `t` itself
 record LeadsRight {E : Type 0} (edges : List (GraphEdge E)) (n t k : ℕ) : Type 0 where
   edge : GraphEdge E
   at : slice_get edges k ≡ Some edge

@@ -69,7 +69,7 @@ below_other xs n k i d parted lt within =
     let below = (Decides-ltb (get_or xs i d).krate n).0 (parted.0 i d (omega arith) lt) in
     ne_eqb (get_or xs i d).krate n (λ e. omega (arith, below, e))
 
--- where those below end stands the first neighbour of the crate, if it has any
+-- the first neighbour of the crate, if it has any, comes right after those below
 pub found_at : (xs : List Neighbour) (n k : ℕ) (x : Neighbour) → IsBelow xs n k → slice_get xs k ≡ Some x → x.krate ≡ n → Some x.edge ≡ first_edge xs n
 found_at xs n k x parted at same =
     let lt = slice_get_within xs k x at in

@@ -1,4 +1,4 @@
--- Nodes in order: where a crate stands among them, and what a search for its id finds.
+-- Nodes in order: where a crate is among them, and what a search for its id finds.
 use Rattle.std.proofs.Common.{◌≡◌, ◌↔◌, ℕ, zero, suc, ◌<◌, ◌≤◌, List, [], ◌∷◌, length, get_or, Option, Some, None, slice_get, refl, sym, ap, ◌∙◌, subst, arith, HoldsAt, Ordering, Less, Equal, Greater}
 use Rattle.std.proofs.lemmas.List.Sorted.{searchable_from_sorted}
 use Rattle.std.proofs.lemmas.Option.{get_or_from_slice_get, slice_get_within}
@@ -50,7 +50,7 @@ pub record CrateAt {N : Type 0} (nodes : List (Node N)) (n : ℕ) (id : Identity
   pub is : IsCrate node id names
   pub enabled : slice_get (crate_features nodes) n ≡ Some names
 
--- the crate at a place among the crates is the node of that number
+-- the crate at a place among the crates is the node with that number
 pub crate_at : {N : Type 0} (nodes : List (Node N)) (n : ℕ) (id : Identity) → CratesFirst nodes → slice_get (crate_ids nodes) n ≡ Some id → CrateAt nodes n id
 crate_at [] n id first at = absurd cc
 crate_at (Krate i krate features mapping ∷ nodes) zero id first at = record {
@@ -75,7 +75,7 @@ no_crate (Krate i k f m ∷ nodes) n id krate features mapping none at = absurd 
 no_crate (Feature krate_index name ∷ nodes) zero id krate features mapping none at = absurd cc
 no_crate (Feature krate_index name ∷ nodes) (suc n) id krate features mapping none at = no_crate nodes n id krate features mapping none at
 
--- the crate of a number stands at that place among the crates
+-- the crate with a number is at that place among the crates
 pub place_at : {N : Type 0} (nodes : List (Node N)) (n : ℕ) (id : Identity) (krate : N) (features : BTreeSet (String Global)) (mapping : Vec (Option ℕ))
     → CratesFirst nodes → slice_get nodes n ≡ Some (Krate id krate features mapping) → (slice_get (crate_ids nodes) n ≡ Some id) × (slice_get (crate_features nodes) n ≡ Some (names_in features))
 place_at [] n id krate features mapping first at = absurd cc
@@ -114,7 +114,7 @@ no_features [] none = refl
 no_features (Krate i k f m ∷ nodes) none = absurd cc
 no_features (Feature krate_index name ∷ nodes) none = no_features nodes none
 
--- where the node of a number is a feature, no crate stands at that place
+-- where the node with a number is a feature, no crate is at that place
 pub no_place : {N : Type 0} (nodes : List (Node N)) (n krate_index : ℕ) (name : String Global) → CratesFirst nodes → slice_get nodes n ≡ Some (Feature krate_index name)
     → (slice_get (crate_ids nodes) n ≡ None) × (slice_get (crate_features nodes) n ≡ None)
 no_place [] n krate_index name first at = absurd cc

@@ -15,12 +15,12 @@ pub record AreAllDependents {N E : Type 0} (nodes : List (Node N)) (edges : List
 
 -- ---- steps
 
--- the crate that a node of this number is
+-- the crate that a node with this number is
 abbrev pub match_in : {N : Type 0} → ℕ → Option (Node N) → Option (Match N)
 match_in n None = None
 match_in n (Some (Krate id krate features mapping)) = Some (record { number = n; id = id; krate = krate })
 match_in n (Some (Feature krate_index name)) = None
 
--- the crate of a number
+-- the crate with a number
 abbrev pub match_at : {N : Type 0} → List (Node N) → ℕ → Option (Match N)
 match_at nodes n = match_in n (slice_get nodes n)

@@ -1,4 +1,4 @@
--- What the queries for dependents and for paths answer of one graph.
+-- What the queries for dependents and for paths answer about one graph.
 use Rattle.std.specs.Prelude.{◌↔◌, ℕ, List, All, Bool, Contains, IsTrue, length, map}
 use Rattle.krates_graph.specs.Graph.{HasEnds}
 use Rattle.krates_graph.specs.declared.graph.edge.GraphEdge.{GraphEdge}
@@ -9,7 +9,7 @@ use Rattle.krates_queries.specs.KrateNodes.{Match, numbered_crates}
 use Rattle.krates_queries.specs.Reaches.{TellsPath}
 use Rattle.krates_drawing.specs.declared.node.Node.{Node}
 
--- A kept crate is among all dependents of a node exactly if the answer is yes whether it reaches the node.
+-- A kept crate is among all dependents of a node exactly if it reaches the node, by the query's answer.
 abbrev pub DependentsReach : {N E : Type 0} → List (Node N) → List (GraphEdge E) → Type 0
 DependentsReach {N} nodes edges = (d : ℕ) (all : List (Match N)) → AreAllDependents nodes edges d all
     → (c : Match N) → Contains (numbered_crates 0 nodes) c → (answer : Bool) → TellsPath nodes edges c.number d answer → IsTrue answer ↔ Contains all c

@@ -1,4 +1,4 @@
--- Crates that are joined by an edge: which edge it is, and what stands for a crate.
+-- Crates that are joined by an edge: which edge it is, and which value is held for a crate.
 use Rattle.std.specs.Prelude.{◌≡◌, ◌≤◌, ◌<◌, ◌^◌, ◌↔◌, ℕ, length, Bool, false, List, Option, Some, None, All, Contains, map, slice_get}
 use Rattle.std.specs.List.{filter_map}
 use Rattle.std.specs.List.Sorted.{IsStrictlySortedBy}
@@ -17,23 +17,23 @@ use Rattle.krates_drawing.specs.declared.node.Node.TheVariants.{Krate, Feature}
 
 -- ---- crates by number
 
--- what stands for the package of a crate
+-- the value held for the package of a crate
 abbrev pub value_in : {N : Type 0} → Option (Node N) → Option N
 value_in None = None
 value_in (Some (Krate id krate features mapping)) = Some krate
 value_in (Some (Feature krate_index name)) = None
 
--- the same for the crate of a number
+-- the same for the crate with a number
 abbrev pub value_at : {N : Type 0} → List (Node N) → ℕ → Option N
 value_at nodes n = value_in (slice_get nodes n)
 
--- the id of a crate, and what stands for its package
+-- the id of a crate, and the value held for its package
 abbrev pub id_and_value_in : {N : Type 0} → Option (Node N) → Option (Identity × N)
 id_and_value_in None = None
 id_and_value_in (Some (Krate id krate features mapping)) = Some (id, krate)
 id_and_value_in (Some (Feature krate_index name)) = None
 
--- the same for the crate of a number
+-- the same for the crate with a number
 abbrev pub id_and_value_at : {N : Type 0} → List (Node N) → ℕ → Option (Identity × N)
 id_and_value_at nodes n = id_and_value_in (slice_get nodes n)
 
@@ -49,7 +49,7 @@ pub record Joined (N : Type 0) : Type 0 where
 abbrev pub joined_view : {N : Type 0} → JoinedKrate N → Joined N
 joined_view d = record { id = d.kid.now; krate = d.krate.now; node = d.node_id; edge = d.edge_id }
 
--- The edge of this number is the least of those that lead from number p to number d or to a feature of d.
+-- The edge with this number is the least of those that lead from number p to number d or to a feature of d.
 pub record IsLeastEdge {N E : Type 0} (nodes : List (Node N)) (edges : List (GraphEdge E)) (p d k : ℕ) : Type 0 where
   pub edge : GraphEdge E
   pub at : slice_get edges k ≡ Some edge
@@ -96,7 +96,7 @@ is_feature_in d (Some node) = is_own_feature d node
 abbrev pub is_feature_of : {N : Type 0} → List (Node N) → ℕ → ℕ → Bool
 is_feature_of nodes d n = is_feature_in d (slice_get nodes n)
 
--- the crate of the number, if it has an id with a value, and an edge
+-- the crate with the number, if it has an id with a value, and an edge
 abbrev pub joined_by : {N : Type 0} → ℕ → Option (Identity × N) → Option ℕ → Option (Joined N)
 joined_by n (Some both) (Some edge) = Some (record { id = both.0; krate = both.1; node = n; edge = edge })
 joined_by n _ _ = None

@@ -12,7 +12,7 @@ use Rattle.krates_drawing.specs.declared.node.Node.TheVariants.{Krate, Feature}
 use Rattle.krates_queries.specs.declared.queries.neighbours.Neighbour.{Neighbour}
 
 -- These are the crates that the mapping of p names, each with the least edge from p to it or to a feature of it. A feature has no
--- mapping, so there are none.
+-- mapping, so it has none.
 abbrev pub AreDependencies : {N E : Type 0} → List (Node N) → List (GraphEdge E) → ℕ → List (Joined N) → Type 0
 AreDependencies nodes edges p joined = AreJoined nodes (DependsOn (map planned_node nodes) p) (IsLeastEdge nodes edges p) joined
 

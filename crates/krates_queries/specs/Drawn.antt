@@ -1,4 +1,4 @@
--- The stored graph beside what is drawn of a document.
+-- The stored graph, compared with what is drawn of a document.
 use Rattle.std.specs.Prelude.{◌≡◌, ◌<◌, ◌-◌, ◌^◌, length, map}
 use Rattle.std.specs.List.{AllZip}
 use Rattle.krates_cm.specs.Document.{MetadataModel, text_view}
@@ -12,7 +12,7 @@ use Rattle.krates_rules.specs.Setting.{SettingModel}
 use Rattle.krates_drawing.specs.declared.node.Node.{Node}
 use Rattle.krates_drawing.specs.declared.node.Node.TheVariants.{Krate, Feature}
 
--- the drawn node that a node stands for: a crate with its mapping, or a feature of the crate of a number
+-- the drawn node that a node represents: a crate with its mapping, or a feature of the crate with a number
 abbrev pub planned_node : {N : Type 0} → Node N → PlannedNode
 planned_node (Krate id krate features mapping) = PlannedCrate (id_of id) mapping.items
 planned_node (Feature krate_index name) = PlannedFeature krate_index (text_view name)
@@ -32,7 +32,7 @@ pub record IsDrawn {N E : Type 0} (made : Edge → E → Type 0) (m : MetadataMo
   pub is_outline : IsOutlineFor m s outline
   pub drawing : IsDrawing made outline g
 
--- there are no more nodes and no more edges than can be numbered, and the graph takes no more
+-- there are no more nodes and no more edges than can be numbered, and the graph's limits allow no more
 pub record IsNumbered {N E : Type 0} (g : StoredGraph (Node N) E) : Type 0 where
   pub nodes : length g.nodes < 2 ^ 32
   pub edges : length g.edges < 2 ^ 32

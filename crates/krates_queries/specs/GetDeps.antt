@@ -11,7 +11,7 @@ abbrev pub target_of : {N E : Type 0} → List (Node N) → Option (GraphEdge E)
 target_of nodes None = None
 target_of nodes (Some edge) = option_map (λ node. (node, edge.weight)) (slice_get nodes edge.target)
 
--- the same for each of the edges of these numbers
+-- the same for each of the edges with these numbers
 abbrev pub targets_of : {N E : Type 0} → List (Node N) → List (GraphEdge E) → List ℕ → List (Node N × E)
 targets_of nodes edges numbers = filter_map (λ number. target_of nodes (slice_get edges number)) numbers
 

@@ -6,7 +6,7 @@ use Rattle.krates_rules.specs.Resolved.{StandsAt}
 use Rattle.krates_drawing.specs.Node.{IsFeatureAt, crate_ids}
 use Rattle.krates_drawing.specs.declared.node.Node.{Node}
 
--- `n` is the number of the node of the crate of this number, or, if a feature is named, of the feature's node
+-- `n` is the number of the node of the crate with this number, or, if a feature is named, of the feature's node
 abbrev pub IsNumberIn : {N : Type 0} → List (Node N) → ℕ → Option Text → ℕ → Type 0
 IsNumberIn nodes number None n = n ≡ number
 IsNumberIn nodes number (Some name) n = IsFeatureAt nodes n number name

@@ -28,7 +28,7 @@ pub record KeptCrates (N E : Type 0) : Type 0 where
 abbrev pub ids_of : {N E : Type 0} → KeptCrates N E → List Identity
 ids_of k = crate_ids k.graph.nodes
 
--- what stands in the place of their packages
+-- the values held for their packages
 abbrev pub values_of : {N E : Type 0} → KeptCrates N E → List N
 values_of k = crate_values k.graph.nodes
 

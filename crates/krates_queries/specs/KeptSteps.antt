@@ -29,7 +29,7 @@ pub record IsExplainedBy (m : MetadataModel) (s : SettingModel) (steps : List St
 
 -- ---- what holds of every build
 
--- what the node of a number says: that its crate is kept, or its feature enabled
+-- what the node with a number says: that its crate is kept, or its feature enabled
 abbrev pub node_says : {N : Type 0} → ℕ → Node N → KeptModel
 node_says n (Krate id krate features mapping) = KeepsCrate n
 node_says n (Feature krate_index name) = Enables krate_index (text_view name)

@@ -16,7 +16,7 @@ use Rattle.krates_drawing.specs.declared.node.Node.{Node}
 abbrev pub line_view : GraphEdge Edge → PlannedEdge
 line_view e = record { source = e.source; target = e.target; tie = tie_view e.weight }
 
--- the node stands at the end of a path that begins at a member and whose edges have no kind or another
+-- the node is the end of a path that begins at a member and whose edges have no kind or another
 abbrev pub IsReached : DepKind → List (GraphEdge Edge) → List ℕ → ℕ → Type 0
 IsReached kind edges members = Reaches (LeadsWithout kind (map line_view edges)) (Contains members)
 

@@ -7,7 +7,7 @@ use Rattle.semver.specs.declared.Version.{Version}
 use Rattle.semver.specs.declared.VersionReq.{VersionReq}
 use Rattle.krates_queries.specs.KrateNodes.{Match}
 
--- whether the crate has this name, by what tells the name of the value that stands for its package
+-- whether the crate has this name, by the function that gives the name of the value held for its package
 abbrev pub is_named : {N : Type 0} → (N → Text) → Text → Match N → Bool
 is_named name_of name m = bytes_eq (name_of m.krate) name
 

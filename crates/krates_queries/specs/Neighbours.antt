@@ -13,6 +13,6 @@ neighbour_cmp = then_cmp (on (λ n. n.krate) nat_cmp) (on (λ n. n.edge) nat_cmp
 abbrev pub AreInOrder : List Neighbour → Type 0
 AreInOrder = IsSorted neighbour_cmp
 
--- the edge of the first of these that is the crate of the number
+-- the edge of the first of these that is the crate with the number
 abbrev pub first_edge : List Neighbour → ℕ → Option ℕ
 first_edge neighbours n = option_map (λ x. x.edge) (find (λ x. x.krate == n) neighbours)

@@ -28,7 +28,7 @@ pub record IsFarEnd {E : Type 0} (Passes : E → Type 0) (edges : List (GraphEdg
   pub passes : Passes edge.weight
   pub far : far_end d edge ≡ n
 
--- one of the edges of these numbers does
+-- one of the edges with these numbers does
 pub record IsFarEndOf {E : Type 0} (Passes : E → Type 0) (edges : List (GraphEdge E)) (d : Direction) (numbers : List ℕ) (n : ℕ) : Type 0 where
   pub number : ℕ
   pub among : Contains numbers number

@@ -19,6 +19,6 @@ abbrev pub value_of : {N : Type 0} → List (Node N) → Option ℕ → Option N
 value_of nodes None = None
 value_of nodes (Some n) = value_at nodes n
 
--- what stands for the crate whose number node `n` has there
+-- the value held for the crate whose number is at that place of node `n`'s mapping
 abbrev pub resolved_at : {N : Type 0} → List (Node N) → ℕ → ℕ → Option N
 resolved_at nodes n place = value_of nodes (number_in (slice_get nodes n) place)

@@ -23,7 +23,7 @@ abbrev pub node_fact : {N : Type 0} → List Identity → Node N → Fact
 node_fact ids (Krate id krate features mapping) = CrateFact (id_of id)
 node_fact ids (Feature krate_index name) = FeatureFact (id_at ids krate_index) (text_view name)
 
--- The steps are a derivation of what the node says. No fact stands twice, each step but the last is used by a later one, their ids are those of the kept
+-- The steps are a derivation of what the node says. No fact occurs twice, each step but the last is used by a later one, their ids are those of the kept
 -- crates, and where all kept steps follow, as those of a build do, these are accepted.
 pub record IsWhy {N E : Type 0} (k : KeptCrates N E) (n : ℕ) (steps : List Step) : Type 0 where
   pub node : Node N

@@ -1,4 +1,4 @@
-//! What a graph holds in place of packages.
+//! What a graph holds instead of packages.
 
 ghost use Rattle.std.specs.Prelude.{◌≡◌, IfOk};
 ghost use Rattle.krates_cm.specs.Document.{Text, text_view};
@@ -9,7 +9,7 @@ use krates_cm::Package;
 use semver::Version;
 use std::alloc::{AllocError, Global};
 
-/// A value that is made from a package, and is held in its place.
+/// A value that is made from a package, and is held instead of it.
 ///
 /// A package is held as it is.
 pub trait FromPackage {

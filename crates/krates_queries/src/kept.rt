@@ -15,10 +15,10 @@ use krates_selection::{KeptStep, Work};
 use std::alloc::Global;
 use std::marker::Model;
 
-/// How much work a build was, and why all that it keeps is kept.
+/// How much work a build took, and why all that it keeps is kept.
 #[derive(Drop)]
 pub struct Findings {
-    /// How much work it was.
+    /// How much work it took.
     pub work: Work,
     /// The steps by which all that it keeps is kept, its crates by number.
     pub steps: Vec<KeptStep>,
@@ -27,7 +27,7 @@ pub struct Findings {
 /// The graph of the crates that a build keeps, and the path of the workspace.
 ///
 /// The nodes of the crates come first, numbered from 0 in the order of their ids; then one for each enabled feature, in the
-/// order of the crates and then of the names. `N` stands for the packages of the crates, and `E` for the edges.
+/// order of the crates and then of the names. Each crate holds an `N` for its package, and each edge an `E`.
 #[derive(Debug, Drop)]
 pub struct Krates<N = Package, E = Edge> {
     graph: Graph<Node<N>, E>,
@@ -63,7 +63,7 @@ impl<N, E> Model for Krates<N, E> {
 }
 
 impl<N, E> Krates<N, E> {
-    /// This graph, with this many crates, of which these are members, for a workspace at this path, and how it was found.
+    /// The kept crates of this graph, as many as stated, with these members, for a workspace at this path, and how they were found.
     ///
     /// Time: O(1).
     pub fn new(
@@ -155,7 +155,7 @@ impl<N, E> Krates<N, E> {
         *self.members.allocator()
     }
 
-    /// What stands for the packages of the kept crates, by increasing id, each once. Time O(1), and O(1) for each.
+    /// The values held for the packages of the kept crates, by increasing id, each once. Time O(1), and O(1) for each.
     ///
     /// ```text
     /// for pkg in krates.krates() {
@@ -172,7 +172,7 @@ impl<N, E> Krates<N, E> {
         }
     }
 
-    /// How much work it was to find them: how many crates are kept, how many features are enabled, and how many
+    /// How much work it took to find them: how many crates are kept, how many features are enabled, and how many
     /// references these have. Each count stays at its greatest value. Time O(1).
     ///
     /// ```text
@@ -196,7 +196,7 @@ impl<N, E> Krates<N, E> {
     }
 }
 
-/// What stands for the packages of the kept crates, by increasing id.
+/// The values held for the packages of the kept crates, by increasing id.
 #[derive(Debug, Drop)]
 pub struct KratesIter<'a, N> {
     left: &'a [Node<N>],

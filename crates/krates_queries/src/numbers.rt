@@ -46,7 +46,7 @@ pub(crate) fn lent_ids<N>(alloc: Global, nodes: &[Node<N>]) -> Result<Vec<&Kid>,
     Ok(kids)
 }
 
-/// Adds the id of a crate; nothing of a feature.
+/// Adds the id of a crate; nothing for a feature.
 fn push_id<'a, N>(node: &'a Node<N>, kids: &mut Vec<&'a Kid>) -> Result<(), AllocError>
     ensures { OnOk result (map (λ kid. kid.now) kids.new.items
         ≡ map (λ kid. kid.now) kids.old.items ++ crate_ids (node.now ∷ [])) }
@@ -60,7 +60,7 @@ fn push_id<'a, N>(node: &'a Node<N>, kids: &mut Vec<&'a Kid>) -> Result<(), Allo
     }
 }
 
-/// The enabled features of the crate of a number, if there is one.
+/// The enabled features of the crate with a number, if there is one.
 pub(crate) fn features_at<N>(nodes: &[Node<N>], number: usize) -> Option<&EnabledFeatures>
     requires { AreNodes nodes.now }
     ensures { option_map (λ features. names_in features.now) result ≡ slice_get (crate_features nodes.now) number }
@@ -72,14 +72,14 @@ pub(crate) fn features_at<N>(nodes: &[Node<N>], number: usize) -> Option<&Enable
     }
 }
 
-/// The node of a number.
+/// The node with a number.
 pub(crate) fn node_at<N>(nodes: &[Node<N>], number: usize) -> Option<&Node<N>>
     ensures { option_map (λ node. node.now) result ≡ slice_get nodes.now number }
 {
     nodes.get(number)
 }
 
-/// The node that stands at a number.
+/// The node with a number.
 pub(crate) fn standing_at<N>(nodes: &[Node<N>], number: usize) -> &Node<N>
     requires { number < length nodes.now }
     ensures { slice_get nodes.now number ≡ Some result.now }

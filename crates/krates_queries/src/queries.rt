@@ -1,4 +1,4 @@
-//! Questions to the graph of the kept crates, each in a file of its own.
+//! Questions about the graph of the kept crates, each in a file of its own.
 
 mod all_dependents;
 mod direct;

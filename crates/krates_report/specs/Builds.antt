@@ -1,4 +1,4 @@
--- The builds of which answers are made.
+-- The builds from which answers are made.
 use Rattle.std.specs.Prelude.{◌↔◌, List, [], ◌∷◌, Contains, map}
 use Rattle.krates.specs.Build.{KeepsCrate}
 use Rattle.krates_answers.specs.declared.crate_uses.Builds.{Builds}
@@ -12,13 +12,13 @@ use Rattle.krates_rules.specs.declared.kind.DepKind.TheVariants.{Build, Dev}
 use Rattle.krates_words.specs.Choice.{IsSettingOf}
 use Rattle.krates_words.specs.declared.choice.Choice.{Choice}
 
--- Exactly the crates are kept that are derivable from the document under the choice, where these kinds are ignored too.
+-- Exactly the crates that are derivable from the document under the choice are kept, with these kinds ignored too.
 pub record IsBuildOf {N E : Type 0} (m : MetadataModel) (c : Choice) (also_ignored : List DepKind) (k : KeptCrates N E) : Type 0 where
   pub setting : SettingModel
   pub chosen : IsSettingOf c also_ignored setting
   pub kept : (i : Id) → KeepsCrate m setting i ↔ Contains (map id_of (ids_of k)) i
 
--- the three builds by which it is known what crates are used for
+-- the three builds that show what crates are used for
 pub record AreBuildsOf (m : MetadataModel) (c : Choice) (b : Builds) : Type 0 where
   pub all : IsBuildOf m c [] b.all
   pub without_dev : IsBuildOf m c (Dev ∷ []) b.without_dev

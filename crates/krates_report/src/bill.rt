@@ -12,7 +12,7 @@ use percent_encoding::{AsciiSet, NON_ALPHANUMERIC, utf8_percent_encode};
 use serde_json::Value;
 use std::alloc::{AllocError, Global};
 
-/// What a package url escapes: all but letters, digits and `-._~` (purl specification, "Character encoding").
+/// What a package url escapes: all except letters, digits and `-._~` (purl specification, "Character encoding").
 fn escaped() -> AsciiSet {
     NON_ALPHANUMERIC
         .remove(b'-')
@@ -37,7 +37,7 @@ pub struct Bill<'a> {
 }
 
 impl<'a> Bill<'a> {
-    /// That of these builds. The only refusal is running out of memory. Time: O(n log n + e log e) for n crates and e edges.
+    /// The bill of these builds. The only refusal is running out of memory. Time: O(n log n + e log e) for n crates and e edges.
     pub fn of(alloc: Global, builds: &'a Builds) -> Result<Bill<'a>, AllocError> {
         let materials = materials(alloc, &builds.all)?;
         Ok(Bill { builds, materials })
@@ -115,7 +115,7 @@ fn scope_of(usage: Use) -> &'static str {
     }
 }
 
-/// The list of a licence that is an expression, in which an old `/` stands for `OR` (Cargo Book, "The license and license-file fields").
+/// The list of a licence that is an expression, in which an old `/` means `OR` (Cargo Book, "The license and license-file fields").
 fn expression_json(alloc: Global, expression: &str) -> Result<Value, AllocError> {
     let expression = string(expression.replace(alloc, "/", " OR "));
     let licence = JsonObject::new(alloc).put("expression", expression);

@@ -1,4 +1,4 @@
-//! The builds of which answers are made.
+//! The builds from which answers are made.
 
 ghost use Rattle.std.specs.Prelude.{IfOk};
 ghost use Rattle.krates_cm.specs.Document.{metadata_view};
@@ -10,7 +10,7 @@ use krates_answers::crate_uses::Builds;
 use krates_words::Choice;
 use std::alloc::{AllocError, Global};
 
-/// The graph of a document under a choice, where dependencies of these kinds are ignored too. It is refused as `Build` where the
+/// The graph of a document under a choice, with dependencies of these kinds ignored too. It is refused as `Build` where the
 /// document can't be built; it may instead return `Memory`. Time: that of `build_with_metadata`.
 pub fn built(
     alloc: Global,
@@ -33,7 +33,7 @@ pub fn built(
     }
 }
 
-/// The same of a copy of the document.
+/// The same for a copy of the document.
 fn copy_built(
     alloc: Global,
     choice: &Choice,
@@ -46,7 +46,7 @@ fn copy_built(
     built(alloc, choice, also_ignored, copy)
 }
 
-/// The three builds of a document by which it is known what crates are used for. It is refused as `built` is.
+/// The three builds of a document that show what its crates are used for. It is refused as `built` is. Time: three times that of `built`.
 pub fn builds(alloc: Global, choice: &Choice, metadata: Metadata) -> Result<Builds, ReportError>
     ensures { IfOk result (AreBuildsOf (metadata_view metadata) choice.now) }
 {
@@ -55,7 +55,7 @@ pub fn builds(alloc: Global, choice: &Choice, metadata: Metadata) -> Result<Buil
     builds
 }
 
-/// The same of copies of the document.
+/// The same for copies of the document.
 fn builds_of_copies(
     alloc: Global,
     choice: &Choice,

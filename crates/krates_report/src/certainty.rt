@@ -7,7 +7,7 @@ use krates::Package;
 use serde_json::Value;
 use std::alloc::{AllocError, Global};
 
-/// Whether a package is certain not to be reached.
+/// Whether it is certain that a package isn't reached.
 #[derive(Drop)]
 pub struct Certainty<'a> {
     /// The package.

@@ -5,7 +5,7 @@ use krates::path::parent;
 use krates::{Kid, Package};
 use std::fmt;
 
-/// `NAME vVERSION`, as `cargo tree` writes it, with ` (proc-macro)` behind a library of procedural macros, and behind a package that
+/// `NAME vVERSION`, as `cargo tree` writes it, with ` (proc-macro)` after a library of procedural macros, and after a package that
 /// isn't from a registry where it is: its directory or the url of its git repository, in brackets.
 #[derive(Clone, Copy)]
 pub struct ShortName<'a>(pub &'a Package);
@@ -60,7 +60,7 @@ fn place_of(krate: &Package) -> Option<&str> {
     }
 }
 
-/// The url of a source: what stands behind its kind.
+/// The url of a source: the part after its kind.
 pub(crate) fn url_of(source: &Source) -> &str {
     match source.repr.as_str().split_once('+') {
         Some((_, url)) => url,

@@ -11,7 +11,7 @@ use krates_answers::difference::{DependencyEdge, lacking, lost_dependencies};
 use serde_json::Value;
 use std::alloc::{AllocError, Global};
 
-/// What one graph has and another lacks, both ways.
+/// What one graph has and another lacks, in both directions.
 #[derive(Drop)]
 pub struct Difference<'a> {
     /// The crates that only the first keeps, by number.
@@ -22,12 +22,12 @@ pub struct Difference<'a> {
     pub removed_dependencies: Vec<DependencyEdge<'a>>,
     /// The direct dependencies that only the second has.
     pub added_dependencies: Vec<DependencyEdge<'a>>,
-    /// The names under which crates went and others came.
+    /// The names for which some crates were removed and others added.
     pub changed: Vec<Changed<'a>>,
 }
 
 impl<'a> Difference<'a> {
-    /// What stands between two graphs. The only refusal is running out of memory. Time O((n + e) log (n + e)) for n crates and e
+    /// What differs between two graphs. The only refusal is running out of memory. Time O((n + e) log (n + e)) for n crates and e
     /// edges of both.
     pub fn between(
         alloc: Global,
@@ -76,7 +76,7 @@ fn versions_json(alloc: Global, versions: &[&Version]) -> Result<Value, AllocErr
     values.list()
 }
 
-/// What JSON says of a name under which versions changed.
+/// What JSON says about a name whose versions changed.
 fn changed_json(alloc: Global, changed: &Changed<'_>) -> Result<Value, AllocError> {
     JsonObject::new(alloc)
         .text("name", changed.name)
@@ -131,7 +131,7 @@ fn dependencies_json(
 }
 
 impl Difference<'_> {
-    /// The names under which versions changed.
+    /// The names whose versions changed.
     fn changed_json(&self, alloc: Global) -> Result<Value, AllocError> {
         let mut values = Values::new(alloc);
         for changed in &self.changed {
@@ -142,7 +142,7 @@ impl Difference<'_> {
 }
 
 impl Shown for Difference<'_> {
-    /// A line `~ NAME VERSION -> VERSION` for each name under which versions changed; then `- ` and each crate that only the first
+    /// A line `~ NAME VERSION -> VERSION` for each name whose versions changed; then `- ` and each crate that only the first
     /// graph keeps, and `+ ` and each that only the second does; then the same of direct dependencies, `PARENT -> CHILD`.
     fn text(&self, alloc: Global) -> Result<String, AllocError> {
         let mut lines = String::new(alloc);

@@ -15,7 +15,7 @@ pub enum ReportError {
     Naming(NamingError),
     /// The checker doesn't say yes.
     Check(CheckError),
-    /// A second document is asked about, and there is none.
+    /// A second document is required, and there is none.
     NoOther,
     /// Memory ran out.
     Memory,

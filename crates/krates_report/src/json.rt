@@ -1,6 +1,6 @@
 //! JSON objects and lists, value by value.
 //!
-//! That memory ran out for a value is told where the object or the list is asked for, and not at each value: so a long object is made
+//! That memory ran out for a value is reported when the object or the list is finished, not at each value, so a long object can be built
 //! without an exit for each key.
 
 use serde_json::{Map, Value, push, put};
@@ -37,7 +37,7 @@ impl JsonObject {
         self.put(key, value)
     }
 
-    /// Adds a value; whether there was memory for it.
+    /// Adds a value, and returns whether there was memory for it.
     fn has_put(&mut self, key: &'static str, value: Result<Value, AllocError>) -> bool {
         match value {
             Ok(value) => put(&mut self.members, self.alloc, key, value).is_ok(),
@@ -77,7 +77,7 @@ impl Values {
         self.is_whole = self.has_added(value) && self.is_whole;
     }
 
-    /// Adds a value; whether there was memory for it.
+    /// Adds a value, and returns whether there was memory for it.
     fn has_added(&mut self, value: Result<Value, AllocError>) -> bool {
         match value {
             Ok(value) => push(&mut self.values, value).is_ok(),

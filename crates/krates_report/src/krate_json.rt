@@ -36,7 +36,7 @@ pub(crate) fn krates_json(
     values.list()
 }
 
-/// The ids of the crates of these numbers.
+/// The ids of the crates with these numbers.
 pub(crate) fn ids_json(
     alloc: Global,
     krates: &Krates,

@@ -13,7 +13,7 @@ use std::alloc::{AllocError, Global};
 pub struct List<'a> {
     /// The graph.
     pub krates: &'a Krates,
-    /// Whether the text has their ids in place of their names.
+    /// Whether the text has their ids instead of their names.
     pub has_ids: bool,
 }
 

@@ -28,7 +28,7 @@ use std::alloc::{AllocError, Global};
 pub struct Report {
     /// The lines, or the JSON.
     pub text: String,
-    /// Whether what was asked is so: false only where a crate is asked to be unreachable and isn't.
+    /// Whether the answer is yes: false only if it was asked whether a crate is unreachable, and it isn't.
     pub is_yes: bool,
 }
 
@@ -63,7 +63,7 @@ impl Others {
         }
     }
 
-    /// The graph that is built of a document under a setting, and the packages that it doesn't keep.
+    /// The graph that is built from a document under a setting, and the packages that it doesn't keep.
     fn divided(
         mut self,
         alloc: Global,
@@ -136,7 +136,7 @@ pub struct Reporter<'a> {
 }
 
 impl<'a> Reporter<'a> {
-    /// One that answers this. Time O(1).
+    /// A reporter for this question. Time O(1).
     pub fn new(alloc: Global, asked: &'a Asked) -> Reporter<'a> {
         Reporter { alloc, asked }
     }
@@ -235,7 +235,7 @@ impl Reporter<'_> {
         self.asked.choice.setting(self.alloc, &[])
     }
 
-    /// What the graphs of two documents have alone.
+    /// What the graph of each of two documents has alone.
     fn difference(&self, first: Metadata, second: Metadata) -> Result<Report, ReportError> {
         match self.built(first) {
             Ok(first) => self.difference_from(&first, second),
@@ -269,23 +269,23 @@ impl Reporter<'_> {
         self.query_lines(&krates, ids)
     }
 
-    /// Whether a package is certain not to be reached.
+    /// Whether it is certain that a package isn't reached.
     fn unreachable(&self, metadata: Metadata, spec: &str) -> Result<Report, ReportError> {
         let answer = self.unreachable_in(&metadata, spec);
         metadata.let_go();
         answer
     }
 
-    /// The same, of a document that stays.
+    /// The same for a borrowed document.
     fn unreachable_in(&self, metadata: &Metadata, spec: &str) -> Result<Report, ReportError> {
         let divided = self.divided(metadata.clone()?)?;
         self.certainty(metadata, &divided, spec)
     }
 }
 
-/// What is printed of what was built. Nothing large is owned here, so that no refusal has to let it go.
+/// What is printed of what was built. Nothing large is owned here, so that no refusal has to drop it.
 impl Reporter<'_> {
-    /// What a word that asks for the graph alone is answered: the kept crates, the names that several of them have, their licences, or
+    /// The answer to a word about the graph alone: the kept crates, the names that several of them have, their licences, or
     /// the drawn graph, number by number.
     fn in_graph(&self, krates: &Krates) -> Result<Report, ReportError> {
         match &self.asked.word {
@@ -300,7 +300,7 @@ impl Reporter<'_> {
         }
     }
 
-    /// What a word about one crate is answered: the tree of what it needs or of those that need it, why it is kept, its enabled features,
+    /// The answer to a word about one crate: the tree of what it needs or of those that need it, why it is kept, its enabled features,
     /// or a certificate.
     fn in_divided(&self, divided: &Divided) -> Result<Report, ReportError> {
         match &self.asked.word {
@@ -309,7 +309,7 @@ impl Reporter<'_> {
             Word::Why { spec, steps } => self.why_in(divided, spec.as_str(), *steps),
             Word::Features { spec } => self.features_in(divided, spec.as_str()),
             Word::Certify { spec } => self.certificate_in(divided, spec.as_ref()),
-            // no other word comes here but one that lacks its second document
+            // the only other word that comes here is one that lacks its second document
             _ => Err(ReportError::NoOther),
         }
     }
@@ -382,7 +382,7 @@ impl Reporter<'_> {
         Ok(Report::yes(lines))
     }
 
-    /// Whether a package is certain not to be reached.
+    /// Whether it is certain that a package isn't reached.
     fn certainty(
         &self,
         metadata: &Metadata,
@@ -404,14 +404,14 @@ impl Reporter<'_> {
         Ok(answer)
     }
 
-    /// Whether a package is certain not to be reached, by these facts.
+    /// Whether it is certain, by these facts, that a package isn't reached.
     fn is_unreachable(
         &self,
         metadata: &Metadata,
         facts: &[Fact],
         package: &Package,
     ) -> Result<bool, ReportError> {
-        // each id of a document that is built is read, so that only memory may lack
+        // each id of a document that is built is read, so only memory can be lacking
         let Ok(kid) = Kid::try_from(package.id.clone()?) else {
             return Err(ReportError::Memory);
         };
@@ -419,7 +419,7 @@ impl Reporter<'_> {
         Ok(is_unreachable(metadata, &builder, facts, &kid)?)
     }
 
-    /// The certificate that is asked for, as JSON.
+    /// The requested certificate, as JSON.
     fn certificate_in(
         &self,
         divided: &Divided,
@@ -430,7 +430,7 @@ impl Reporter<'_> {
         Ok(Report::yes(text))
     }
 
-    /// The certificate that is asked for.
+    /// The requested certificate.
     fn certificate_of(
         &self,
         divided: &Divided,
@@ -449,7 +449,7 @@ impl Reporter<'_> {
         }
     }
 
-    /// The steps that lead to the crate that is asked for, if one is and it is kept.
+    /// The steps that lead to the crate in question, if there is one and it is kept.
     fn derivation(
         &self,
         divided: &Divided,

@@ -24,7 +24,7 @@ fn first_used<'a>(derivation: &'a Derivation, step: &Step) -> Option<&'a Step> {
     derivation.steps.get(*used)
 }
 
-/// The step of a number, with what it uses first.
+/// The step with a number, with what it uses first.
 fn sentence_at(derivation: &Derivation, number: usize) -> Option<StepSentence<'_>> {
     let step = derivation.steps.get(number)?;
     let from = first_used(derivation, step);
@@ -43,7 +43,7 @@ fn fact_of(step: Option<&Step>) -> Option<&Fact> {
     }
 }
 
-/// What stands behind a dependency that isn't normal.
+/// What follows a dependency that isn't normal.
 fn purpose(kind: DepKind) -> &'static str {
     match kind {
         DepKind::Normal => "",
@@ -120,7 +120,7 @@ impl StepSentence<'_> {
         }
     }
 
-    /// Adds the feature that asks for an optional dependency.
+    /// Adds the feature that enables an optional dependency.
     fn push_asking(&self, lines: &mut String) -> Result<(), AllocError> {
         match fact_of(self.from) {
             Some(Fact::Feature { name, .. }) => write!(lines, ", for its feature `{name}`"),

@@ -3,7 +3,7 @@
 use serde_json::Value;
 use std::alloc::{AllocError, Global};
 
-/// An answer that can be shown. Each form is made whole, and can only run out of memory.
+/// An answer that can be shown. Each form is complete, and the only error is running out of memory.
 pub trait Shown {
     /// The lines that people read.
     fn text(&self, alloc: Global) -> Result<String, AllocError>;
@@ -12,7 +12,7 @@ pub trait Shown {
     fn json(&self, alloc: Global) -> Result<Value, AllocError>;
 }
 
-/// What is printed of an answer: its text, or its JSON, indented, as one value with a line break behind it.
+/// What is printed of an answer: its text, or its JSON, indented, as one value with a line break after it. Time: that of the form.
 pub fn printed<T: Shown>(alloc: Global, answer: &T, is_json: bool) -> Result<String, AllocError> {
     if !is_json {
         return answer.text(alloc);
@@ -20,7 +20,7 @@ pub fn printed<T: Shown>(alloc: Global, answer: &T, is_json: bool) -> Result<Str
     pretty(alloc, answer.json(alloc))
 }
 
-/// The indented text of a value, with a line break behind it, if there was memory to make the value.
+/// The indented text of a value, with a line break after it, if there was memory to make the value.
 pub(crate) fn pretty(
     alloc: Global,
     value: Result<Value, AllocError>,

@@ -21,7 +21,7 @@ pub struct Tree<'a> {
 }
 
 impl<'a> Tree<'a> {
-    /// The tree below roots of what they need. The only refusal is running out of memory.
+    /// The tree of what roots need, below them. The only refusal is running out of memory. Time: that of `DirectLinks::dependencies` and `tree`.
     pub fn of_dependencies(
         alloc: Global,
         krates: &'a Krates,
@@ -36,7 +36,7 @@ impl<'a> Tree<'a> {
         })
     }
 
-    /// The tree below roots of those that need them. The only refusal is running out of memory.
+    /// The tree of those that need roots, below them. The only refusal is running out of memory. Time: that of `DirectLinks::dependents` and `tree`.
     pub fn of_dependents(
         alloc: Global,
         krates: &'a Krates,
@@ -51,7 +51,7 @@ impl<'a> Tree<'a> {
         })
     }
 
-    /// Whether what a line's crate leads to stands below another line.
+    /// Whether what a line's crate leads to is below another line.
     fn is_repeated(&self, line: &TreeLine) -> bool {
         match self.links.of(line.krate) {
             Some(list) => !line.is_opened && !list.is_empty(),
@@ -59,8 +59,8 @@ impl<'a> Tree<'a> {
         }
     }
 
-    /// Adds a line behind what is drawn before it. For each line that it stands below, the margin's first, `goes_on` says whether more
-    /// follows below the same parent; those that it doesn't stand below are forgotten, and it is noted itself.
+    /// Adds a line after what is drawn before it. For each line that it is below, the margin's first, `goes_on` says whether more
+    /// follows below the same parent; those that it isn't below are forgotten, and it is noted itself.
     fn push_drawn(
         &self,
         line: &TreeLine,
@@ -101,7 +101,7 @@ impl<'a> Tree<'a> {
     }
 }
 
-/// For each line, whether it is the last below its parent: no later line stands as far in before one that stands less far in.
+/// For each line, whether it is the last below its parent: no later line is indented as far before one that is indented less.
 fn are_last(alloc: Global, lines: &[TreeLine]) -> Result<Vec<bool>, AllocError> {
     let mut are_last = Vec::new(alloc);
     let mut has_later = Vec::new(alloc);
@@ -115,7 +115,7 @@ fn are_last(alloc: Global, lines: &[TreeLine]) -> Result<Vec<bool>, AllocError> 
     Ok(are_last)
 }
 
-/// Makes a list this long: cut, or filled up with no.
+/// Makes a list this long: cut, or padded with no.
 fn fit(flags: &mut Vec<bool>, len: usize) -> Result<(), AllocError> {
     flags.truncate(len);
     for _ in flags.len()..len {
@@ -137,7 +137,7 @@ fn push_branches(goes_on: &[bool], is_last: bool, lines: &mut String) -> Result<
 
 impl Shown for Tree<'_> {
     /// A line for each crate below its parent, drawn as `cargo tree` draws it: ` (*)` says that what the crate leads to is written
-    /// above. An empty line stands before each root but the first.
+    /// above. An empty line comes before each root except the first.
     fn text(&self, alloc: Global) -> Result<String, AllocError> {
         let are_last = are_last(alloc, &self.lines)?;
         let mut goes_on = Vec::new(alloc);

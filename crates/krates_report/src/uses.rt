@@ -16,7 +16,7 @@ pub struct UsedKrates<'a> {
 }
 
 impl<'a> UsedKrates<'a> {
-    /// Those by these builds.
+    /// The crates of these builds with their uses.
     pub(crate) fn of(alloc: Global, builds: &'a Builds) -> Result<UsedKrates<'a>, AllocError> {
         let used = builds.uses(alloc)?;
         Ok(UsedKrates { used })

@@ -16,7 +16,7 @@ pub struct Why<'a> {
     pub krate: &'a Package,
     /// A derivation that ends in it.
     pub derivation: Derivation,
-    /// Whether the text has the steps in place of sentences.
+    /// Whether the text has the steps instead of sentences.
     pub has_steps: bool,
 }
 
@@ -67,7 +67,7 @@ impl Shown for Why<'_> {
     }
 }
 
-/// An enabled feature, and why it is.
+/// An enabled feature, and why it is enabled.
 #[derive(Drop)]
 pub struct ExplainedFeature<'a> {
     /// Its name.

@@ -13,7 +13,7 @@ use Rattle.krates_rules.proofs.Readings.{ReadsOnce}
 pub of_graph : (m : MetadataModel) (P : ResolveModel → Type 0) (g : ResolveModel) → m.resolve ≡ Some g → HasGraphWith m P → P g
 of_graph m P g has h = subst P (same_Some h.graph g (sym h.has_graph ∙ has)) h.holds
 
--- what stands beside an element of related lists
+-- the counterpart of an element in related lists
 beside : {A B : Type 0} (R : A → B → Type 0) (xs : List A) (ys : List B) (x : A) (k : ℕ) → AllZip R xs ys → k < length xs → get_or xs k x ≡ x
     → (y : B) × Contains ys y × R x y
 beside R [] ys x k zip lt is = absurd (omega arith)
@@ -23,7 +23,7 @@ beside R (a ∷ xs) (b ∷ ys) x (suc k) zip lt is =
     let w = beside R xs ys x k zip.1 (omega arith) is in
     (w.0, (suc w.1.0, omega (arith, w.1.1), w.1.2), w.2)
 
--- an id of a dependency that stands among the nodes, with its version
+-- an id of a dependency that is among the nodes, with its version
 dep_id : (m : MetadataModel) (g : ResolveModel) (ids : IdsModel) (n : NodeModel) (t : Text) → AreIdsOf m g ids → Contains g.nodes n → Contains (dep_texts n) t
     → (i : Identity) × Reads t i × ((v : VersionModel) × HasThisVersion i v)
 dep_id m g ids n t are node dep =

@@ -1,4 +1,4 @@
--- A list of ids, gone over with a set of those seen before: none stands twice.
+-- A list of ids, traversed with a set of those seen before: none occurs twice.
 use Rattle.std.proofs.Common.{◌≡◌, ℕ, zero, suc, ◌+◌, ◌<◌, ◌≤◌, List, [], ◌∷◌, ◌++◌, length, get_or, take, Bool, true, false, ◌||◌, Some, not, Ordering, Less, Equal, Greater, refl, sym, ap, ◌∙◌, inl, inr, arith, subst, ◌↔◌, Bor}
 use Rattle.std.proofs.Math.Bool.{or_assoc, or_comm}
 use Rattle.std.proofs.lemmas.Bool.{cases_lt}
@@ -129,7 +129,7 @@ get_take (x ∷ xs) zero k a h = absurd cc
 get_take (x ∷ xs) (suc i) zero a h = (omega arith, h)
 get_take (x ∷ xs) (suc i) (suc k) a h = let w = get_take xs i k a h in (omega (arith, w.0), w.1)
 
--- an id that was seen before stands twice
+-- an id that was seen before occurs twice
 pub seen_twice : OrderTellsSame → (ids : List Identity) (i : ℕ) (x : Identity) → i < length ids → x ≡ get_or ids i x → has_id (take i ids) x ≡ true → IsDoubledAmong ids (id_of x)
 seen_twice tells ids i x lt is has =
     let w = place_of (take i ids) x has in

@@ -40,7 +40,7 @@ contained_derived q steps each x (k, lt, is) = subst (λ (y : StepModel). Deriva
 
 -- ---- parts
 
--- a chosen step stands in the part, with its fact
+-- a chosen step is in the part, with its fact
 in_part : (steps : List StepModel) (chosen : List ℕ) (part : List StepModel) → IsPart steps chosen part → (u v : ℕ) (old : StepModel) → slice_get chosen v ≡ Some u → slice_get steps u ≡ Some old
     → (x : StepModel) × (slice_get part v ≡ Some x) × (x.fact ≡ old.fact)
 in_part steps chosen part p u v old here at =
@@ -53,7 +53,7 @@ in_part steps chosen part p u v old here at =
     let same : old ≡ r.old = same_Some old r.old (sym at ∙ ap (λ n. slice_get steps n) number ∙ r.at) in
     (x, there, r.fact ∙ ap (λ (y : StepModel). y.fact) (sym same))
 
--- of two chosen steps the earlier one stands first
+-- of two chosen steps the earlier one comes first
 pub before_by : (chosen : List ℕ) → Increase chosen → (j k a b : ℕ) → slice_get chosen j ≡ Some a → slice_get chosen k ≡ Some b → a < b → j < k
 before_by chosen up j k a b one other lt = elim (cases_order j k) [
   | inl e ↦ absurd (omega (arith, lt, same_Some a b (sym one ∙ ap (λ i. slice_get chosen i) e ∙ other)))
@@ -89,7 +89,7 @@ part_follows q steps chosen part p each j x here =
 
 -- ---- a list that grows
 
--- what stands in a list stands at the same place after it has grown
+-- what is in a list is at the same place after it has grown
 grown_at : (steps more : List StepModel) (k : ℕ) (x : StepModel) → slice_get steps k ≡ Some x → slice_get (steps ++ more) k ≡ Some x
 grown_at [] more k x at = absurd cc
 grown_at (y ∷ ys) more zero x at = at

@@ -1,4 +1,4 @@
--- A text that stands twice in a list stands twice in any permutation of it.
+-- A text that occurs twice in a list occurs twice in any permutation of it.
 use Rattle.std.proofs.Common.{◌≡◌, ◌≢◌, ◌⊎◌, inl, inr, ℕ, ◌<◌, List, length, get_or, Some, slice_get, swap, refl, sym, ap, ◌∙◌, arith, IsPermutation}
 use Rattle.std.proofs.lemmas.Bool.{cases_eq, cases_order}
 use Rattle.std.proofs.lemmas.List.Edits.{Swapped, swapped_from_swap}
@@ -34,7 +34,7 @@ goes_apart i j k m l n (inr (inr a)) (inl b) e = absurd (a.1 (omega (arith, a.2,
 goes_apart i j k m l n (inr (inr a)) (inr (inl b)) e = absurd (a.0 (omega (arith, a.2, b.2, e)))
 goes_apart i j k m l n (inr (inr a)) (inr (inr b)) e = omega (arith, a.2, b.2, e)
 
--- each element then stands at its new place
+-- each element is then at its new place
 gone : {X : Type 0} (xs : List X) (i j k m : ℕ) (x : X) → i < length xs → j < length xs → Goes i j k m
     → slice_get xs k ≡ Some x → slice_get (swap xs i j) m ≡ Some x
 gone xs i j k m x p q g here = slice_get-get_or (swap xs i j) m x (within g) ∙ ap (λ y. Some y) (moved g ∙ is)
@@ -61,7 +61,7 @@ gone xs i j k m x p q g here = slice_get-get_or (swap xs i j) m x (within g) ∙
     moved (inr (inl a)) = ap (λ n. get_or (swap xs i j) n x) a.2 ∙ swapped.0 ∙ ap (λ n. get_or xs n x) (sym a.1)
     moved (inr (inr a)) = ap (λ n. get_or (swap xs i j) n x) a.2 ∙ swapped.2 k a.0 a.1
 
--- two elements that stand at different places
+-- two elements at different places
 record StandApart {X : Type 0} (xs : List X) (a b : X) : Type 0 where
   one : ℕ
   other : ℕ
@@ -109,7 +109,7 @@ twice xs id j k a b lt at_first at_second one other = record {
   other_holds = other;
 }
 
--- what stands twice still does
+-- what occurs twice still does
 pub twice_moved : (xs ys : List Text) (id : Id) → IsPermutation xs ys → IsDoubledIn xs id → IsDoubledIn ys id
 twice_moved xs ys id moved t =
     let s = apart_moved xs ys t.one t.other moved (as_apart xs id t) in

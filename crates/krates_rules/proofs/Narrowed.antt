@@ -17,7 +17,7 @@ use Rattle.krates_rules.specs.Setting.{SettingModel, IsExcluded, IsIgnored, of_m
 use Rattle.krates_rules.proofs.AnyTarget.{passes_anywhere}
 use Rattle.krates_rules.proofs.DerivationLaws.{Within, derivable_within}
 
--- ---- settings that ask for the same crates have the same roots
+-- ---- settings that select the same crates as roots have the same roots
 
 workspace_same : (r : Resolved) (s z : SettingModel) → s.manifests ≡ z.manifests → AsksForWorkspace r s → AsksForWorkspace r z
 workspace_same r s z same w = record {
@@ -52,7 +52,7 @@ root_same r s z i same all (of_manifests not member h) =
 
 -- ---- settings that leave out more
 
--- the second asks for the same crates, and leaves out all that the first does
+-- the second selects the same crates as roots, and leaves out all that the first does
 record LeavesOut (r : Resolved) (wide narrow : SettingModel) : Type 0 where
   manifests : narrow.manifests ≡ wide.manifests
   workspace : narrow.workspace ≡ wide.workspace
@@ -141,7 +141,7 @@ leaves_out r wide _ (asks_targets targets none) = record {
   means = λ i name c x. x;
 }
 
--- a name that means only the least crate that answers to it means no more than one that means them all
+-- a name that means only the least crate that matches it means no more than one that means them all
 means_all : (r : Resolved) (i : Id) (name : Text) (c : Id) → IsReferent r false i name c → IsReferent r true i name c
 means_all r i name c x = record { is_named = x.is_named; least = λ off. absurd cc }
 

@@ -8,11 +8,11 @@ use Rattle.krates_rules.specs.Admission.{IsDoubledIn, NoneDoubled, doubled_packa
 use Rattle.krates_rules.specs.Facts.{Id}
 use Rattle.krates_rules.specs.Resolved.{NodeAt, Resolved, ReadsAs, HasPackage, HasNode, HasDep}
 
--- an element of a list stands at some place
+-- an element of a list is at some place
 pub place_in : {A : Type 0} (xs : List A) (x : A) → Contains xs x → (k : ℕ) × (slice_get xs k ≡ Some x)
 place_in xs x (k, lt, is) = (k, slice_get-get_or xs k x lt ∙ ap (λ y. Some y) is)
 
--- texts that read as one id stand at one place
+-- texts that read as one id are at one place
 one_place : (texts : List Text) (i : Id) → (IsDoubledIn texts i → ⊥) → (j k : ℕ) (t u : Text) → slice_get texts j ≡ Some t → ReadsAs t i → slice_get texts k ≡ Some u → ReadsAs u i → j ≡ k
 one_place texts i none j k t u a ra b rb = elim (cases_order j k) [
   | inl e ↦ e
@@ -22,7 +22,7 @@ one_place texts i none j k t u a ra b rb = elim (cases_order j k) [
   ]
 ]
 
--- elements whose texts read as one id are the same, and stand at one place
+-- elements whose texts read as one id are the same, and at one place
 one_element : {A : Type 0} (text : A → Text) (xs : List A) (i : Id) → (IsDoubledIn (map text xs) i → ⊥) → (j k : ℕ) (x y : A) → slice_get xs j ≡ Some x → ReadsAs (text x) i → slice_get xs k ≡ Some y → ReadsAs (text y) i
     → (j ≡ k) × (x ≡ y)
 one_element text xs i none j k x y a ra b rb =
@@ -41,7 +41,7 @@ one_node r i n m none a b =
     let bt = place_in r.graph.nodes m b.among in
     (one_element (λ (n : NodeModel). n.id) r.graph.nodes i (λ t. none i (doubled_node t)) at.0 bt.0 n m at.1 a.id bt.1 b.id).1
 
--- so a node of an id stands at one place
+-- so a node of an id is at one place
 pub one_node_place : (r : Resolved) (i : Id) (j k : ℕ) → NoneDoubled r.metadata r.graph → NodeAt r i j → NodeAt r i k → j ≡ k
 one_node_place r i j k none a b = (one_element (λ (n : NodeModel). n.id) r.graph.nodes i (λ t. none i (doubled_node t)) j k a.node b.node a.at a.id b.at b.id).0
 

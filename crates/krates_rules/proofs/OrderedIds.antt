@@ -58,7 +58,7 @@ none_equal ord xs i p k d lt e = elim (cases_lt k i) [
 
 -- ---- places in a strictly sorted list
 
--- the same id doesn't stand at an earlier place
+-- the same id isn't at an earlier place
 pub not_earlier : Compares → (ids : List Identity) → IsStrictlySortedBy id_cmp ids → (i j : ℕ) (d : Identity) → i < j → j < length ids → id_of (get_or ids i d) ≡ id_of (get_or ids j d) → ⊥
 not_earlier o ids s i j d lt within e =
     let less = Less-from_sorted id_cmp ids i j d s lt within in

@@ -1,4 +1,4 @@
--- An element that is put into a set, behind the list of those that were put before.
+-- An element that is put into a set, after the list of those that were put before.
 use Rattle.std.proofs.Common.{◌≡◌, ◌↔◌, List, [], ◌∷◌, ◌++◌, Bool, true, false, cond, IsTrue, Ordering, Less, Equal, Greater, Contains, inl, inr, refl, subst, arith}
 use Rattle.std.proofs.lemmas.List.Elements.{Contains-append_left, Contains-push, Contains-push_cases}
 use Rattle.std.specs.Ordering.{is_eq}

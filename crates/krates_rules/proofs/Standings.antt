@@ -10,7 +10,7 @@ use Rattle.krates_rules.specs.Questions.{IsIncluded, Stands, LacksNode, IsLeftOu
 use Rattle.krates_rules.specs.Setting.{SettingModel, IsExcluded}
 use Rattle.krates_rules.proofs.OnlyOne.{one_package}
 
--- what stands at a place is in the list
+-- what is at a place is in the list
 pub contains_at : {A : Type 0} (xs : List A) (k : ℕ) (x : A) → slice_get xs k ≡ Some x → Contains xs x
 contains_at xs k x h = (k, slice_get_within xs k x h, get_or_from_slice_get xs k x x h)
 

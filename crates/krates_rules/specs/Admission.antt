@@ -8,7 +8,7 @@ use Rattle.krates_ids.specs.Identity.{Identity, Reads}
 use Rattle.krates_rules.specs.Facts.{Id}
 use Rattle.krates_rules.specs.Resolved.{ReadsAs}
 
--- ---- the texts of a document that have to be ids
+-- ---- the texts of a document that must be ids
 
 -- the id texts of the packages
 abbrev pub package_texts : MetadataModel → List Text
@@ -58,7 +58,7 @@ pub record AreIdsOf (m : MetadataModel) (g : ResolveModel) (ids : IdsModel) : Ty
 
 -- ---- texts that don't read
 
--- a text that has to be an id
+-- a text that must be an id
 pub data StandsForId (m : MetadataModel) (g : ResolveModel) (t : Text) : Type 0 where
   of_package : Contains (package_texts m) t → StandsForId m g t
   of_member : Contains m.workspace_members t → StandsForId m g t
@@ -66,14 +66,14 @@ pub data StandsForId (m : MetadataModel) (g : ResolveModel) (t : Text) : Type 0 
   of_node : Contains (node_texts g) t → StandsForId m g t
   of_dep : (n : NodeModel) → Contains g.nodes n → Contains (dep_texts n) t → StandsForId m g t
 
--- a text that has to be an id and isn't, or one of a dependency without a semantic version
+-- a text that must be an id and isn't one, or that of a dependency without a semantic version
 pub data IsInvalidId (m : MetadataModel) (g : ResolveModel) (t : Text) : Type 0 where
   unread : StandsForId m g t → ((i : Identity) → Reads t i → ⊥) → IsInvalidId m g t
   bad_version : (n : NodeModel) → Contains g.nodes n → Contains (dep_texts n) t → (i : Identity) → Reads t i → version_named i.version ≡ None → IsInvalidId m g t
 
--- ---- ids that stand twice
+-- ---- ids that occur twice
 
--- P holds of what stands at two places of a list
+-- P holds at two places of a list
 pub record HoldsTwice {A : Type 0} (P : A → Type 0) (xs : List A) : Type 0 where
   pub first : ℕ
   pub second : ℕ

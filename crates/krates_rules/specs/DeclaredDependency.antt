@@ -43,7 +43,7 @@ pub record Fits (n : DependencyEntry) (k : DepKindInfoModel) (d : DependencyMode
   pub version : VersionFits n d
   pub target : d.target ≡ k.target
 
--- the first element of a list with the property stands at this place
+-- the first element of a list with the property is at this place
 pub record FirstAt {A : Type 0} (P : A → Type 0) (xs : List A) (place : ℕ) (x : A) : Type 0 where
   pub here : slice_get xs place ≡ Some x
   pub holds : P x

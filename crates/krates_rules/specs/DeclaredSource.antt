@@ -12,15 +12,15 @@ use Rattle.krates_text.specs.Text.{BeginsWith}
 
 -- ---- a declared path
 
--- how the source of a package begins that lies in a directory
+-- how the source of a package in a directory begins
 abbrev pub path_start : Text
 path_start = codes "path+file://"
 
--- '\', which stands between the names of a path on Windows
+-- '\', which separates the names of a path on Windows
 abbrev pub backslash : ℕ
 backslash = 92
 
--- what stands before, between and after the backslashes, empty texts too
+-- the parts before, between and after the backslashes, empty ones too
 abbrev pub between_backslashes : Text → List Text
 between_backslashes path = slice_split (λ byte. byte == backslash) path
 
@@ -45,11 +45,11 @@ pub record IsPathOf (path source : Text) : Type 0 where
 
 -- ---- a declared source
 
--- what stands before the last '#', or the whole text where it has none
+-- the part before the last '#', or the whole text where it has none
 abbrev pub IsWithoutCommit : Text → Text → Type 0
 IsWithoutCommit text front = ((commit : Text) × LastCut hash_sign text front commit) ⊎ (Lacks hash_sign text × (front ≡ text))
 
--- the declared source is git's, and the id is opaque, as a text with a blank is: then the id's source has no commit
+-- the declared source is git's, and the id is opaque, as a text with a space is: then the id's source has no commit
 abbrev pub LosesCommit : Text → Text → Type 0
 LosesCommit id declared = BeginsWith git declared × Has blank id
 

@@ -11,7 +11,7 @@ underscore = 95
 abbrev pub hyphen : ℕ
 hyphen = 45
 
--- the byte is the declared one, or stands for it: cargo resolves the name `a-b` as `a_b`
+-- the byte is the declared one, or may replace it: cargo resolves the name `a-b` as `a_b`
 abbrev pub IsByteOf : ℕ → ℕ → Type 0
 IsByteOf resolved declared = (resolved ≡ declared) ⊎ ((resolved ≡ underscore) × (declared ≡ hyphen))
 

@@ -1,4 +1,4 @@
--- What is printed of facts, of steps, and of derivations, a step a line.
+-- What is printed of facts, of steps, and of derivations, one step per line.
 use Rattle.std.specs.Prelude.{ℕ, ◌+◌, List, [], ◌∷◌, ◌++◌, Option, Some, None, codes, option_map}
 use Rattle.std.specs.Fmt.{decimal}
 use Rattle.krates_cm.specs.Document.{Text, text_view}
@@ -19,7 +19,7 @@ abbrev pub cfg_suffix : Option Text → Text
 cfg_suffix None = []
 cfg_suffix (Some cfg) = codes " '" ++ (cfg ++ codes "'")
 
--- a fact; its ids stand by their texts, and of a toggled feature its crate comes first
+-- a fact; its ids are shown by their texts, and for a toggled feature its crate comes first
 abbrev pub fact_text : Fact → Text
 fact_text (facts.Crate krate) = codes "crate " ++ krate.text
 fact_text (facts.Feature krate name) = codes "feature " ++ (text_view name ++ (codes " of " ++ krate.text))
@@ -28,7 +28,7 @@ fact_text (facts.Kept parent child kind cfg) =
 fact_text (facts.Toggled parent child name) =
     codes "toggled " ++ (text_view name ++ (codes " of " ++ (child.text ++ (codes " by " ++ parent.text))))
 
--- further numbers, each behind a comma
+-- further numbers, each after a comma
 abbrev pub further_uses : List ℕ → Text
 further_uses [] = []
 further_uses (used ∷ uses) = codes ", " ++ (decimal used ++ further_uses uses)
@@ -38,7 +38,7 @@ abbrev pub uses_text : List ℕ → Text
 uses_text [] = []
 uses_text (used ∷ uses) = codes " from " ++ (decimal used ++ further_uses uses)
 
--- a step, whose number stands in its derivation alone
+-- a step; its number is shown only in its derivation
 abbrev pub step_text : Step → Text
 step_text x = codes "rule " ++ (decimal x.rule ++ (codes ": " ++ (fact_text x.fact ++ uses_text x.uses.items)))
 

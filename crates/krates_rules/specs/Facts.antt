@@ -33,5 +33,5 @@ pub data Fact : Type 0 where
   Kept : (edge : Edge) → Fact
   -- a feature of the first crate enables the feature of the second
   Toggled : (by krate : Id) (name : Text) → Fact
-  -- something that the document lacks is asked for
+  -- something is required that the document lacks
   Lost : (cause : Cause) → Fact

@@ -1,4 +1,4 @@
--- The ids that a refusal names: each is one as which a text of the document is read, with all that the id shows of that text.
+-- The ids that a refusal names: each is read from a text of the document, and keeps all that an id shows of that text.
 use Rattle.std.specs.Prelude.{List, [], ◌∷◌}
 use Rattle.std.specs.List.{AllByRecursion}
 use Rattle.krates_cm.specs.Document.{MetadataModel, Text}
@@ -10,7 +10,7 @@ use Rattle.krates_ids.specs.declared.error.Lost.TheVariants as losts
 use Rattle.krates_rules.specs.Admission.{StandsForId}
 use Rattle.krates_rules.specs.Resolved.{HasGraphWith, Resolved, resolved}
 
--- a text of the document that has to be an id is read as this one
+-- a text of the document that must be an id is read as this one
 abbrev pub IsReadOf : Resolved → Identity → Type 0
 IsReadOf r id = (t : Text) × StandsForId r.metadata r.graph t × Reads t id
 

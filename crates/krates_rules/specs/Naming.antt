@@ -6,7 +6,7 @@ use Rattle.krates_rules.specs.Questions.{questions}
 use Rattle.krates_rules.specs.Resolved.{Resolved}
 use Rattle.krates_rules.specs.Setting.{SettingModel}
 
--- the setting, with a name meaning all that answer to it, or only the least
+-- the setting, with a name meaning all that match it, or only the least
 abbrev pub naming : SettingModel → Bool → SettingModel
 naming s all = record s { all_named = all }
 

@@ -16,7 +16,7 @@ use Rattle.krates_rules.specs.declared.kind.DepKind.{DepKind}
 use Rattle.krates_rules.specs.declared.kind.IgnoredKinds.{IgnoredKinds}
 use Rattle.krates_rules.specs.declared.kind.Scope.{Scope}
 
--- the second setting is the first but for one step that leaves out more
+-- the second setting is the first except for one step that leaves out more
 pub data IsNarrower (wide : SettingModel) : SettingModel → Type 0 where
   -- more packages are excluded
   excludes_more : (exclusions : List Specification) → ((spec : Specification) → Contains wide.exclusions spec → Contains exclusions spec)
@@ -24,7 +24,7 @@ pub data IsNarrower (wide : SettingModel) : SettingModel → Type 0 where
   -- one more kind is ignored, of members, of other crates, or of both
   ignores_more : (ignored : IgnoredKinds) (kind : DepKind) (scope : Scope) → IgnoresMore wide.ignored ignored kind scope
       → IsNarrower wide (record wide { ignored = ignored })
-  -- targets are asked for, where none was
+  -- targets are set, where none was
   asks_targets : (targets : List Asked) → wide.targets ≡ [] → IsNarrower wide (record wide { targets = targets })
 
 -- nothing lost is derivable

@@ -42,7 +42,7 @@ pub record ListsEdge (r : Resolved) (e : Edge) (d : NodeDepModel) : Type 0 where
   pub has_dep : HasDep node e.child d
   pub has_kind : Contains d.dep_kinds (kind_info_of e)
 
--- the edge is listed, and declared as this dependency, which stands at this place of its package's list
+-- the edge is listed, and declared as this dependency, which is at this place of its package's list
 pub record Declares (r : Resolved) (e : Edge) (place : ℕ) (d : DependencyModel) : Type 0 where
   pub dep : NodeDepModel
   pub lists : ListsEdge r e dep

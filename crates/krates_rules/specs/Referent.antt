@@ -19,7 +19,7 @@ pub record IsLibraryRename (p : PackageModel) (name : Text) : Type 0 where
   pub is : target.name ≡ name
   pub other : IsNameOf name p.name → ⊥
 
--- A dependency of a node answers to a name: to its own, or to that of its package if its own is the name of the package's library.
+-- A dependency of a node matches a name: its own, or that of its package if its own is the name of the package's library.
 pub data AnswersTo (r : Resolved) (child : Id) (d : NodeDepModel) (name : Text) : Type 0 where
   by_name : IsNameOf d.name name → AnswersTo r child d name
   by_library : {p : PackageModel} → name ≡ child.name → HasPackage r child p → IsLibraryRename p d.name → AnswersTo r child d name
@@ -28,7 +28,7 @@ pub data AnswersTo (r : Resolved) (child : Id) (d : NodeDepModel) (name : Text) 
 abbrev pub id_order : Id → Id → Ordering
 id_order = by_texts (λ i. i.name) (λ i. i.version) (λ i. i.source)
 
--- the node of the crate has this dependency, and it answers to the name
+-- the node of the crate has this dependency, and it matches the name
 pub record AnswersIn (r : Resolved) (i : Id) (name : Text) (child : Id) : Type 0 where
   pub node : NodeModel
   pub has_node : HasNode r i node
@@ -36,7 +36,7 @@ pub record AnswersIn (r : Resolved) (i : Id) (name : Text) (child : Id) : Type 0
   pub has_dep : HasDep node child dep
   pub answers : AnswersTo r child dep name
 
--- What a name means in a reference of the crate: all dependencies of its node that answer to it, or only the least of them, by id.
+-- What a name means in a reference of the crate: all dependencies of its node that match it, or only the least of them, by id.
 pub record IsReferent (r : Resolved) (all : Bool) (i : Id) (name : Text) (child : Id) : Type 0 where
   pub is_named : AnswersIn r i name child
   pub least : all ≡ false → (other : Id) → AnswersIn r i name other → id_order child other ≢ Greater

@@ -16,7 +16,7 @@ use Rattle.krates_rules.specs.Setting.{SettingModel}
 
 -- ---- documents in another order
 
--- the packages are equal, but for the order in which their features are listed
+-- the packages are equal, except for the order in which their features are listed
 pub record ReordersPackage (a b : PackageModel) : Type 0 where
   pub features : (name : Text) → named a.features name ≡ named b.features name
   pub rest : b ≡ with_features a b.features
@@ -28,15 +28,15 @@ pub record ReordersPackages (all other : List PackageModel) : Type 0 where
   pub each : AllZip ReordersPackage all packages
   pub moved : IsPermutation packages other
 
--- the nodes are equal, but for the order of their dependencies and of their features
+-- the nodes are equal, except for the order of their dependencies and of their features
 pub record ReordersNode (a b : NodeModel) : Type 0 where
   pub deps : IsPermutation a.deps b.deps
-  -- the ids of the dependencies, which stand once more beside them
+  -- the ids of the dependencies, which the node also lists on their own
   pub dependencies : IsPermutation a.dependencies b.dependencies
   pub features : IsPermutation a.features b.features
   pub rest : b ≡ record a { deps = b.deps; dependencies = b.dependencies; features = b.features }
 
--- the graphs have the same root, and the same nodes but for their order and the order within each
+-- the graphs have the same root, and the same nodes except for their order and the order within each
 pub record ReordersGraph (g h : ResolveModel) : Type 0 where
   -- the nodes of the first at their places, each as the second has it
   pub nodes : List NodeModel
@@ -48,7 +48,7 @@ pub record ReordersGraph (g h : ResolveModel) : Type 0 where
 abbrev pub ReordersResolve : Option ResolveModel → Option ResolveModel → Type 0
 ReordersResolve a b = MatchOption a (b ≡ None) (λ g. IsSomeAnd b (ReordersGraph g))
 
--- the documents are equal, but for the order of their packages and members, and of what their graphs list
+-- the documents are equal, except for the order of their packages and members, and of what their graphs list
 pub record Reorders (m n : MetadataModel) : Type 0 where
   pub packages : ReordersPackages m.packages n.packages
   pub members : IsPermutation m.workspace_members n.workspace_members

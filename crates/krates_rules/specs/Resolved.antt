@@ -30,7 +30,7 @@ pub record HasGraphWith (m : MetadataModel) (P : ResolveModel → Type 0) : Type
   pub has_graph : m.resolve ≡ Some graph
   pub holds : P graph
 
--- the document has this package, and its id is so
+-- the document has this package, and it has this id
 pub record HasPackage (r : Resolved) (i : Id) (p : PackageModel) : Type 0 where
   pub among : Contains r.metadata.packages p
   pub id : ReadsAs p.id i
@@ -39,7 +39,7 @@ pub record HasPackage (r : Resolved) (i : Id) (p : PackageModel) : Type 0 where
 abbrev pub NoPackage : Resolved → Id → Type 0
 NoPackage r i = (p : PackageModel) → HasPackage r i p → ⊥
 
--- the graph has this node, and its id is so
+-- the graph has this node, and it has this id
 pub record HasNode (r : Resolved) (i : Id) (n : NodeModel) : Type 0 where
   pub among : Contains r.graph.nodes n
   pub id : ReadsAs n.id i
@@ -48,7 +48,7 @@ pub record HasNode (r : Resolved) (i : Id) (n : NodeModel) : Type 0 where
 abbrev pub NoNode : Resolved → Id → Type 0
 NoNode r i = (n : NodeModel) → HasNode r i n → ⊥
 
--- the node has this dependency, and its id is so
+-- the node has this dependency, and it has this id
 pub record HasDep (n : NodeModel) (i : Id) (d : NodeDepModel) : Type 0 where
   pub among : Contains n.deps d
   pub id : ReadsAs d.pkg i
@@ -64,7 +64,7 @@ pub record NodeAt (r : Resolved) (i : Id) (place : ℕ) : Type 0 where
   pub at : slice_get r.graph.nodes place ≡ Some node
   pub id : ReadsAs node.id i
 
--- a package with the id stands at this place of the document
+-- a package with the id is at this place of the document
 pub record PackageAt (r : Resolved) (i : Id) (place : ℕ) : Type 0 where
   pub pkg : PackageModel
   pub at : slice_get r.metadata.packages place ≡ Some pkg
@@ -77,7 +77,7 @@ pub record DepAt (r : Resolved) (parent child : Id) (place index : ℕ) : Type 0
   pub at : slice_get node.node.deps index ≡ Some dep
   pub id : ReadsAs dep.pkg child
 
--- the id stands at this place of the list
+-- the id is at this place of the list
 pub record StandsAt (ids : List Identity) (id : Id) (place : ℕ) : Type 0 where
   pub there : Identity
   pub at : slice_get ids place ≡ Some there

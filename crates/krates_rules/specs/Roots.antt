@@ -14,11 +14,11 @@ pub record IsWorkspaceManifest (manifests : List Text) (workspace_root : Text) :
   pub is_parent : IsParent manifest parent
   pub is_root : components parent ≡ components workspace_root
 
--- one manifest is asked for, and it is that of the workspace itself
+-- one manifest is set, and it is that of the workspace itself
 abbrev pub AsksForWorkspace : Resolved → SettingModel → Type 0
 AsksForWorkspace r s = IsWorkspaceManifest s.manifests r.metadata.workspace_root
 
--- every member is asked for: by the setting, or because the graph has no root, or by the manifest of the workspace
+-- every member is a root: by the setting, or because the graph has no root, or by the manifest of the workspace
 pub data AsksForMembers (r : Resolved) (s : SettingModel) : Type 0 where
   by_setting : s.manifests ≡ [] → s.workspace ≡ true → AsksForMembers r s
   without_root : s.manifests ≡ [] → r.graph.root ≡ None → AsksForMembers r s
@@ -32,7 +32,7 @@ pub record HasManifest (r : Resolved) (s : SettingModel) (i : Id) : Type 0 where
   pub among : Contains s.manifests manifest
   pub same : components manifest ≡ components pkg.manifest_path
 
--- The graph's root if nothing is asked for; every member if all are; otherwise the members with one of the manifests.
+-- The graph's root if nothing is set; every member if all are roots; otherwise the members with one of the manifests.
 pub data IsRoot (r : Resolved) (s : SettingModel) (i : Id) : Type 0 where
   of_graph : {t : Text} → s.manifests ≡ [] → s.workspace ≡ false → r.graph.root ≡ Some t → ReadsAs t i → IsRoot r s i
   of_workspace : AsksForMembers r s → IsMember r i → IsRoot r s i

@@ -1,7 +1,7 @@
 -- The seven rules, over what they ask a document and a setting.
 --
 -- Each rule is a row with its number, the facts that it uses, in order, and the fact that it gives. The rows whose
--- fact is `Lost` say what counts as lost: the same rules, where what they ask for isn't there.
+-- fact is `Lost` say what counts as lost: the same rules, where what they require isn't there.
 use Rattle.std.specs.Prelude.{◌≡◌, ℕ, List, [], ◌∷◌, false, true, Contains, codes}
 use Rattle.krates_cm.specs.Document.{Text, DependencyModel}
 use Rattle.krates_rules.specs.Facts.{Id, Edge, LostPackage, LostNode, LostFeature, Undeclared, Fact, Crate, Feature, Kept, Toggled, Lost}
@@ -33,12 +33,12 @@ pub record Questions : Type 1 where
   -- the edge is listed, not ignored, and not declared
   pub Loose : Edge → Type 0
 
--- the edge may be kept: it is wanted, and its child stands
+-- the edge may be kept: it is wanted, and its child has a package that isn't excluded, and a node
 pub record Open (q : Questions) (e : Edge) (d : DependencyModel) : Type 0 where
   pub wanted : q.Wanted e d
   pub stands : q.Stands e.child
 
--- a reference of the parent's feature asks for the edge
+-- a reference of the parent's feature requires the edge
 pub record IsAskedFor (q : Questions) (f : Text) (e : Edge) : Type 0 where
   pub reference : Reference
   pub dep : Text
@@ -52,7 +52,7 @@ default_name = codes "default"
 
 -- a fact follows by the rule of this number from these facts, in order
 pub data Rule (q : Questions) : ℕ → List Fact → Fact → Type 0 where
-  -- 1. a root that stands is kept, and each feature that its node lists is enabled
+  -- 1. a root with a package that isn't excluded, and a node, is kept, and each feature that its node lists is enabled
   root_crate : {p : Id} → q.Root p → q.Stands p → Rule q 1 [] (Crate p)
   root_feature : {p : Id} {f : Text} → q.Root p → q.Stands p → q.Lists p f → Rule q 1 [] (Feature p f)
   lost_root_package : {p : Id} → q.Root p → q.NoPackage p → Rule q 1 [] (Lost (LostPackage p))
@@ -62,7 +62,7 @@ pub data Rule (q : Questions) : ℕ → List Fact → Fact → Type 0 where
   -- 3. an enabled feature enables the features of its crate that it names
   named : {p : Id} {f g : Text} → q.Refers p f (simple g) → q.Lists p g → Rule q 3 (Feature p f ∷ []) (Feature p g)
   lost_named : {p : Id} {f g : Text} → q.Refers p f (simple g) → q.Lacks p g → Rule q 3 (Feature p f ∷ []) (Lost (LostFeature p g))
-  -- 4. an enabled feature keeps the open edges to a dependency that it asks for, and toggles the feature that it names there
+  -- 4. an enabled feature keeps the open edges to a dependency that it requires, and toggles the feature that it names there
   asked : {e : Edge} {f : Text} {d : DependencyModel} → IsAskedFor q f e → Open q e d → Rule q 4 (Feature e.parent f ∷ []) (Kept e)
   toggled_strongly : {e : Edge} {f g c : Text} → q.Refers e.parent f (strong c g) → q.Referent e.parent c e.child → q.Lists e.child g → Rule q 4 (Feature e.parent f ∷ Kept e ∷ []) (Toggled e.parent e.child g)
   lost_asked_package : {e : Edge} {f : Text} {d : DependencyModel} → IsAskedFor q f e → q.Wanted e d → q.NoPackage e.child → Rule q 4 (Feature e.parent f ∷ []) (Lost (LostPackage e.child))

@@ -19,15 +19,15 @@ use Rattle.krates_rules.specs.declared.kind.IgnoredKinds.{IgnoredKinds}
 pub record SettingModel : Type 0 where
   -- the targets that are asked, each with its features
   pub targets : List Asked
-  -- the manifests of the crates that are asked for
+  -- the manifests of the crates that are roots, where any are set
   pub manifests : List Text
   -- the packages that are left out
   pub exclusions : List Specification
   -- the kinds of the dependencies that are ignored
   pub ignored : IgnoredKinds
-  -- whether every member is asked for, even if the graph has a root
+  -- whether every member is a root, even if the graph has a root
   pub workspace : Bool
-  -- whether a name in a feature reference means all dependencies that answer to it, rather than only the least of them
+  -- whether a name in a feature reference means all dependencies that match it, rather than only the least of them
   pub all_named : Bool
 
 -- ---- the manifest of a path
@@ -40,7 +40,7 @@ pub record IsManifestOf (path manifest : Text) : Type 0 where
   pub itself : EndsWithPath path cargo_toml → manifest ≡ path
   pub within : (EndsWithPath path cargo_toml → ⊥) → manifest ≡ path_join path cargo_toml
 
--- the manifests of these paths are asked for too, and nothing else has changed
+-- the manifests of these paths are set too, and nothing else has changed
 pub record AsksForPaths (old new : SettingModel) (paths : List (Bor Text)) : Type 0 where
   pub manifests : List Text
   pub meant : AllZip IsManifestOf (map (λ path. path.now) paths) manifests

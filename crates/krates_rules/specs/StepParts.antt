@@ -3,7 +3,7 @@ use Rattle.std.specs.Prelude.{◌≡◌, ℕ, ◌<◌, ◌≤◌, List, Some, Co
 use Rattle.std.specs.List.{AllZip}
 use Rattle.krates_rules.specs.Steps.{StepModel}
 
--- no fact stands twice
+-- no fact occurs twice
 abbrev pub HaveOwnFacts : List StepModel → Type 0
 HaveOwnFacts steps = (j k : ℕ) (x y : StepModel) → slice_get steps j ≡ Some x → slice_get steps k ≡ Some y → x.fact ≡ y.fact → j ≡ k
 
@@ -19,7 +19,7 @@ pub record IsUsedLater (steps : List StepModel) (number : ℕ) : Type 0 where
 abbrev pub Increase : List ℕ → Type 0
 Increase chosen = (j k a b : ℕ) → slice_get chosen j ≡ Some a → slice_get chosen k ≡ Some b → j < k → a < b
 
--- a step of the part stands for one of the whole list: it is that one, or an earlier one with the same fact
+-- a step of the part replaces one of the whole list: it is that one, or an earlier one with the same fact
 pub record StandsFor (steps : List StepModel) (chosen : List ℕ) (before now : ℕ) : Type 0 where
   pub number : ℕ
   pub chosen_at : slice_get chosen now ≡ Some number
@@ -28,7 +28,7 @@ pub record StandsFor (steps : List StepModel) (chosen : List ℕ) (before now : 
   pub at : slice_get steps number ≡ Some step
   pub same : (old : StepModel) → slice_get steps before ≡ Some old → step.fact ≡ old.fact
 
--- the step with this number in the part is a step of the whole list, and each step that it uses there stands for one that it used
+-- the step with this number in the part is a step of the whole list, and each step that it uses there replaces one that it used
 pub record IsRenumbered (steps : List StepModel) (chosen : List ℕ) (number : ℕ) (x : StepModel) : Type 0 where
   pub before : ℕ
   pub chosen_at : slice_get chosen number ≡ Some before

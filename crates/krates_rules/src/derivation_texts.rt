@@ -1,4 +1,4 @@
-//! How facts, steps and derivations are printed: ids by their texts, and a derivation a step a line.
+//! How facts, steps and derivations are printed: ids by their texts, and a derivation as one step per line.
 
 ghost use Rattle.std.specs.Prelude.{◌≡◌, Some};
 ghost use Rattle.krates_rules.specs.DerivationTexts.{derivation_lines, fact_text, kind_suffix};
@@ -9,7 +9,7 @@ use crate::kind::DepKind;
 use std::fmt;
 
 impl DepKind {
-    /// A blank and the kind in brackets, and nothing for the normal one.
+    /// A space and the kind in brackets, and nothing for the normal one.
     fn suffix(self) -> &'static str
         ensures { result.now ≡ kind_suffix self }
     {
@@ -22,8 +22,8 @@ impl DepKind {
 }
 
 /// `crate ID`, `feature NAME of ID`, `kept PARENT -> CHILD`, or `toggled NAME of CHILD by PARENT`, with the texts of
-/// the ids. Behind a kept edge stands ` (build)` or ` (dev)` where its kind isn't the normal one, and then its target in
-/// single quotes where it is for one.
+/// the ids. A kept edge is followed by ` (build)` or ` (dev)` where its kind isn't the normal one, and then by its target in
+/// single quotes where it has one.
 ///
 /// ```text
 /// kept path+file:///w/a#0.1.0 -> path+file:///w/b#0.1.0 (build) 'cfg(unix)'
@@ -76,8 +76,8 @@ impl fmt::Display for UsedSteps<'_> {
     }
 }
 
-/// `rule NUMBER: `, its fact, and where it uses steps ` from ` and their numbers. Its own number it has from its
-/// derivation, which prints it.
+/// `rule NUMBER: `, its fact, and, where it uses steps, ` from ` and their numbers. Its own number is printed by its
+/// derivation.
 ///
 /// ```text
 /// rule 7: toggled j of path+file:///w/b#0.1.0 by path+file:///w/a#0.1.0 from 0, 1
@@ -96,8 +96,8 @@ impl fmt::Display for Step {
     }
 }
 
-/// A line for each step, in their order: its number, counted from 0, a blank, the step, and a line feed. Where there is
-/// no step, nothing. Time: O(length).
+/// A line for each step, in their order: its number, counted from 0, a space, the step, and a line feed. Nothing
+/// where there is no step. Time: O(length).
 ///
 /// ```text
 /// 0 rule 1: crate path+file:///w/a#0.1.0

@@ -16,13 +16,13 @@ pub fn reordering()
     ensures { IsOrderFree }
 {}
 
-/// A setting that excludes more packages, ignores one more kind, or asks for targets where none was asked for, selects a
+/// A setting that excludes more packages, ignores one more kind, or sets targets where none was set, selects a
 /// part of what the setting before it selects. If that loses nothing, the narrower one is refused only because no crate is left, or because memory ran out.
 pub fn narrowing()
     ensures { IsNarrowing }
 {}
 
-/// What is selected where a name in a feature reference means the least, by id, of the dependencies that answer to it, is a
+/// What is selected where a name in a feature reference means the least, by id, of the dependencies that match it, is a
 /// part of what is selected where it means all of them, under settings that are equal otherwise. So is what is lost.
 pub fn named_part()
     ensures { IsNamedPart }

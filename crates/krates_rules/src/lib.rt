@@ -1,6 +1,6 @@
-//! What is believed of resolution, and nothing else: a document seen by package id, a setting, the seven rules, what is
-//! derivable, and which documents are admitted. With the laws that hold of these definitions, whatever the code does, the
-//! types in which a caller tells facts and steps, and how these are printed.
+//! What has to be trusted about resolution, and nothing else: a document seen by package id, a setting, the seven rules, what is
+//! derivable, and which documents are admitted. Also the laws that hold of these definitions, whatever the code does, the
+//! types in which a caller gives facts and steps, and how these are printed.
 #![tactic(auto)]
 
 pub mod derivation;

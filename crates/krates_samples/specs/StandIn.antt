@@ -1,4 +1,4 @@
--- What the stand-in for cargo returns for its words.
+-- What the substitute for cargo returns for its words.
 use Rattle.std.specs.Prelude.{ℕ, ◌-◌, List, [], ◌∷◌, ◌++◌, Option, length, codes, slice_index_or, if◌then◌else◌}
 use Rattle.std.specs.List.{flat_map}
 use Rattle.std.specs.Option.{unwrap_or}

@@ -1,16 +1,16 @@
 //! A small language of documents: one line says what `cargo metadata` writes of a workspace.
 //!
 //! A line has sections with ` / ` between them. The first has the packages, with bars between them. Each is a word for the
-//! package, a word for each dependency that it declares, and behind a semicolon the features of its manifest, each a name, `=`
+//! package, a word for each dependency that it declares, and after a semicolon the features of its manifest, each a name, `=`
 //! and references with commas between them: `a b?;x=b/y,z`.
 //!
-//! A word is a name, `@` and a version where it isn't 0.1.0, and options, each behind `&`:
+//! A word is a name, `@` and a version where it isn't 0.1.0, and options, each after `&`:
 //!
-//! - `id=ID`: its id is this text, and not the one that cargo gives to a crate at `/w/NAME`;
+//! - `id=ID`: its id is this text instead of the one that cargo gives to a crate at `/w/NAME`;
 //! - `crates.io`: it is a package of crates.io, and has an id of that registry;
 //! - `lib=NAME`: the library of the package has this name.
 //!
-//! The name of a declared dependency is followed by `?` where it is optional and by `!` where it asks for default features. It
+//! The name of a declared dependency is followed by `?` where it is optional and by `!` where it uses default features. It
 //! has more options: `normal`, `dev` and `build` (its kind), `on=TARGET`, `with=FEATURES`, `from=SOURCE`, `at=PATH` and
 //! `as=NAME` (its new name).
 //!
@@ -20,10 +20,10 @@
 //!   its `dep_kinds`. Without this section each package has a node, which needs what the package declares and lists the
 //!   features of its manifest.
 //! - `members`: the words of the members; without it `a` is the only one.
-//! - `root`: the word of the root; without it there is none.
-//! - `no graph` and `null graph`: there is no resolved graph, or null stands in its place.
+//! - `root`: the word of the root; without it the graph has no root.
+//! - `no graph` and `null graph`: there is no resolved graph, or it is null.
 //!
-//! Any other section is skipped here: it says how the document is used. A tilde anywhere stands for a blank.
+//! Any other section is skipped here: it says how the document is used. A tilde anywhere means a space.
 
 use crate::text::Text;
 use krates_cm::{DependencyKind, Metadata, PackageId};
@@ -53,7 +53,7 @@ pub fn section<'a>(line: &'a str, name: &str) -> Option<&'a str> {
     None
 }
 
-/// What a word has behind this key, up to its next option.
+/// What a word has after this key, up to its next option.
 fn option_of<'a>(word: &'a str, key: &str) -> Option<&'a str> {
     let (_, options) = word.split_once('&')?;
     for part in options.split('&') {
@@ -110,7 +110,7 @@ pub fn word_of(id: &str) -> &str {
     if own == name { version } else { id }
 }
 
-/// Divides the next item of a JSON list or object from the one before it, if there is one.
+/// Separates the next item of a JSON list or object from the one before it, if there is one.
 fn divide(json: &mut Text) {
     if !json.as_str().ends_with(['[', '{']) {
         json.push_str(",");
@@ -344,7 +344,7 @@ fn push_listed(json: &mut Text, listed: Listed, items: &str) {
     }
 }
 
-/// Writes the resolved graph, or null in its place, or neither.
+/// Writes the resolved graph, or null instead, or neither.
 fn push_graph(json: &mut Text, line: &str, packages: &str) {
     if section(line, "null graph").is_some() {
         json.push_str(",\"resolve\":null");

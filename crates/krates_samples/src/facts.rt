@@ -5,7 +5,7 @@
 //! - `a>b`, `a>b:dev` and `a>b:dev:TARGET`: the edge is kept.
 //! - `a>b/f`: a feature of the first crate toggles one of the second.
 //!
-//! A step is the number of its rule, its fact, and the numbers of the steps that it uses, as `4 a>b 1`; a semicolon divides steps.
+//! A step is the number of its rule, its fact, and the numbers of the steps that it uses, as `4 a>b 1`; a semicolon separates steps.
 
 use crate::documents::{kid_of, kind_named};
 use crate::settings::{FromText, all_of};
@@ -29,7 +29,7 @@ fn ends_of(alloc: Global, parent: &str, child: &str) -> Result<(Kid, Kid), Fail>
     Ok((parent, child))
 }
 
-/// The fact that an edge is kept: its child, kind and target stand behind its parent.
+/// The fact that an edge is kept: its child, kind and target come after its parent.
 fn kept(alloc: Global, parent: &str, rest: &str) -> Result<Fact, Fail> {
     let mut parts = rest.split(':');
     let child = parts.next().unwrap_or("");
@@ -44,7 +44,7 @@ fn kept(alloc: Global, parent: &str, rest: &str) -> Result<Fact, Fail> {
     })
 }
 
-/// The fact of an edge: what stands behind its parent.
+/// The fact of an edge, from what comes after its parent.
 fn edge_fact(alloc: Global, parent: &str, rest: &str) -> Result<Fact, Fail> {
     let Some((child, name)) = rest.split_once('/') else {
         return kept(alloc, parent, rest);
@@ -58,7 +58,7 @@ fn edge_fact(alloc: Global, parent: &str, rest: &str) -> Result<Fact, Fail> {
     })
 }
 
-/// The fact that a feature is enabled: its crate stands before its name.
+/// The fact that a feature is enabled: its crate comes before its name.
 fn enabled(alloc: Global, word: &str) -> Result<Fact, Fail> {
     let (krate, name) = word.split_once('/').unwrap_or((word, ""));
     let name = String::from_str(alloc, name)?;

@@ -15,7 +15,7 @@ pub const FEATURES: Range<u32> = 1_000..6_000;
 /// The number of bytes of a long name.
 const BYTES: usize = 70_000;
 
-/// A name of so many letters.
+/// A long name.
 pub fn long_name(alloc: Global) -> Result<String, Fail> {
     Ok("x".repeat(alloc, BYTES)?)
 }

@@ -1,5 +1,5 @@
-//! The small languages of documents, settings and facts in which worked examples are written, the tables that one function walks, a
-//! document that is large, texts that are written without an error, calls with little memory, and what stands in for cargo.
+//! The small languages of documents, settings and facts in which worked examples are written, the tables that one function goes through, a
+//! document that is large, texts that are written without an error, calls with little memory, and the substitute for cargo.
 #![tactic(auto)]
 
 pub mod documents;

@@ -1,11 +1,11 @@
 //! What the sections of a line set in a builder or a setting.
 //!
 //! - `workspace on` and `workspace off`: whether every member is a root.
-//! - `names all` and `names least`: whether a name in a feature reference means all dependencies that answer to it.
+//! - `names all` and `names least`: whether a name in a feature reference means all dependencies that match it.
 //! - `include PATHS`: the crates with these manifests are roots.
 //! - `ignore KIND SCOPE`: this kind of dependency is ignored for the crates of the scope.
 //! - `without SPECS`: the packages that one of these fits are left out.
-//! - `for TARGETS`: the targets, each a triple, and behind plus signs the features that it has; or behind it, each behind a
+//! - `for TARGETS`: the targets, each a triple, and after plus signs the features that it has; or after it, each after a
 //!   semicolon, the lines by which rustc describes it.
 //!
 //! Any other section sets nothing. Here the words after the names are read; whoever has a builder or a setting sets them.
@@ -16,7 +16,7 @@ use krates_text::target::{Target, TargetInfo};
 use std::alloc::Global;
 use std::test::Fail;
 
-/// The texts between blanks.
+/// The texts between spaces.
 pub fn words_of(alloc: Global, text: &str) -> Result<Vec<&str>, Fail> {
     let mut words = Vec::new(alloc);
     for word in text.split_whitespace() {
@@ -63,7 +63,7 @@ impl FromText for PkgSpec {
     }
 }
 
-/// The specifications between blanks.
+/// The specifications between spaces.
 pub fn package_specs(alloc: Global, text: &str) -> Result<Vec<PkgSpec>, Fail> {
     all_of(alloc, text, ' ')
 }
@@ -87,7 +87,7 @@ impl FromText for (Target, Vec<String>) {
     }
 }
 
-/// The targets between blanks.
+/// The targets between spaces.
 pub fn targets_of(alloc: Global, text: &str) -> Result<Vec<(Target, Vec<String>)>, Fail> {
     all_of(alloc, text, ' ')
 }

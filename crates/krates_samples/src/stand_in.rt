@@ -1,4 +1,4 @@
-//! What a program that stands in for cargo writes: its last word chooses it.
+//! What a substitute for cargo writes: its last word chooses it.
 
 ghost use Rattle.std.specs.Prelude.{◌≡◌, ◌++◌, ◌∷◌, [], IfOk, map, string_bytes};
 ghost use Rattle.std.specs.Option.{option_map};

@@ -20,8 +20,8 @@ pub trait Call: Debug {
     /// Makes the call, with little memory.
     fn answer(&self, alloc: Global, given: &mut Self::Given) -> Self::Answer;
 
-    /// Tells whether there was enough memory for this answer, after which what the call was made on is as given here. Fails at
-    /// an answer that is neither want of memory, where what has to be unchanged is, nor the one with ample memory.
+    /// Returns whether there was enough memory for this answer, after which what the call was made on is as given here. Fails at
+    /// an answer that is neither a refusal for lack of memory that leaves unchanged what it has to, nor the one with ample memory.
     fn is_granted(
         &self,
         alloc: Global,
@@ -30,7 +30,7 @@ pub trait Call: Debug {
     ) -> Result<bool, Fail>;
 }
 
-/// There was enough: the answer is the one with ample memory, or the call fails its test.
+/// There was enough memory: the answer is the one with ample memory, or the call fails its test.
 pub fn granted(is_ample: bool) -> Result<bool, Fail> {
     if !is_ample {
         return Err(Fail::new("an answer that ample memory doesn't give"));
@@ -38,7 +38,7 @@ pub fn granted(is_ample: bool) -> Result<bool, Fail> {
     Ok(true)
 }
 
-/// Memory was wanting: what has to be unchanged is, or the call fails its test.
+/// Memory ran out: what must be unchanged is, or the call fails its test.
 pub fn refused(is_unchanged: bool) -> Result<bool, Fail> {
     if !is_unchanged {
         return Err(Fail::new("something changed at a refusal"));
@@ -46,12 +46,12 @@ pub fn refused(is_unchanged: bool) -> Result<bool, Fail> {
     Ok(false)
 }
 
-/// The call was refused for another reason than want of memory, so it fails its test.
+/// The call was refused for another reason than lack of memory, so it fails its test.
 pub fn other_refusal() -> Result<bool, Fail> {
     Err(Fail::new("a refusal for another reason"))
 }
 
-/// A question, which changes nothing and is refused for want of memory alone: whether its answer is the one with ample memory.
+/// For a question, which changes nothing and is refused only if memory runs out: whether its answer is the one with ample memory.
 pub fn answered(answer: &Result<bool, AllocError>) -> Result<bool, Fail> {
     match answer {
         Ok(is_ample) => granted(*is_ample),
@@ -65,7 +65,7 @@ const RESERVE: usize = 1 << 18;
 /// How many blocks of memory are taken at most.
 const BLOCKS: usize = 20_000;
 
-/// All memory but a budget, which is given back where this is dropped.
+/// All memory but a budget, which is freed when this is dropped.
 #[derive(Drop)]
 struct Little {
     blocks: Vec<Vec<u8>>,
@@ -111,7 +111,7 @@ impl Little {
 }
 
 /// Whether this budget is enough for the call, or all memory, where there is no budget. The answer is judged only once the memory is
-/// given back.
+/// freed.
 fn is_enough<C: Call>(alloc: Global, call: &C, budget: Option<usize>) -> Result<bool, Fail> {
     let mut given = call.given(alloc)?;
     let little = Little::but(alloc, budget)?;
@@ -130,7 +130,7 @@ fn steps_to_enough<C: Call>(alloc: Global, call: &C) -> Result<usize, Fail> {
     Err(Fail::new("no budget is enough"))
 }
 
-/// What the process is started with: little memory, of which each freed block is at hand again, whatever its size.
+/// What the process is started with: little memory, in which each freed block can be used again, whatever its size.
 const SCRIPT: &str =
     "ulimit -v 100000; exec env GLIBC_TUNABLES=glibc.malloc.tcache_count=0:glibc.malloc.mxfast=0:glibc.malloc.mmap_max=0:glibc.malloc.arena_max=1:glibc.malloc.trim_threshold=1000000000 \"$0\" \"$1\" now";
 
@@ -152,14 +152,14 @@ fn output(rt: &HostRuntime, name: &str) -> Result<Output, Fail> {
     output_of(rt, &mut shell, this.as_str(), name)
 }
 
-/// Fails, and names the call, which is told last, with what was told of it.
+/// Fails, and names the call, which is printed last, with what was printed about it.
 fn fail(alloc: Global, told: &str, why: &[u8]) -> Result<(), Fail> {
     let why = String::from_utf8_lossy(alloc, why)?;
     let (_, call) = told.rsplit_once('\n').unwrap_or(("", told));
     Err(Fail::new(format_args!("with little memory, {call}{why}")))
 }
 
-/// Starts this program again with little memory, for the test of this name, and tells what it told.
+/// Starts this program again with little memory, for the test of this name, and prints what it printed.
 fn start(rt: &HostRuntime, name: &str) -> Result<(), Fail> {
     let output = output(rt, name)?;
     let told = String::from_utf8_lossy(rt.alloc(), output.stdout.as_slice())?;

@@ -26,7 +26,7 @@ fn hold_row<Q: Question>(alloc: Global, line: &str, answer: &str) -> Result<(), 
     compare(line, told.as_str(), answer)
 }
 
-/// Fails where what is told of a line isn't the answer that is known, and names the line.
+/// Fails where the answer to a line isn't the known one, and names the line.
 pub fn compare(line: &str, told: &str, answer: &str) -> Result<(), Fail> {
     if told != answer {
         return Err(Fail::new(format_args!("{line}: {told} in place of {answer}")));

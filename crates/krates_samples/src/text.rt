@@ -1,9 +1,9 @@
-//! A text that is written without an error to hand on.
+//! A text that is written without an error to return.
 
 use std::alloc::{AllocError, Global};
 use std::fmt::Display;
 
-/// A text that grows while there is memory, and that is had only where nothing of it is missing. So what writes it has no error of its
+/// A text that grows while there is memory, and that is returned only if nothing of it is missing. So what writes it has no error of its
 /// own.
 #[derive(Drop)]
 pub struct Text {

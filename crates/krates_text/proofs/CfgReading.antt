@@ -23,7 +23,7 @@ pub run-append : (s : State) (x y : List ℕ) → run s (x ++ y) ≡ and_then (r
 run-append s [] y = refl
 run-append s (c ∷ x) y = then_run (step s.frames s.place c) _ _ (λ t. run-append t x y) ∙ sym (then_assoc (step s.frames s.place c) (λ t. run t x) (λ t. run t y))
 
--- one byte is read, then the text behind it
+-- one byte is read, then the text after it
 one_step : (fs : List Frame) (place : Place) (c : ℕ) (x : List ℕ) (r : Result State Fault) → step fs place c ≡ r → run (at fs place) (c ∷ x) ≡ and_then r (λ t. run t x)
 one_step fs place c x r e = ap (λ q. and_then q (λ t. run t x)) e
 
@@ -251,7 +251,7 @@ nesting-added (tree q ps) p = omega (arith, nesting-added ps p)
 abbrev pub ReadsAs : List ℕ → Tree → Type 0
 ReadsAs t p = (fs : List Frame) (a : List ℕ) (c : ℕ) (x : List ℕ) → nesting p + length fs ≤ max_nesting → AreBlanks a → IsEnd c → run (at fs at_predicate) (t ++ (a ++ c ∷ x)) ≡ and_then (step_after fs p c) (λ s. run s x)
 
--- in a list, this text is read as these predicates, with a comma behind each
+-- in a list, this text is read as these predicates, with a comma after each
 abbrev pub RowReadsAs : List ℕ → Trees → Type 0
 RowReadsAs y ps = (form : Bool) (fs : List Frame) (x : List ℕ) → nesting_among ps + suc (length fs) ≤ max_nesting → run (at (frame_of_list form no_trees ∷ fs) at_predicate) (y ++ x) ≡ run (at (frame_of_list form ps ∷ fs) at_predicate) x
 

@@ -112,12 +112,12 @@ fails_whole fs place c rest more total error.Syntax split whole h = ap result_of
 fails_whole fs place c rest more total error.TooDeep split whole h = ap result_of (sym (reads_on fs place c rest more (Err too_deep) total split whole h))
 fails_whole fs place c rest more total error.Memory split whole h = tt
 
--- where no character is left, the answer is what stands there
+-- where no character is left, the answer is what is there
 pub ends_whole : (fs : List Frame) (place : Place) (rest : List ℕ) (total : Result State Fault) → length rest ≡ 0 → run (at fs place) rest ≡ total → result_of total ≡ finished place
 ends_whole fs place [] total none whole = ap result_of (sym whole)
 ends_whole fs place (c ∷ rest) total none whole = absurd (omega arith)
 
--- anywhere but behind the last `)` that is a fault
+-- anywhere but after the last `)` that is a fault
 pub unfinished : (place : places.Place) → ((p : Predicate) → place ≢ stands.AtEnd p) → finished (place_of place) ≡ Err syntax'
 unfinished stands.AtPredicate other = refl
 unfinished (stands.InWord w) other = refl

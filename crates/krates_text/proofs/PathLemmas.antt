@@ -196,7 +196,7 @@ pub no_parent : (path before whole : List ℕ) → SplitsLast path before whole 
 no_parent path before whole s (inl e) = inl (s.same ∙ ap components e)
 no_parent path before whole s (inr e) = inr (s.same ∙ ap components e)
 
--- any other path has a parent: what stands before its last component, without what trails there
+-- any other path has a parent: the part before its last component, without what trails there
 pub parent_is : (path before whole front parent : List ℕ) → SplitsLast path before whole → whole ≢ [] → whole ≢ root_dir → SplitsLast before front parent → IsParent path parent
 parent_is path before whole front parent s some other p =
     let named = s.named some other in

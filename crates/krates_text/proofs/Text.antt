@@ -23,7 +23,7 @@ cut_at_first p bs x h = record {
       omega arith;
 }
 
--- a separator that wasn't found stands nowhere
+-- a separator that wasn't found is nowhere in the text
 pub lacks_text : (p bs : List ℕ) → IsSplitOnceResult p bs None → LacksText p bs
 lacks_text p bs h = split_text_parts p bs None h
 
@@ -40,7 +40,7 @@ begins_or_not (c ∷ start) (d ∷ text) =
       | inr differs ↦ inr (λ b. differs.1 (let e = b.is in cc))
     ]
 
--- a later place of the separator stands in the rest of the text
+-- a later place of the separator is in the rest of the text
 place_in_rest : (separator text : List ℕ) (c : ℕ) (earlier rest : List ℕ) → (BeginsWith separator (c ∷ text) → ⊥) → c ∷ text ≡ earlier ++ (separator ++ rest) → (front : List ℕ) × (text ≡ front ++ (separator ++ rest)) × (length earlier ≡ suc (length front))
 place_in_rest separator text c [] rest none e = absurd (none (record { rest = rest; is = e }))
 place_in_rest separator text c (d ∷ earlier) rest none e = (earlier, cc, refl)

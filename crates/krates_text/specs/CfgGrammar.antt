@@ -24,11 +24,11 @@ abbrev pub added : Trees → Tree → Trees
 added no_trees last = tree last no_trees
 added (tree first rest) last = tree first (added rest last)
 
--- a blank, a tab, a newline or a carriage return
+-- a space, a tab, a newline or a carriage return
 abbrev pub is_blank : ℕ → Bool
 is_blank c = c == 32 || c == 9 || c == 10 || c == 13
 
--- blanks, tabs, newlines or carriage returns, or nothing
+-- spaces, tabs, newlines or carriage returns, or nothing
 abbrev pub AreBlanks : List ℕ → Type 0
 AreBlanks text = AllByRecursion (λ c. IsTrue (is_blank c)) text
 
@@ -53,7 +53,7 @@ IsWord (c ∷ rest) = IsTrue (is_word_start c) × AllByRecursion (λ b. IsTrue (
 abbrev pub is_form : List ℕ → Bool
 is_form w = bytes_eq w (codes "all") || bytes_eq w (codes "any") || bytes_eq w (codes "not")
 
--- the names that can't stand as a word of their own
+-- the names that can't be a word of their own
 abbrev pub is_reserved : List ℕ → Bool
 is_reserved w = is_form w || bytes_eq w (codes "true") || bytes_eq w (codes "false")
 
@@ -72,7 +72,7 @@ mutual
     is_all : (a t : List ℕ) (ps : Trees) → AreBlanks a → IsList t ps → IsPredicate (codes "all" ++ (a ++ 40 ∷ (t ++ 41 ∷ []))) (all_of ps)
     is_any : (a t : List ℕ) (ps : Trees) → AreBlanks a → IsList t ps → IsPredicate (codes "any" ++ (a ++ 40 ∷ (t ++ 41 ∷ []))) (any_of ps)
 
-  -- predicates with a comma behind each, and blanks around them
+  -- predicates with a comma after each, and blanks around them
   pub data IsRow : List ℕ → Trees → Type 0 where
     no_more : (a : List ℕ) → AreBlanks a → IsRow a no_trees
     one_more : (x t a b : List ℕ) (ps : Trees) (p : Tree) → IsRow x ps → IsPredicate t p → AreBlanks a → AreBlanks b → IsRow (x ++ (t ++ (a ++ 44 ∷ b))) (added ps p)
@@ -118,13 +118,13 @@ pub record IsExpression (text : List ℕ) (p : Tree) : Type 0 where
   pub spelled : IsUnlimited text p
   pub nested : nesting p ≤ max_nesting
 
--- a form that a text has opened: what stands in it before the place where the next predicate may begin
+-- a form that a text has opened: what is in it before the place where the next predicate may begin
 pub data Frame : Type 0 where
   in_not : Frame
   in_all : Trees → Frame
   in_any : Trees → Frame
 
--- the text behind `cfg(` has opened these forms without a fault, the innermost first, and ends where the next
+-- the text after `cfg(` has opened these forms without a fault, the innermost first, and ends where the next
 -- predicate may begin
 abbrev pub HasOpened : List Frame → List ℕ → Type 0
 HasOpened [] text = AreBlanks text
@@ -132,7 +132,7 @@ HasOpened (in_not ∷ outer) text = (x : List ℕ) × (a : List ℕ) × (b : Lis
 HasOpened (in_all ps ∷ outer) text = (x : List ℕ) × (a : List ℕ) × (y : List ℕ) × HasOpened outer x × AreBlanks a × IsRow y ps × (nesting_among ps + suc (length outer) ≤ max_nesting) × (text ≡ x ++ (codes "all" ++ (a ++ 40 ∷ y)))
 HasOpened (in_any ps ∷ outer) text = (x : List ℕ) × (a : List ℕ) × (y : List ℕ) × HasOpened outer x × AreBlanks a × IsRow y ps × (nesting_among ps + suc (length outer) ≤ max_nesting) × (text ≡ x ++ (codes "any" ++ (a ++ 40 ∷ y)))
 
--- the text behind `cfg(` has opened as many forms as may be nested, without a fault, and opens one more
+-- the text after `cfg(` has opened as many forms as may be nested, without a fault, and opens one more
 pub record OpensTooMany (text : List ℕ) : Type 0 where
   pub frames : List Frame
   pub deep : length frames ≡ max_nesting
@@ -145,7 +145,7 @@ pub record OpensTooMany (text : List ℕ) : Type 0 where
   pub rest : List ℕ
   pub is : text ≡ opened ++ (name ++ (blanks ++ 40 ∷ rest))
 
--- a beginning of the text opens one form too many, with no fault before
+-- a beginning of the text opens one form too many, without a fault before it
 pub record IsTooDeep (text : List ℕ) : Type 0 where
   pub behind : List ℕ
   pub is : text ≡ codes "cfg(" ++ behind

@@ -8,7 +8,7 @@ pub data Fault : Type 0 where
   syntax' : Fault
   too_deep : Fault
 
--- where the reader stands
+-- where the reader is
 pub data Place : Type 0 where
   -- where a predicate may begin
   at_predicate : Place
@@ -32,7 +32,7 @@ pub record State : Type 0 where
 abbrev pub at : List Frame → Place → State
 at fs place = record { frames = fs; place = place }
 
--- a word that stands alone
+-- a word without a value
 abbrev pub leaf : List ℕ → Tree
 leaf w = if bytes_eq w (codes "true") then constant true else (if bytes_eq w (codes "false") then constant false else word w)
 
@@ -87,7 +87,7 @@ step fs (in_string key string) c = if c == 34 then Ok (at fs (after_predicate (p
 step fs (after_predicate p) c = step_after fs p c
 step fs (at_end p) c = if is_blank c then Ok (at fs (at_end p)) else Err syntax'
 
--- a character at any place: in a string it stands for its bytes
+-- a character at any place: in a string it adds its bytes
 abbrev pub step_at : List Frame → Place → ℕ → Result State Fault
 step_at fs (in_string key string) c = Ok (at fs (if c == 34 then after_predicate (pair key string) else in_string key (string ++ encode_utf8 c)))
 step_at fs place c = step fs place c
@@ -102,7 +102,7 @@ abbrev pub run : State → List ℕ → Result State Fault
 run s [] = Ok s
 run s (c ∷ text) = and_then (step s.frames s.place c) (λ t. run t text)
 
--- what stands at the end of the text
+-- the answer at the end of the text
 abbrev pub finished : Place → Result Tree Fault
 finished (at_end p) = Ok p
 finished place = Err syntax'
@@ -111,6 +111,6 @@ abbrev pub result_of : Result State Fault → Result Tree Fault
 result_of (Ok s) = finished s.place
 result_of (Err e) = Err e
 
--- what the text behind `cfg(` reads as
+-- what the text after `cfg(` reads as
 abbrev pub read : List ℕ → Result Tree Fault
 read text = result_of (run (at [] at_predicate) text)

@@ -1,14 +1,14 @@
--- Texts that are cut at a byte: what stands before it and after it.
+-- Texts that are cut at a byte: the parts before and after it.
 use Rattle.std.specs.Prelude.{◌≡◌, ◌≢◌, ℕ, List, [], ◌∷◌, ◌++◌, Bool, Option, MatchOption}
 use Rattle.std.specs.Bool.{MatchBool}
 use Rattle.std.specs.Borrow.{Bor}
 use Rattle.std.specs.List.{AllByRecursion}
 
--- the byte c does not stand in the text
+-- the byte c is not in the text
 abbrev pub Lacks : ℕ → List ℕ → Type 0
 Lacks c t = AllByRecursion (λ b. b ≢ c) t
 
--- the byte c stands in the text
+-- the byte c is in the text
 abbrev pub Has : ℕ → List ℕ → Type 0
 Has c t = Lacks c t → ⊥
 

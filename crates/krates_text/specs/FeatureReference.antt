@@ -11,7 +11,7 @@ pub data Reference : Type 0 where
   strong : (name enables : List ℕ) → Reference
   simple : (name : List ℕ) → Reference
 
--- Which text is which reference: what follows "dep:" at the start; else what stands on the two sides of the
+-- Which text is which reference: what follows "dep:" at the start; else the parts on the two sides of the
 -- first "?/"; else of the first "/"; else the whole text.
 abbrev pub IsReference : List ℕ → Reference → Type 0
 IsReference text (krate name) = text ≡ codes "dep:" ++ name

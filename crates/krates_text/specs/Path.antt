@@ -20,7 +20,7 @@ start text = if slice_index text 0 == slash then root_dir ∷ [] else (if bytes_
 abbrev pub components : List ℕ → List (List ℕ)
 components text = start text ++ names text
 
--- nothing trails the last component: what stands before it has the components before it
+-- nothing follows the last component: the part before it has the components before it
 pub record EndsWithComponent (text : List ℕ) : Type 0 where
   pub before : List ℕ
   pub last : List ℕ
@@ -31,8 +31,8 @@ pub record EndsWithComponent (text : List ℕ) : Type 0 where
 abbrev pub HasNoParent : List ℕ → Type 0
 HasNoParent text = (components text ≡ []) ⊎ (components text ≡ root_dir ∷ [])
 
--- The text up to the end of its last component but one: a beginning that has all components but the last, and
--- that nothing trails. It is empty where the last component is the only one.
+-- The text up to the end of its second-last component: a beginning that has all components except the last, and
+-- that nothing follows. It is empty where the last component is the only one.
 pub record IsParent (text parent : List ℕ) : Type 0 where
   pub begins : BeginsWith parent text
   pub last : List ℕ
@@ -44,12 +44,12 @@ pub record IsParent (text parent : List ℕ) : Type 0 where
 abbrev pub EndsWithPath : List ℕ → List ℕ → Type 0
 EndsWithPath path end = (front : List (List ℕ)) × (components path ≡ front ++ components end)
 
--- what stands before a last component that a slash precedes: the root where nothing is left
+-- the part before a last component that a slash precedes: the root where nothing is left
 abbrev pub or_root : List ℕ → List ℕ
 or_root [] = root_dir
 or_root (byte ∷ rest) = byte ∷ rest
 
--- the text without what trails its last component, and what stands before that component
+-- the text without what follows its last component, and the part before that component
 pub record SplitsLast (text before whole : List ℕ) : Type 0 where
   pub begins : BeginsWith whole text
   pub front : BeginsWith before text

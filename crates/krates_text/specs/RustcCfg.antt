@@ -33,7 +33,7 @@ pub record IsLastValue (text key value : List ℕ) : Type 0 where
   pub are : AreValues text key values
   pub last : value ≡ last_or_empty values
 
--- what the text says of the target that is asked for by a triple, and which target features it says are enabled
+-- what the text says of the target whose triple was asked about, and which target features it says are enabled
 pub record IsDescribedBy (asked text : List ℕ) (d : Description) (enabled : List (List ℕ)) : Type 0 where
   pub triple : d.triple ≡ asked
   pub arch : IsLastValue text (codes "target_arch") d.arch

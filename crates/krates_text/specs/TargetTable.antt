@@ -66,7 +66,7 @@ description_of info = record {
   atomics = map string_bytes info.atomics.items;
 }
 
--- a target: one that is described, or a text of which nothing is known
+-- a target: one that is described, or a text about which nothing is known
 pub data DescribedTarget : Type 0 where
   builtin : Description → DescribedTarget
   unknown : List ℕ → DescribedTarget

@@ -19,7 +19,7 @@ pub enum CfgError {
     /// The text is outside the grammar.
     #[error("bad cfg expression")]
     Syntax,
-    /// A beginning of the text opens a 128th form in the forms that it has opened, with no fault before.
+    /// A beginning of the text opens a 128th nested form, without a fault before it.
     #[error("cfg expression too deep")]
     TooDeep,
     /// Memory ran out.

@@ -3,10 +3,10 @@ ghost use Rattle.std.specs.Prelude.{IfOk};
 
 use std::alloc::AllocError;
 
-/// A copy of each of four values, in their order. The only error is running out of memory, and no copy is left then. The time is
+/// A copy of each of four values, in their order. The only error is running out of memory, and then no copy is kept. The time is
 /// that of the four copies.
 ///
-/// It is how a struct of many fields is copied: each `?` in a body has to let go of all that was copied before it, and so
+/// It is how a struct of many fields is copied: each `?` in a body has to drop all that was copied before it, and so
 /// four fields that are copied in one step are four times as cheap to prove.
 pub fn four_copies<A: Clone + Drop, B: Clone + Drop, C: Clone + Drop, D: Clone + Drop>(
     first: &A,

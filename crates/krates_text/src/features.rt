@@ -1,4 +1,4 @@
-//! Feature references: what an entry in the list of a feature in a manifest enables.
+//! Feature references: what an entry in a feature's list in a manifest enables.
 //!
 //! Source: the Cargo Book, "Features".
 ghost use Rattle.std.specs.Prelude.{◌≡◌};
@@ -44,7 +44,7 @@ impl<'f> From<&'f str> for ParsedFeature<'f> {
 }
 
 impl<'f> ParsedFeature<'f> {
-    /// The reference that the text is: what follows `dep:` at its start; otherwise what stands on the two sides of its first
+    /// The reference that the text is: what follows `dep:` at its start; otherwise the parts on the two sides of its first
     /// `?/`, or else of its first `/`; otherwise all of it, which may be empty. Time O(length).
     ///
     /// ```text

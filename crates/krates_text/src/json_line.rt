@@ -3,7 +3,7 @@ ghost use Rattle.std.specs.Prelude.{◌≡◌};
 ghost use Rattle.std.specs.Option.{option_map};
 ghost use Rattle.krates_text.specs.JsonLine.{begins_object, json_line};
 
-/// The first line that begins with `{`, without the `\n` or `\r\n` that ends it. What a program warns of may stand before it.
+/// The first line that begins with `{`, without the `\n` or `\r\n` that ends it. A program's warnings may come before it.
 /// Time O(length).
 ///
 /// ```text

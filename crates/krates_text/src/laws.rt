@@ -11,7 +11,7 @@ pub fn one_reference()
     ensures { (text : List ℕ) → HasOneReading text }
 {}
 
-/// A text is at most one cfg expression, and none where it opens too many forms.
+/// A text is at most one cfg expression, and isn't one if it opens too many forms.
 pub fn one_expression()
     ensures once { (text : List ℕ) (p q : Tree) → IsExpression text p → IsExpression text q → p ≡ q }
     ensures apart { (text : List ℕ) (p : Tree) → IsExpression text p → IsTooDeep text → ⊥ }

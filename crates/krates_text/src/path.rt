@@ -1,5 +1,5 @@
-//! Paths as texts, with `/` as the separator. They are compared by their components as they are written: nothing is
-//! looked up, and `..` is a name like others.
+//! Paths as texts, with `/` as the separator. They are compared by their components, as written: nothing is
+//! looked up, and `..` is a name like any other.
 ghost use Rattle.std.specs.Prelude.{◌≡◌, ◌↔◌, ◌<◌, MatchOption, IfOk, IsTrue, string_bytes};
 ghost use Rattle.std.specs.Path.{components_remaining, is_name, path_join, slash};
 ghost use Rattle.krates_text.specs.Cuts.{CutsLast};
@@ -20,7 +20,7 @@ pub fn components(path: &str) -> Components<'_>
     Path::new(path).components()
 }
 
-/// The path up to the end of its last component but one: `/` where only the root stands before the last, the empty
+/// The path up to the end of its second-last component: `/` where only the root is before the last, the empty
 /// text where nothing does. `None` for a path without a component and for the root alone. Time O(length).
 ///
 /// ```text
@@ -72,7 +72,7 @@ pub fn same(a: &str, b: &str) -> bool
     ends_with(a, b) && ends_with(b, a)
 }
 
-/// The path without what trails its last component, and before it what stands before that component.
+/// The path without what follows its last component, and, first, the part before that component.
 fn split_last(path: &str) -> (&str, &str)
     ensures { SplitsLast path.now result.0.now result.1.now }
 {
@@ -103,7 +103,7 @@ fn is_name(piece: &str) -> bool
     !(piece.is_empty() || piece == ".")
 }
 
-/// What stands before a last component: the root where nothing is left of it but the `/`.
+/// The part before a last component: the root where only the `/` is left of it.
 fn or_root(before: &str) -> &str
     ensures { result.now ≡ or_root before.now }
 {

@@ -9,7 +9,7 @@ use std::alloc::{AllocError, Global};
 
 impl TargetInfo {
     /// The target with this triple, as `rustc --print cfg --target TRIPLE` describes it in this text, and the target features
-    /// that are enabled there, in the order of their lines. This is how to ask at a target that the table of seven doesn't
+    /// that are enabled there, in the order of their lines. This is how to describe a target that the table of seven doesn't
     /// have.
     ///
     /// Each field is the value of the last line `KEY="VALUE"` for its key, and empty where there is none; the families and

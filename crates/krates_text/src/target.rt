@@ -41,7 +41,7 @@ pub struct TargetInfo {
 pub enum Target {
     /// A target that is described.
     Builtin(TargetInfo),
-    /// A text of which nothing is known.
+    /// A text about which nothing is known.
     Unknown(String),
 }
 
@@ -238,7 +238,7 @@ pub fn builtin(alloc: Global, triple: &str) -> Result<Option<TargetInfo>, AllocE
 }
 
 impl Target {
-    /// The target that a text names: described where it is a triple of the table, and unknown otherwise. The only
+    /// The target that a text names: described if it is a triple of the table, and unknown otherwise. The only
     /// error is running out of memory. Time O(length).
     ///
     /// ```text
@@ -255,7 +255,7 @@ impl Target {
     }
 
     /// Whether the target is described. At one that isn't, no predicate such as `unix` or `target_os = ".."` holds, so
-    /// that a program which is given a triple will want to refuse it, or to describe the target by
+    /// so a program that is given a triple should refuse it, or describe it by
     /// [`TargetInfo::from_rustc`]. Time O(1).
     ///
     /// ```text

@@ -66,7 +66,7 @@ not_among tells k (x ∷ ks) all (zero, lt, is) =
     let no : Less ≡ Equal = sym less ∙ equal in absurd cc
 not_among tells k (x ∷ ks) all (suc n, lt, is) = not_among tells k ks all.1 (n, omega (arith, lt), is)
 
--- of ids that ascend each stands once
+-- among ids that ascend each occurs once
 once : OrderTellsSame → (ks : List (Bor Identity)) → IsStrictlySortedBy lent_cmp ks → StandOnce (map lent_id ks)
 unfolding IsStrictlySortedBy
 once tells [] sorted = tt

@@ -33,7 +33,7 @@ use Rattle.krates_rules.proofs.AdmittedTexts.{of_graph}
 use Rattle.krates_rules.proofs.Readings.{ReadsOnce}
 use Rattle.krates_verdict.proofs.Admitted.{not_turned_away}
 
--- ---- a certificate by what is told of it
+-- ---- a certificate, by its view
 
 said_of_fact : (f : Fact) → fact_view f ≡ said_fact (fact_told f)
 said_of_fact (facts.Crate krate) = refl

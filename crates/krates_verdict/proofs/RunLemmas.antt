@@ -13,7 +13,7 @@ use Rattle.krates_verdict.specs.Subject.{SubjectModel}
 use Rattle.krates_verdict.specs.declared.refusal.Refusal.{Refusal}
 use Rattle.krates_verdict.specs.declared.refusal.Refusal.TheVariants as refusals
 
--- bytes that are no certificate are refused as that
+-- bytes that aren't a certificate are refused as that
 pub no_certificate : (s : SubjectModel) (read text : Text) (cause : CertificateError) (e : Refusal) → IsUtf8 text → read ≡ text → IsMemory (fault_of cause) ⊎ TextFault read (fault_of cause) → CertificateErrorBecomes cause e → IsUnheld s text e
 no_certificate s read text cause (refusals.Certificate same) utf8 is told becomes = elim told [
   | inl memory ↦ absurd (becomes.1 memory)

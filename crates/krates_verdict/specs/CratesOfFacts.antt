@@ -7,10 +7,10 @@ use Rattle.krates_ids.specs.Identity.{Identity, id_cmp}
 use Rattle.krates_rules.specs.Facts.{Crate, Fact}
 use Rattle.krates_rules.specs.Resolved.{id_of}
 
--- the order of ids that are lent
+-- the order of borrowed ids
 abbrev pub lent_cmp : Bor Identity → Bor Identity → Ordering
 lent_cmp a b = id_cmp a.now b.now
 
--- the set has exactly the crates that the facts say to be kept
+-- the set has exactly the crates that the facts say are kept
 abbrev pub HasCrates : BTreeSet (Bor Identity) → List Fact → Type 0
 HasCrates set fs = (k : Bor Identity) → IsTrue (contains lent_cmp set k) ↔ Contains fs (Crate (id_of k.now))

@@ -16,7 +16,7 @@ use Rattle.krates_verdict.specs.declared.verdict.Verdict.TheVariants as verdicts
 
 -- ---- of a list of steps
 
--- what this many steps say of which the last has the fact
+-- what this many steps say, the last of which has the fact
 abbrev pub said_last : Fact → ℕ → Verdict
 said_last (facts.Crate krate) steps = verdicts.Kept krate steps
 said_last (facts.Feature krate name) steps = verdicts.Follows (facts.Feature krate name) steps
@@ -32,7 +32,7 @@ pub record StepsSay (steps : List Step) (verdict : Verdict) : Type 0 where
 
 -- ---- of a list of facts
 
--- no id stands in the list twice
+-- no id is in the list twice
 abbrev pub StandOnce : List Id → Type 0
 StandOnce [] = ⊤
 StandOnce (id ∷ ids) = (Contains ids id → ⊥) × StandOnce ids

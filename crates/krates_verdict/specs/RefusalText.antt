@@ -24,17 +24,17 @@ CheckErrorBecomes cause _ = ⊥
 
 -- ---- what is printed
 
--- words, each behind a blank
+-- words, each after a space
 abbrev pub behind_blanks : List Text → Text
 behind_blanks [] = []
 behind_blanks (word ∷ words) = codes " " ++ (word ++ behind_blanks words)
 
--- the words of a setting, behind a blank
+-- the words of a setting, after a space
 abbrev pub words_text : List Text → Text
 words_text [] = codes " no options"
 words_text (word ∷ words) = behind_blanks (word ∷ words)
 
--- what a checker has against a certificate
+-- why a checker refuses a certificate
 abbrev pub check_text : CheckError → Text
 check_text causes.Document = codes "the document has no resolved graph, or an id that can't be read or stands twice"
 check_text causes.Empty = codes "the derivation has no step"

@@ -10,7 +10,7 @@ use Rattle.krates_verdict.specs.Subject.{SubjectModel}
 abbrev pub IsDerivable : SubjectModel → Fact → Type 0
 IsDerivable s f = Answers s.metadata s.setting (λ q. Derivable q f)
 
--- the document is admitted, and each crate that is kept under the setting is one of so many
+-- the document is admitted, and each crate that is kept under the setting is one of this many
 pub record AreAllReachable (s : SubjectModel) (count : ℕ) : Type 0 where
   pub krates : List Id
   pub once : StandOnce krates

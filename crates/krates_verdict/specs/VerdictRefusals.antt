@@ -17,7 +17,7 @@ abbrev pub IsOtherSetting : SubjectModel → List Text → Refusal → Type 0
 IsOtherSetting s words (refusals.Setting claimed) = (texts_view claimed ≡ words) × (words ≡ s.words → ⊥)
 IsOtherSetting s words _ = ⊥
 
--- a checker says no for this reason, which isn't that memory ran out; that stands for itself
+-- a checker says no for this reason, which isn't that memory ran out, since that is a refusal of its own
 abbrev pub IsObjection : (CheckError → Type 0) → Refusal → Type 0
 IsObjection IsCause (refusals.Check cause) = IsCause cause × (cause ≡ causes.Memory → ⊥)
 IsObjection IsCause refusals.Memory = ⊤

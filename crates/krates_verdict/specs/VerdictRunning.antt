@@ -1,4 +1,4 @@
--- What a run reads, what it writes of it, and why it writes nothing.
+-- What a run reads, what it then writes, and why it writes nothing.
 use Rattle.std.specs.Prelude.{◌≡◌, IfSome, IsUtf8, Option, ⊤}
 use Rattle.std.specs.Io.KnownBytes.{Appends}
 use Rattle.krates_cm.specs.Document.{Text}
@@ -60,7 +60,7 @@ pub record WritesVerdict (s : SubjectModel) (left old new : Option Text) : Type 
 abbrev pub RunRefusal : SubjectModel → Option Text → Refusal → Type 0
 RunRefusal s left cause = OfAllRead left (λ bytes. IsRefusalOf s bytes cause)
 
--- the writer is as it was, but for one that failed
+-- the writer is as it was, unless it failed
 abbrev pub Leaves : {W : Type 0} → W → W → Refusal → Type 0
 Leaves old new (refusals.Write cause) = ⊤
 Leaves old new _ = new ≡ old

@@ -16,7 +16,7 @@ closed_text krates =
     if krates == 1 then codes "nothing but this 1 crate can be reached"
     else codes "nothing but these " ++ (decimal krates ++ codes " crates can be reached")
 
--- a verdict; its ids stand by their texts
+-- a verdict; its ids are shown by their texts
 abbrev pub verdict_text : Verdict → Text
 verdict_text (verdicts.Kept krate steps) = codes "holds: crate " ++ (krate.text ++ (codes " is kept, " ++ steps_text steps))
 verdict_text (verdicts.Follows fact steps) = codes "holds: " ++ (fact_text fact ++ (codes " follows, " ++ steps_text steps))

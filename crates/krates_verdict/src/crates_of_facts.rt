@@ -12,7 +12,7 @@ use krates_rules::Fact;
 use std::alloc::{AllocError, Global};
 use std::collections::BTreeSet;
 
-/// How many different crates the facts say to be kept. Time O(n log n).
+/// How many different crates the facts say are kept. Time O(n log n).
 pub(crate) fn count_crates(alloc: Global, facts: &[Fact]) -> Result<usize, AllocError>
     ensures { IfOk result (λ krates. FactsSay (facts_view facts.now) (verdicts.Closed krates)) }
 {
@@ -21,7 +21,7 @@ pub(crate) fn count_crates(alloc: Global, facts: &[Fact]) -> Result<usize, Alloc
     Ok(krates.len())
 }
 
-/// The crates that the facts say to be kept.
+/// The crates that the facts say are kept.
 fn crates_of<'a>(alloc: Global, facts: &'a [Fact]) -> Result<BTreeSet<&'a Kid>, AllocError>
     ensures { IfOk result (λ krates. HasCrates krates (facts_view facts.now)) }
 {
@@ -32,7 +32,7 @@ fn crates_of<'a>(alloc: Global, facts: &'a [Fact]) -> Result<BTreeSet<&'a Kid>, 
     Ok(krates)
 }
 
-/// Adds the crate of a fact that says one to be kept.
+/// Adds the crate of a fact that says one is kept.
 fn put_crate<'a>(fact: &'a Fact, krates: &mut BTreeSet<&'a Kid>) -> Result<(), AllocError>
     ensures { OnOk result ((fs : List FactModel)
         → HasCrates krates.old fs → HasCrates krates.new (fs ++ fact_view fact.now ∷ [])) }

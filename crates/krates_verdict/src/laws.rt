@@ -21,7 +21,7 @@ use krates_ids::laws as ids;
 use krates_rules::laws as rules;
 
 /// What a verdict says is true of the document and the setting, whoever made the certificate: the crate that is kept and the fact that
-/// follows are derivable, and no crate is derivable but those that were counted.
+/// follows are derivable, and no crate is derivable except those that were counted.
 pub fn verdicts_are_true()
     ensures kept { (s : SubjectModel) (c : Certificate) (krate : Identity) (steps : ℕ)
         → Holds s c (verdicts.Kept krate steps) → IsDerivable s (Crate (id_of krate)) }
@@ -35,7 +35,7 @@ pub fn verdicts_are_true()
 }
 
 /// Bytes that are a certificate which holds are refused only where the reader or the writer fails, or memory runs out: no other
-/// refusal is true of them. So a run over them succeeds, these aside.
+/// refusal is true of them. So, apart from these cases, a run over them succeeds.
 pub fn held_or_refused()
     ensures { (s : SubjectModel) (bytes : Text) (verdict : Verdict) (cause : Refusal)
         → IsVerdictOf s bytes verdict → IsRefusalOf s bytes cause → IsOutside cause }

@@ -21,7 +21,7 @@ pub enum Refusal {
     Read(io::Error),
     /// What was read isn't UTF-8.
     Utf8,
-    /// The text is no certificate.
+    /// The text isn't a certificate.
     Certificate(CertificateError),
     /// The certificate is of another setting.
     Setting {
@@ -37,7 +37,7 @@ pub enum Refusal {
 }
 
 impl Refusal {
-    /// The refusal of a run whose reader failed so.
+    /// The refusal of a run whose reader failed in this way.
     pub(crate) fn unread(cause: io::Error) -> Refusal
         ensures { IsOfReader result }
     {
@@ -53,7 +53,7 @@ impl Refusal {
 #[derive(Clone, Copy)]
 struct Words<'a>(&'a [String]);
 
-/// Each word behind a blank, or ` no options` where there are none.
+/// Each word after a space, or ` no options` where there are none.
 impl fmt::Display for Words<'_> {
     ghost output = { λ words. Some (words_text (map text_view words.0.now)) };
 
@@ -68,11 +68,11 @@ impl fmt::Display for Words<'_> {
     }
 }
 
-/// What a checker has against a certificate.
+/// Why a checker refuses a certificate.
 #[derive(Clone, Copy)]
 struct Objection(CheckError);
 
-/// Which step does not follow, or what else is the matter.
+/// Which step does not follow, or what else is wrong.
 impl fmt::Display for Objection {
     ghost output = { λ objection. Some (check_text objection.0) };
 

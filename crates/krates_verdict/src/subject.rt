@@ -30,7 +30,7 @@ pub struct CertificateSubject<'a> {
     pub metadata: &'a Metadata,
     /// The setting.
     pub setting: &'a Setting,
-    /// The words that mean it. A certificate has to have the same, in the same order.
+    /// The words that mean it. A certificate must have the same, in the same order.
     pub words: &'a [String],
 }
 
@@ -38,7 +38,7 @@ impl CertificateSubject<'_> {
     /// Judges a certificate: it was made under the words of the subject's setting, and the checkers accept its steps or its facts
     /// for the document and the setting. Then it says what its last step says, or how many crates its facts name.
     ///
-    /// It is refused as `Setting` where its words are others, otherwise as `Check` where a checker says no. It may instead return
+    /// It is refused as `Setting` where its words differ, otherwise as `Check` where a checker says no. It may instead return
     /// `Memory`.
     ///
     /// Time: that of the checker, and O(n log n) for n facts.
@@ -71,7 +71,7 @@ impl CertificateSubject<'_> {
 
     /// Judges the bytes of a certificate: they are a text that `Certificate::parse` reads, and `judge` says what it holds.
     ///
-    /// It is refused as `Utf8` or `Certificate` where the bytes are no text or no certificate, otherwise as by `judge`. It may
+    /// It is refused as `Utf8` or `Certificate` where the bytes aren't a text or aren't a certificate, otherwise as by `judge`. It may
     /// instead return `Memory`. Time: O(n) for n bytes, and that of `judge`.
     ///
     /// ```text

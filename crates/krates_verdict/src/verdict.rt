@@ -25,7 +25,7 @@ pub enum Verdict {
         /// How many steps the derivation has.
         steps: usize,
     },
-    /// No crate can be kept but those that a closed list of facts names.
+    /// No crate can be kept except those that a closed list of facts names.
     Closed {
         /// How many different crates these are; two are the same where their names, versions and sources are.
         krates: usize,

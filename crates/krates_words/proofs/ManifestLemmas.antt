@@ -1,11 +1,11 @@
--- The manifests in the directories that are asked for.
+-- The manifests in the directories that are chosen.
 use Rattle.std.proofs.Common.{◌≡◌, ◌++◌, List, [], map, sym, ap, ◌∙◌, subst}
 use Rattle.std.specs.Borrow.{Bor}
 use Rattle.std.specs.List.{AllZip}
 use Rattle.krates_cm.specs.Document.{Text}
 use Rattle.krates_rules.specs.Setting.{SettingModel, IsManifestOf, AsksForPaths}
 
--- where none was asked for before, they are exactly those of the paths
+-- where none was set before, they are exactly those of the paths
 pub manifests_alone : (old new : SettingModel) (paths : List (Bor Text)) (texts left : List Text) → AsksForPaths old new paths → old.manifests ≡ []
     → map (λ path. path.now) paths ≡ texts → left ≡ new.manifests → AllZip IsManifestOf texts left
 manifests_alone old new paths texts left asked none are same =

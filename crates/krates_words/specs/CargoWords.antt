@@ -1,4 +1,4 @@
--- What cargo is told.
+-- The options that cargo is given.
 use Rattle.std.specs.Prelude.{[], None, option_map}
 use Rattle.krates_cargo.specs.CargoOptions.{CargoOptionsModel}
 use Rattle.krates_cm.specs.Document.{text_view, texts_view}

@@ -1,4 +1,4 @@
--- Which part of a document counts: the setting that a choice asks for.
+-- Which part of a document counts: the setting that a choice means.
 use Rattle.std.specs.Prelude.{◌≡◌, ◌++◌, ◌↔◌, ◌⊎◌, Bool, true, List, Contains, map, string_bytes}
 use Rattle.std.specs.List.{AllZip}
 use Rattle.krates_ids.specs.PackageSpecification.{spec_view}
@@ -13,7 +13,7 @@ use Rattle.krates_words.specs.declared.choice.Choice.{Choice}
 abbrev pub IgnoresJust : List DepKind → IgnoredKinds → Type 0
 IgnoresJust kinds ignored = (kind : DepKind) (is_member : Bool) → (ignores ignored kind is_member ≡ true) ↔ Contains kinds kind
 
--- The setting is exactly what the choice asks for, where these kinds are ignored too.
+-- The setting is exactly what the choice means, with these kinds ignored too.
 pub record IsSettingOf (c : Choice) (also_ignored : List DepKind) (s : SettingModel) : Type 0 where
   -- the targets, with their features
   pub targets : s.targets ≡ map asked_of c.targets.items

@@ -17,12 +17,12 @@ kind_name kinds.Normal = codes "normal"
 kind_name kinds.Build = codes "build"
 kind_name kinds.Dev = codes "dev"
 
--- an option without a value stands there where it is set
+-- an option without a value is there where it is set
 abbrev pub flag_words : Text → Bool → List Text
 flag_words option true = option ∷ []
 flag_words option false = []
 
--- each other option stands there with a value
+-- each other option is there with a value
 
 abbrev pub package_word : String Global → Text
 package_word path = codes "--package=" ++ string_bytes path
@@ -33,7 +33,7 @@ kind_word kind = codes "--ignore-kind=" ++ kind_name kind
 abbrev pub exclusion_word : PkgSpec → Text
 exclusion_word spec = codes "--exclude=" ++ spec_text (spec_view spec)
 
--- a target is told by its triple
+-- a target is given by its triple
 abbrev pub target_word : Target × Vec (String Global) Global → Text
 target_word target = codes "--target=" ++ printed (target_of target.0)
 

@@ -1,4 +1,4 @@
-//! What cargo is told.
+//! The options that cargo is given.
 
 ghost use Rattle.std.specs.Prelude.{◌≡◌, false, Err, None, IfErr, IfOk, OnOk, option_map};
 ghost use Rattle.krates_cargo.specs.CargoOptions.{IsCommandOf, IsParentlessOrMemory, LacksParent};
@@ -10,12 +10,12 @@ use krates_cargo::{Cmd, LockOptions, MetadataCommand};
 use krates_cm::Error;
 use std::alloc::{AllocError, Global};
 
-/// What cargo is told, where the document comes from it (Cargo Book, "cargo metadata").
+/// The options that cargo is given, where the document comes from it (Cargo Book, "cargo metadata").
 #[derive(Debug, Drop)]
 pub struct CargoWords {
     /// The manifest of the workspace: `--manifest-path`. It ends in `Cargo.toml`.
     pub manifest_path: Option<String>,
-    /// The names of features, several in one text with commas or blanks between them: `--features`.
+    /// The names of features, several in one text with commas or spaces between them: `--features`.
     pub features: Vec<String>,
     /// Whether all features are enabled: `--all-features`.
     pub all_features: bool,
@@ -30,7 +30,7 @@ pub struct CargoWords {
 }
 
 impl CargoWords {
-    /// The command `cargo metadata` that is told this. It is refused as `NoManifestParent` where the path of the manifest has no
+    /// The command `cargo metadata` with these options. It is refused as `NoManifestParent` where the path of the manifest has no
     /// parent, and else as `Memory`. Time O(n log n) of the features.
     pub fn command(&self, alloc: Global) -> Result<MetadataCommand, Error>
         ensures told { IfOk result (IsCommandOf (asked_of_cargo self.now)) }

@@ -1,4 +1,4 @@
-//! What the words of the program that checks certificates ask for.
+//! What the words of the program that checks certificates mean.
 
 use crate::choice::Choice;
 use crate::command::{push_choice, with_args};
@@ -14,7 +14,7 @@ const EXPLANATION: &str = "\
 The certificate is read from standard input, as `cargo krates certify` writes it.
 The options have to be those under which it was made.";
 
-/// What a run of the checker is asked for. The certificate stands in standard input.
+/// What a run of the checker is asked for. The certificate comes from standard input.
 #[derive(Debug, Drop)]
 pub struct CheckWords {
     /// The file with the document: `--metadata`.
@@ -23,9 +23,9 @@ pub struct CheckWords {
     pub choice: Choice,
 }
 
-/// What the words ask for that stand behind the name of the checker.
+/// What the words after the name of the checker mean.
 ///
-/// It is refused as `Asked` where the words ask for help or the version, as `Wrong` where they ask for nothing known or for what
+/// It is refused as `Asked` where the words ask for help or the version, as `Wrong` where they mean nothing known or combine what
 /// can't go together, and else as `Memory`. Time O(length of the words).
 pub fn check_words_of(alloc: Global, words: &[String]) -> Result<CheckWords, WordsError> {
     match command_line(alloc)?.try_get_matches_from(words) {
@@ -47,7 +47,7 @@ fn command_line<'w>(alloc: Global) -> Result<Command<'w>, AllocError> {
     with_args(command, args)
 }
 
-/// What is asked for, from what `clap` found in the words.
+/// What is asked, from what `clap` found in the words.
 fn found_words(alloc: Global, found: &ArgMatches<'_>) -> Result<CheckWords, WordsError> {
     check_choice(alloc, found)?;
     let document = required(alloc, found, "metadata")?;

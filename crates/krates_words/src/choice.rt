@@ -13,9 +13,9 @@ use std::alloc::{AllocError, Global};
 /// Which part of a document counts.
 #[derive(Debug, Drop)]
 pub struct Choice {
-    /// Whether every member of the workspace is a root, also where the graph has a root of its own: `--workspace`.
+    /// Whether every member of the workspace is a root, even where the graph has a root of its own: `--workspace`.
     pub workspace: bool,
-    /// Whether a name in a feature reference means all dependencies that answer to it: `--all-named`.
+    /// Whether a name in a feature reference means all dependencies that match it: `--all-named`.
     pub all_named: bool,
     /// The dependencies of these kinds are ignored, whichever crate has them: `--edges` and `--ignore-kind`.
     pub ignored: Vec<DepKind>,
@@ -30,13 +30,13 @@ pub struct Choice {
     pub cfgs: Vec<String>,
     /// Whether the host is a target too: `--host`.
     pub host: bool,
-    /// The targets, each with its features. Words know only their triples; whoever runs rustc or reads its descriptions adds
-    /// them. Where there are none, any target is meant.
+    /// The targets, each with its features. Words have only their triples; whoever runs rustc or reads its descriptions adds
+    /// them. Where there are none, every target is meant.
     pub targets: Vec<(Target, Vec<String>)>,
 }
 
 impl Choice {
-    /// The setting that is chosen, where dependencies of these kinds are ignored too. The only error is running out of memory.
+    /// The setting that is chosen, with dependencies of these kinds ignored too. The only error is running out of memory.
     /// Time O(length of what is chosen).
     ///
     /// ```text
@@ -67,7 +67,7 @@ fn ignore_kinds(setting: &mut Setting, kinds: &[DepKind])
     }
 }
 
-/// The texts, as they are taken.
+/// The texts, borrowed.
 fn paths_of(alloc: Global, texts: &[String]) -> Result<Vec<&str>, AllocError>
     ensures { IfOk result (λ paths. map (λ path. path.now) paths.items ≡ map string_bytes texts.now) }
 {

@@ -62,7 +62,7 @@ impl KnownWord {
         with_args(command, args)
     }
 
-    /// What may stand behind the word, in the order of its help.
+    /// What may follow the word, in the order of its help.
     fn args<'w>(&self, alloc: Global) -> Result<Vec<Arg<'w>>, AllocError> {
         let mut args = Vec::new(alloc);
         match self.names {
@@ -96,14 +96,14 @@ pub(crate) fn with_args<'w>(
     Ok(command)
 }
 
-/// A crate behind a word.
+/// A crate after a word.
 fn krate<'w>(alloc: Global) -> Arg<'w> {
     Arg::new(alloc, "SPEC")
         .help("The package: its name, NAME@VERSION, or its id")
         .action(ArgAction::Set)
 }
 
-/// A document behind a word.
+/// A document after a word.
 fn document<'w>(alloc: Global) -> Arg<'w> {
     Arg::new(alloc, "FILE")
         .help("The other document, as --metadata takes it")
@@ -111,7 +111,7 @@ fn document<'w>(alloc: Global) -> Arg<'w> {
         .action(ArgAction::Set)
 }
 
-/// The document in place of cargo's, which leaves cargo nothing to be told.
+/// The document instead of cargo's, with which no option for cargo can be given.
 fn input<'w>(alloc: Global) -> Result<Arg<'w>, AllocError> {
     METADATA
         .arg(alloc)

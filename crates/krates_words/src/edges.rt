@@ -47,7 +47,7 @@ fn is_followed(edges: &[&str], name: &str) -> bool {
     }
 }
 
-/// Kinds that are followed can't stand beside kinds that aren't.
+/// Refuses kinds to follow together with kinds not to follow.
 pub(crate) fn check(alloc: Global, edges: &[&str]) -> Result<(), WordsError> {
     let left_out = edges.iter().find(|edge| edge.starts_with("no-"));
     let followed = edges.iter().find(|edge| !edge.starts_with("no-"));

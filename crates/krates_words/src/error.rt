@@ -1,10 +1,10 @@
-//! Why words ask for nothing that is answered.
+//! Why words can't be answered.
 
 use clap::error::ErrorKind;
 use std::alloc::{AllocError, AllocFailed, Global};
 use std::fmt;
 
-/// Why words ask for nothing that is answered.
+/// Why words can't be answered.
 #[derive(Debug, Drop)]
 pub enum WordsError {
     /// They ask for help or the version, which is this text.

@@ -1,4 +1,4 @@
-//! What is asked for, from what `clap` found in the words.
+//! What is asked, from what `clap` found in the words.
 
 use crate::error::WordsError;
 use crate::together::check;
@@ -8,7 +8,7 @@ use clap::ArgMatches;
 use krates_ids::{Error, PkgSpec};
 use std::alloc::{AllocError, Global};
 
-/// What is asked for.
+/// What is asked.
 pub(crate) fn asked(alloc: Global, found: &ArgMatches<'_>) -> Result<Asked, WordsError> {
     let Some((name, found)) = found.subcommand() else {
         return Err(WordsError::wrong(alloc, "a word is missing"));
@@ -83,7 +83,7 @@ fn input(alloc: Global, found: &ArgMatches<'_>) -> Result<Input, AllocError> {
     }
 }
 
-/// What cargo is told.
+/// The options that cargo is given.
 fn cargo(alloc: Global, found: &ArgMatches<'_>) -> Result<CargoWords, AllocError> {
     Ok(CargoWords {
         manifest_path: text(alloc, found, "manifest-path")?,

@@ -1,13 +1,13 @@
-//! Which words and options are known, and what help says of them.
+//! Which words and options are known, and what help says about them.
 
 /// What an option takes.
 #[derive(Clone, Copy)]
 pub(crate) enum Takes {
     /// Nothing: it is set or not.
     Nothing,
-    /// One value, which help calls so.
+    /// One value, which help calls by this name.
     One(&'static str),
-    /// One value at each of its uses, which help calls so.
+    /// One value at each of its uses, which help calls by this name.
     Each(&'static str),
     /// Kinds of dependencies at each of its uses, as `cargo tree` names them.
     Edges,
@@ -18,9 +18,9 @@ pub(crate) enum Takes {
 /// An option.
 #[derive(Clone, Copy)]
 pub(crate) struct KnownOption {
-    /// The name behind `--`, by which it is read back.
+    /// The name after `--`, by which it is read back.
     pub(crate) name: &'static str,
-    /// The letter behind `-`.
+    /// The letter after `-`.
     pub(crate) short: Option<char>,
     /// What it takes.
     pub(crate) takes: Takes,
@@ -28,7 +28,7 @@ pub(crate) struct KnownOption {
     pub(crate) help: &'static str,
 }
 
-/// What stands behind a word, beside options.
+/// What follows a word, apart from options.
 #[derive(Clone, Copy)]
 pub(crate) enum Names {
     /// Nothing.
@@ -50,15 +50,15 @@ pub(crate) struct KnownWord {
     pub(crate) alias: Option<&'static str>,
     /// What it answers.
     pub(crate) about: &'static str,
-    /// What stands behind it.
+    /// What follows it.
     pub(crate) names: Names,
-    /// The option that it has alone.
+    /// The option that only it has.
     pub(crate) own: Option<KnownOption>,
     /// Whether it has an answer as JSON.
     pub(crate) has_json: bool,
 }
 
-/// Asks for JSON.
+/// Requests JSON.
 pub(crate) const JSON: KnownOption = KnownOption {
     name: "json",
     short: None,
@@ -128,7 +128,7 @@ pub(crate) const OF_TARGETS: [KnownOption; 3] = [
     },
 ];
 
-/// What cargo is told.
+/// The options that cargo is given.
 pub(crate) const OF_CARGO: [KnownOption; 7] = [
     KnownOption {
         name: "manifest-path",
@@ -174,7 +174,7 @@ pub(crate) const OF_CARGO: [KnownOption; 7] = [
     },
 ];
 
-/// The document that is read in place of running cargo.
+/// The document that is read instead of running cargo.
 pub(crate) const METADATA: KnownOption = KnownOption {
     name: "metadata",
     short: None,

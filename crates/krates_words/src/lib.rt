@@ -1,4 +1,4 @@
-//! What the words of the command lines `cargo krates` and `krates_check` ask for. Nothing is read but the words.
+//! What the words of the command lines `cargo krates` and `krates_check` mean. Only the words are read.
 #![tactic(auto)]
 
 mod cargo;
@@ -28,7 +28,7 @@ pub struct Asked {
     pub word: Word,
     /// Where the document comes from.
     pub input: Input,
-    /// What cargo is told, where the document comes from it.
+    /// The options that cargo is given, where the document comes from it.
     pub cargo: CargoWords,
     /// Which part of the document counts.
     pub choice: Choice,
@@ -41,7 +41,7 @@ pub struct Asked {
 pub enum Word {
     /// The kept crates.
     List {
-        /// Whether they are told by their ids: `--ids`.
+        /// Whether they are listed by their ids: `--ids`.
         ids: bool,
     },
     /// What the workspace, or a crate, needs.
@@ -58,7 +58,7 @@ pub enum Word {
     Why {
         /// The package specification or id of the crate.
         spec: String,
-        /// Whether the steps of the derivation are told: `--steps`.
+        /// Whether the steps of the derivation are printed: `--steps`.
         steps: bool,
     },
     /// The features of a crate that are enabled.
@@ -85,7 +85,7 @@ pub enum Word {
     Queries,
     /// A certificate that someone else can check.
     Certify {
-        /// The package specification or id of the crate that it is about; none where it is about all that is kept: `--all`.
+        /// The package specification or id of the crate that it is about; `None` where it is about all that is kept: `--all`.
         spec: Option<String>,
     },
     /// Whether nothing can need a crate.
@@ -106,10 +106,10 @@ pub enum Input {
     Stdin,
 }
 
-/// What the words ask for that stand behind the program's name. A first word `krates`, which cargo hands over where it runs the
-/// program, is passed over.
+/// What the words after the program's name mean. A first word `krates`, which cargo passes on where it runs the
+/// program, is skipped.
 ///
-/// It is refused as `Asked` where the words ask for help or the version, as `Wrong` where they ask for nothing known or for what
+/// It is refused as `Asked` where the words ask for help or the version, as `Wrong` where they mean nothing known or combine what
 /// can't go together, and else as `Memory`. Time O(length of the words).
 pub fn asked_of(alloc: Global, words: &[String]) -> Result<Asked, WordsError> {
     let words = without_name(words);

@@ -12,7 +12,7 @@ use krates_text::target::Target;
 use std::alloc::{AllocError, Global};
 
 impl Choice {
-    /// The words that mean this choice, one for each option and value, always in the same order. A target is told by its triple,
+    /// The words that mean this choice, one for each option and value, always in the same order. A target is given by its triple,
     /// however it was described. The only error is running out of memory. Time O(length of what is chosen).
     ///
     /// ```text

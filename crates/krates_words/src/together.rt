@@ -7,14 +7,14 @@ use clap::ArgMatches;
 use krates_text::path::ends_with;
 use std::alloc::Global;
 
-/// What can't go together is refused, and what no option can mean.
+/// Refuses what can't go together, and what no option can mean.
 pub(crate) fn check(alloc: Global, found: &ArgMatches<'_>) -> Result<(), WordsError> {
     check_choice(alloc, found)?;
     check_manifest(alloc, found.get_str("manifest-path"))?;
     check_documents(alloc, found.get_str("metadata"), found.get_str("FILE"))
 }
 
-/// The same of the options that choose a part of the document.
+/// The same for the options that choose a part of the document.
 pub(crate) fn check_choice(alloc: Global, found: &ArgMatches<'_>) -> Result<(), WordsError> {
     edges::check(alloc, values(found, "edges"))?;
     check_descriptions(
@@ -25,7 +25,7 @@ pub(crate) fn check_choice(alloc: Global, found: &ArgMatches<'_>) -> Result<(), 
     check_packages(alloc, values(found, "package"))
 }
 
-/// Each description is that of a target.
+/// Refuses more descriptions than targets.
 fn check_descriptions(alloc: Global, targets: usize, cfgs: usize) -> Result<(), WordsError> {
     if cfgs > targets {
         return Err(WordsError::wrong(
@@ -36,7 +36,7 @@ fn check_descriptions(alloc: Global, targets: usize, cfgs: usize) -> Result<(), 
     Ok(())
 }
 
-/// The path of a manifest ends in `Cargo.toml`, since cargo is asked for that file in the folder above its end.
+/// Refuses a manifest path that doesn't end in `Cargo.toml`, since cargo is run in the path's folder with that file.
 fn check_manifest(alloc: Global, path: Option<&str>) -> Result<(), WordsError> {
     match path {
         Some(path) if !ends_with(path, "Cargo.toml") => Err(WordsError::wrong(
@@ -49,7 +49,7 @@ fn check_manifest(alloc: Global, path: Option<&str>) -> Result<(), WordsError> {
     }
 }
 
-/// The directories of members are absolute, as documents write them.
+/// Refuses directories of members that aren't absolute, as documents write them.
 fn check_packages(alloc: Global, paths: &[&str]) -> Result<(), WordsError> {
     match paths.iter().find(|path| !is_absolute(path)) {
         Some(path) => Err(WordsError::wrong(
@@ -71,7 +71,7 @@ fn is_absolute(path: &str) -> bool {
     }
 }
 
-/// Standard input is one document.
+/// Refuses standard input for two documents.
 fn check_documents(
     alloc: Global,
     document: Option<&str>,

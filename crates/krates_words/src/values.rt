@@ -34,7 +34,7 @@ pub(crate) fn text(
     }
 }
 
-/// The value of what has to stand behind a word.
+/// The value of what must follow a word.
 pub(crate) fn required(
     alloc: Global,
     found: &ArgMatches<'_>,

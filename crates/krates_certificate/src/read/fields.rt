@@ -1,4 +1,4 @@
-//! What stands under the keys of an object.
+//! The values under the keys of an object.
 
 ghost use Rattle.std.specs.Prelude.{◌↔◌, IsTrue, codes, map};
 ghost use Rattle.krates_cm_json.specs.Objects.{ListWritten};
@@ -50,7 +50,7 @@ pub(crate) fn id<J: JsonRef>(
     }
 }
 
-/// Whether an id wasn't read since memory ran out.
+/// Whether an id wasn't read because memory ran out.
 pub(crate) fn is_of_memory(error: &IdError) -> bool
     ensures { IsTrue result ↔ IsOfMemory error.now }
 {
@@ -83,7 +83,7 @@ pub(crate) fn rule<J: JsonRef>(alloc: Global, object: J) -> Result<u8, Certifica
     Ok(number as u8)
 }
 
-/// Reads a part that stands under a key.
+/// Reads the part under a key.
 pub(crate) fn part<T: CertificatePart, J: JsonRef>(
     alloc: Global,
     object: J,
@@ -98,7 +98,7 @@ pub(crate) fn part<T: CertificatePart, J: JsonRef>(
     }
 }
 
-/// Reads a list of parts that stands under a key.
+/// Reads the list of parts under a key.
 pub(crate) fn list<T: CertificatePart, J: JsonRef>(
     alloc: Global,
     object: J,

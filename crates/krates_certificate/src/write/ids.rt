@@ -10,7 +10,7 @@ use krates_cm::PackageId;
 use krates_ids::Kid;
 use std::alloc::{AllocError, Global};
 
-/// A text that reads as the id, if any does: its own, or where that reads otherwise, since the query of a git source was decoded,
+/// A text that reads as the id, if any does: its own, or if that reads differently, since the query of a git source was decoded,
 /// its parts in the opaque form, in which nothing is decoded.
 pub(crate) fn id_text(alloc: Global, id: &Kid) -> Result<String, AllocError>
     ensures { IfOk result (λ s. IsTextFor id.now (string_bytes s)) }

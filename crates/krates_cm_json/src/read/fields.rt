@@ -22,7 +22,7 @@ pub(crate) fn expect_object<J: JsonRef>(value: J, key: &'static str) -> Result<(
     }
 }
 
-/// Reads a field that has to be there.
+/// Reads a field that must be there.
 pub(crate) fn required<T: FromValue, J: JsonRef>(
     alloc: Global,
     object: J,
@@ -73,7 +73,7 @@ pub(crate) fn list_or_empty<T: FromValue, J: JsonRef>(
     or_default(alloc, object, key, Vec::new(alloc))
 }
 
-/// Reads whatever stands in a field; null, if it is absent.
+/// Reads any value of a field; null, if the field is absent.
 pub(crate) fn any_or_null<J: JsonRef>(
     alloc: Global,
     object: J,

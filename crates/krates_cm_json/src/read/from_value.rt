@@ -20,7 +20,7 @@ pub trait FromValue: Sized + Drop {
     /// What is read from the data under a key, and which faults are true of it.
     ghost reads: { List ℕ → Data → Reading Model };
 
-    /// Reads the value that stands under `key`, which a refusal may name.
+    /// Reads the value under `key`, which a refusal may name.
     fn from_json_at<J: JsonRef>(
         alloc: Global,
         value: J,
@@ -30,7 +30,7 @@ pub trait FromValue: Sized + Drop {
 
     /// Reads a whole value.
     ///
-    /// A refusal is true of the value; if several are, it is left open which one is named.
+    /// A refusal is true of the value; if several are, it isn't specified which one is returned.
     final fn from_value(alloc: Global, value: &Value) -> Result<Self, ReadError>
         ensures { Gives view result (reads [] (data_of value.now)) }
     {

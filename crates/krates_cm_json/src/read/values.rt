@@ -155,7 +155,7 @@ impl<T: FromValue> FromValue for BTreeMap<String, T> {
     }
 }
 
-/// Reads what stands under each name of an object.
+/// Reads the value under each name of an object.
 fn map_from<T: FromValue, J: JsonRef>(
     alloc: Global,
     members: &BTreeMap<&str, J>,

@@ -58,7 +58,7 @@ impl Adjacency {
         let _ = self.lists[node].push(edge);
     }
 
-    /// The edges of the node; none for no node.
+    /// The edges of the node; none where there is no such node.
     pub(super) fn edges(&self, node: usize) -> &[EdgeId]
         ensures { result.now ≡ slice_index_or (lists_of self.now) node [] }
     {

@@ -16,7 +16,7 @@ impl Model for EdgeId {
 }
 
 impl EdgeId {
-    /// The id of the edge of that number. Time O(1).
+    /// The id of the edge with that number. Time O(1).
     pub fn new(number: u32) -> EdgeId
         ensures { result ≡ number }
     {

@@ -57,7 +57,7 @@ impl<'a, E> Iterator for EdgesDirected<'a, E> {
     }
 }
 
-// The edge of that number.
+// The edge with that number.
 fn reference_to<E>(edges: &[GraphEdge<E>], id: EdgeId) -> EdgeReference<'_, E>
     requires { id < length edges.now }
     ensures id { result.id ≡ id }

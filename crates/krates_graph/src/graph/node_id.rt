@@ -16,7 +16,7 @@ impl Model for NodeId {
 }
 
 impl NodeId {
-    /// The id of the node of that number. Time O(1).
+    /// The id of the node with that number. Time O(1).
     pub fn new(number: u32) -> NodeId
         ensures { result ≡ number }
     {

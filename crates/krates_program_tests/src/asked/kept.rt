@@ -58,7 +58,7 @@ const LISTS: &[Row] = &[
         "list --target x86_64-unknown-linux-gnu --target x86_64-pc-windows-msvc < a b&on=cfg(unix)|b",
         "a v0.1.0 (/w/a)\nb v0.1.0 (/w/b)\n",
     ),
-    // as cargo hands the words over, and as it stands
+    // as cargo passes the words on
     ("krates list < a", "a v0.1.0 (/w/a)\n"),
     // what is refused
     (

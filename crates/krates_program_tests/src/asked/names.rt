@@ -1,4 +1,4 @@
-//! Which crate a word of `cargo krates` means, and words that ask for nothing.
+//! Which crate a word of `cargo krates` means, and words that can't be answered.
 
 use crate::asked::{Answered, CargoTold};
 use krates_samples::table::{Row, hold};
@@ -31,7 +31,7 @@ const NAMES: &[Row] = &[
         "why b~0.1.0~(path+file:///w/b) < a b&id=b~0.1.0~(path+file:///w/b)|b&id=b~0.1.0~(path+file:///w/b)",
         "b v0.1.0 (/w/b) is kept:\n  a v0.1.0 is a root\n  a v0.1.0 needs b v0.1.0\n",
     ),
-    // the first numbers of a version, as cargo's `--package` takes them; a pre-release has to be named whole
+    // the first numbers of a version, as cargo's `--package` takes them; a pre-release must be named in full
     (
         "why b@0.1 < a b|b",
         "b v0.1.0 (/w/b) is kept:\n  a v0.1.0 is a root\n  a v0.1.0 needs b v0.1.0\n",
@@ -60,7 +60,7 @@ const NAMES: &[Row] = &[
         "why c@0.1 < a b|b|c",
         "refused: nothing that is kept needs `c@0.1`, which means:\n    c@0.1.0",
     ),
-    // none fits, and what comes near; one that isn't kept
+    // none fits, and what is similar; one that isn't kept
     ("why zzz < a b|b", "refused: no package fits `zzz`"),
     (
         "why sede < a serde|serde|sede_json",
@@ -110,7 +110,7 @@ const NAMES: &[Row] = &[
     ),
 ];
 
-/// Words that ask for nothing.
+/// Words that can't be answered.
 const WORDS: &[Row] = &[
     (
         "",

@@ -14,7 +14,7 @@ use krates_drawing::node::Node;
 use krates_graph::graph::NodeId;
 use std::alloc::{AllocError, Global};
 
-/// Adds the crate of a number, if it is one.
+/// Adds the crate with a number, if it is one.
 fn push_crate<'a, N>(
     nodes: &'a [Node<N>],
     number: NodeId,
@@ -32,7 +32,7 @@ fn push_crate<'a, N>(
     }
 }
 
-/// The crates among the nodes of these numbers, in their order.
+/// The crates among the nodes with these numbers, in their order.
 fn crates_among<'a, N>(
     alloc: Global,
     nodes: &'a [Node<N>],
@@ -51,7 +51,7 @@ impl<N, E> Krates<N, E> {
     /// The kept crates from which a path of edges leads to a node, each once, by number, which is the order
     /// of the ids: those that depend on it directly, those that depend on one of these, and so on. A crate is
     /// among its own, by the path without edges; the crate of a feature is among the feature's only if a path
-    /// leads from the crate to the feature. None for a number that no node has. The only refusal is running
+    /// leads from the crate to the feature. The list is empty for a number that no node has. The only refusal is running
     /// out of memory.
     ///
     /// Time: O(n log n + e), where n counts the nodes of the graph and e the edges to those from which the

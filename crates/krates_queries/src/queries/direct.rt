@@ -27,7 +27,7 @@ pub(crate) fn is_feature_of<N>(nodes: &[Node<N>], krate: NodeId, number: NodeId)
 /// A crate that an edge joins to a node: one on which it depends directly, or one that depends on it.
 #[derive(Debug, Drop)]
 pub struct JoinedKrate<'a, N> {
-    /// What stands for the package of the crate.
+    /// The value held for the package of the crate.
     pub krate: &'a N,
     /// The id of the crate.
     pub kid: &'a Kid,
@@ -37,7 +37,7 @@ pub struct JoinedKrate<'a, N> {
     pub edge_id: EdgeId,
 }
 
-/// Adds the crate of a number, with the first edge by which it is a neighbour; nothing if it isn't one.
+/// Adds the crate with a number, with the first edge by which it is a neighbour; nothing if it isn't one.
 fn push_joined<'a, N>(
     nodes: &'a [Node<N>],
     neighbours: &[Neighbour],
@@ -60,14 +60,14 @@ fn push_joined<'a, N>(
         node_id: number,
         edge_id,
     };
-    // What `?` makes of the refusal would have to own references.
+    // No `?` here: what it makes of the refusal would have to own references.
     match found.push(joined) {
         Ok(()) => Ok(()),
         Err(_) => Err(AllocError),
     }
 }
 
-/// The crates of these numbers that are neighbours, each with the first edge by which it is one.
+/// The crates with these numbers that are neighbours, each with the first edge by which it is one.
 pub(crate) fn joined_krates<'a, N>(
     alloc: Global,
     nodes: &'a [Node<N>],

@@ -83,7 +83,7 @@ fn targets_of<N, E>(
 
 impl<N, E> Krates<N, E> {
     /// The crates that the declared dependencies of a crate mean, each once, by number, with the least edge to each;
-    /// none for a feature. There has to be a node of that number. The only refusal is running out of memory.
+    /// none for a feature. There must be a node with that number. The only refusal is running out of memory.
     ///
     /// Time: O(n log n), where n counts the declared dependencies of the crate and the edges from it.
     ///

@@ -80,7 +80,7 @@ fn neighbour_numbers(alloc: Global, neighbours: &[Neighbour]) -> Result<Vec<Node
 
 impl<N, E> Krates<N, E> {
     /// The crates that depend directly on a node, each once, by number, with the least edge from each: on a crate
-    /// those with an edge to it or to a feature of it, on a feature those with an edge to it; none for no node. The
+    /// those with an edge to it or to a feature of it, on a feature those with an edge to it; none where there is no such node. The
     /// only refusal is running out of memory.
     ///
     /// Which crates depend on one, and by which edge:

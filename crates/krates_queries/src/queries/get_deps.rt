@@ -50,7 +50,7 @@ impl<'a, N, E> Iterator for Deps<'a, N, E> {
     }
 }
 
-/// The node at the end of the edge of that number, with what the edge carries.
+/// The node at the end of the edge with that number, with what the edge carries.
 fn dep_by<'a, N, E>(
     nodes: &'a [Node<N>],
     edges: &'a [GraphEdge<E>],

@@ -12,7 +12,7 @@ use krates_ids::Kid;
 
 impl<N, E> Krates<N, E> {
     /// The enabled features of a crate, in the order of their names as bytes: `Some` exactly for a kept crate. A kept
-    /// crate may have none, and then the set is empty. Time O(log n) of the nodes.
+    /// crate may have none, and then the set is empty. Time O(log n) for n nodes.
     ///
     /// ```text
     /// if let Some(features) = krates.get_enabled_features(&kid) {

@@ -16,8 +16,8 @@ use std::cmp::Ordering;
 
 impl<N, E> Krates<N, E> {
     /// The node of a crate, or that of an enabled feature of it, with its number. Without a feature it is `Some`
-    /// exactly for a kept crate; with one exactly where `get_enabled_features` of the crate has that name. Time O(log
-    /// n) of the nodes.
+    /// exactly for a kept crate; with one exactly where `get_enabled_features` of the crate has that name. Time
+    /// O(log n) for n nodes.
     ///
     /// ```text
     /// let has_std = krates.get_node(&kid, Some("std")).is_some();
@@ -49,7 +49,7 @@ fn number_in<N>(nodes: &[Node<N>], kid: &Kid, feature: Option<&str>) -> Option<u
     }
 }
 
-/// The number of the node of the crate of a number, or of that of an enabled feature of it.
+/// The number of the node of the crate with a number, or of that of an enabled feature of it.
 fn crate_or_feature_number<N>(
     nodes: &[Node<N>],
     krate: usize,

@@ -10,7 +10,7 @@ use krates_drawing::node::Node;
 use krates_graph::graph::NodeId;
 use std::ops::Index;
 
-/// What stands for the package of the crate of a number, which has to be below `len()`. Time O(1).
+/// The value held for the package of the crate with a number, which must be below `len()`. Time O(1).
 ///
 /// ```text
 /// let first = &krates[NodeId::new(0)];
@@ -46,7 +46,7 @@ impl<N, E> Index<usize> for Krates<N, E> {
     }
 }
 
-/// What stands for the package of the crate of this number.
+/// The value held for the package of the crate with this number.
 fn value_at<N>(nodes: &[Node<N>], number: usize) -> &N
     requires first { AreNodes nodes.now }
     requires stands { number < length (crate_ids nodes.now) }

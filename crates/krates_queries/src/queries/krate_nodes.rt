@@ -17,7 +17,7 @@ use std::marker::Model;
 /// A kept crate with its number.
 #[derive(Debug, Drop)]
 pub struct KrateMatch<'a, N> {
-    /// What stands for its package.
+    /// The value held for its package.
     pub krate: &'a N,
     /// Its id.
     pub kid: &'a Kid,
@@ -25,7 +25,7 @@ pub struct KrateMatch<'a, N> {
     pub node_id: NodeId,
 }
 
-/// The crate of a number; `None` for a feature, and where there is no node.
+/// The crate with a number; `None` for a feature, and where there is no node.
 pub(crate) fn krate_at<N>(nodes: &[Node<N>], number: NodeId) -> Option<KrateMatch<'_, N>>
     ensures is { option_map match_view result ≡ match_at nodes.now number }
     ensures both { option_map (λ found. (found.kid.now, found.krate.now)) result

@@ -10,7 +10,7 @@ use crate::queries::matches::Matches;
 
 impl<N: KrateDetails, E> Krates<N, E> {
     /// The kept crates of a name, by increasing number, so by id. The name is that of `KrateDetails`: a package's own,
-    /// which its id needn't have. Time O(n) for n nodes, so a report over all names groups the crates by name instead.
+    /// which may differ from the name in its id. Time O(n) for n nodes, so a report over all names groups the crates by name instead.
     ///
     /// ```text
     /// for found in krates.krates_by_name("rand") {

@@ -51,7 +51,7 @@ fn reached<N>(
     Ok(agenda)
 }
 
-/// Adds what stands for the crate of a number, if it is a crate.
+/// Adds the value held for the crate with a number, if it is a crate.
 fn push_krate<'a, N>(
     nodes: &'a [Node<N>],
     number: NodeId,
@@ -69,7 +69,7 @@ fn push_krate<'a, N>(
     }
 }
 
-/// What stands for the crates among nodes of these numbers, in their order.
+/// The values held for the crates among the nodes with these numbers, in their order.
 fn krates_among<'a, N>(
     alloc: Global,
     nodes: &'a [Node<N>],

@@ -10,7 +10,7 @@ use crate::queries::krate_nodes::{KrateMatch, KrateNodes};
 use semver::VersionReq;
 use std::marker::Model;
 
-/// Kept crates of a name, by increasing number; if a version is asked for, those whose version fits.
+/// Kept crates of a name, by increasing number; with a version requirement, only those whose version fits.
 #[derive(Drop)]
 pub struct Matches<'a, N: KrateDetails> {
     pub(crate) left: KrateNodes<'a, N>,

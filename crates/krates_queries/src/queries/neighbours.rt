@@ -23,7 +23,7 @@ pub(crate) fn ordered(mut neighbours: Vec<Neighbour>) -> Vec<Neighbour>
     neighbours
 }
 
-/// The edge of the first of the neighbours that is the crate of this number.
+/// The edge of the first of the neighbours that is the crate with this number.
 pub(crate) fn first_edge(neighbours: &[Neighbour], number: NodeId) -> Option<EdgeId>
     requires { AreInOrder neighbours.now }
     ensures { result ≡ first_edge neighbours.now number }

@@ -11,7 +11,7 @@ use krates_ids::Kid;
 
 impl<N, E> Krates<N, E> {
     /// The number of a crate: `Some` exactly for a kept crate, with its place in the order of the ids. Time O(log n)
-    /// of the nodes.
+    /// for n nodes.
     ///
     /// ```text
     /// let kid = Kid::try_from(pkg.id.clone()?)?;

@@ -10,7 +10,7 @@ use krates_drawing::node::Node;
 use krates_ids::Kid;
 
 impl<N, E> Krates<N, E> {
-    /// The node of a crate: `Some` exactly for a kept crate. Time O(log n) of the nodes.
+    /// The node of a crate: `Some` exactly for a kept crate. Time O(log n) for n nodes.
     ///
     /// ```text
     /// let is_needed = krates.node_for_kid(&kid).is_some();

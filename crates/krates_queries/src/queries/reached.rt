@@ -52,7 +52,7 @@ impl EdgeFilter<Edge> for WithoutKind {
     }
 }
 
-/// The edge of a number.
+/// The edge with a number.
 fn edge_at<E>(edges: &[GraphEdge<E>], id: EdgeId) -> Option<&GraphEdge<E>>
     ensures { option_map (λ edge. edge.now) result ≡ slice_get edges.now id }
 {
@@ -87,7 +87,7 @@ fn put_end<E, F: EdgeFilter<E>>(
     }
 }
 
-/// Puts the other ends of the edges of these numbers that pass.
+/// Puts the other ends of the edges with these numbers that pass.
 fn put_ends<E, F: EdgeFilter<E>>(
     filter: &F,
     direction: Direction,
@@ -103,7 +103,7 @@ fn put_ends<E, F: EdgeFilter<E>>(
     }
 }
 
-/// Puts all nodes that are reached from those that were put, of which none was taken. Each is followed once.
+/// Puts all nodes that are reached from those that were put, none of which was taken yet. Each is followed once.
 pub(crate) fn put_reached<N, E, F: EdgeFilter<E>>(
     filter: &F,
     direction: Direction,

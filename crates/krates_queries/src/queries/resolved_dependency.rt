@@ -19,7 +19,7 @@ fn mapped_number<N>(node: &Node<N>, place: usize) -> Option<NodeId>
 }
 
 impl<N, E> Krates<N, E> {
-    /// What stands for the crate that a crate's declared dependency means: of the dependency at that place of its package. `None`
+    /// The value held for the crate that a crate's declared dependency means: the dependency at that place of its package. `None`
     /// where no crate is kept for it, where there is no such place, and for a feature or no node. Time
     /// O(1), whatever the graph.
     ///
@@ -32,7 +32,7 @@ impl<N, E> Krates<N, E> {
     {
         let nodes = self.graph().raw_nodes();
         let number = mapped_number(nodes.get(node.index())?, place)?;
-        // What `?` makes of no crate would have to own references.
+        // No `?` here: what it makes of no crate would have to own references.
         let Some(found) = krate_at(nodes, number) else {
             return None;
         };

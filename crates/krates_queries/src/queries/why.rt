@@ -17,9 +17,9 @@ impl<N, E> Krates<N, E> {
     /// Why a node is there: a list of steps that ends in its crate or its feature, each with its rule, its fact, and the
     /// numbers of the steps that it uses. `Some` exactly for a node.
     ///
-    /// No fact stands twice, and each step but the last is used by a later one. Ids are those of the kept crates, with their
+    /// No fact occurs twice, and each step but the last is used by a later one. Ids are those of the kept crates, with their
     /// texts. The list is accepted by `derive::check` for the document and the setting of the build. If there are several, it is
-    /// left open which derivation it is.
+    /// not specified which derivation it is.
     ///
     /// The only error is running out of memory. Time O(n) in the facts of the build.
     ///
@@ -46,7 +46,7 @@ impl<N, E> Krates<N, E> {
     }
 }
 
-/// What the node of a number says.
+/// What the node with a number says.
 fn subject_of<N>(number: usize, node: &Node<N>) -> CrateOrFeature<'_>
     ensures { subject_view result ≡ node_says number node.now }
 {

@@ -76,7 +76,7 @@ fn push_resolved(lines: &mut String, krates: &Krates, node: NodeId) -> Result<()
     Ok(())
 }
 
-/// Adds what is answered of each node, and of the number behind the last.
+/// Adds what is answered of each node, and of the number after the last.
 fn push_nodes(lines: &mut String, krates: &Krates) -> Result<(), AllocError> {
     for number in 0..=krates.graph().node_count() {
         let node = NodeId::new(number as u32);

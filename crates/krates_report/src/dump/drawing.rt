@@ -6,7 +6,7 @@ use krates::graph::{Graph, GraphEdge};
 use krates::{DepKind, Edge, Node, NodeId, Package};
 use std::alloc::AllocError;
 
-/// The id of the crate of a number, as the document writes it.
+/// The id of the crate with a number, as the document writes it.
 fn id_at(nodes: &[Node<Package>], number: NodeId) -> &str {
     match nodes.get(number.index()) {
         Some(Node::Krate { krate, .. }) => krate.id.repr.as_str(),

@@ -3,7 +3,7 @@
 use krates::PackageId;
 use std::alloc::AllocError;
 
-/// Adds a word and numbers, with which a line begins, and a blank before each number.
+/// Adds a word and numbers, with which a line begins, and a space before each number.
 pub(crate) fn push_start(
     lines: &mut String,
     word: &str,

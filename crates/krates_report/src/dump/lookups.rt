@@ -1,4 +1,4 @@
-//! What the queries of a graph answer to ids and names.
+//! What the queries of a graph answer for ids and names.
 
 use crate::dump::drawing::push_node;
 use krates::semver::VersionReq;
@@ -34,7 +34,7 @@ fn push_search(
     push_node(lines, id, &[number.index()], nodes, node)
 }
 
-/// Adds what is answered to an id: where the crate is kept, `number ID N`, `node_of ID NODE`, its features, and what is found of it.
+/// Adds what is answered for an id: where the crate is kept, `number ID N`, `node_of ID NODE`, its features, and what is found of it.
 fn push_kid(
     lines: &mut String,
     krates: &Krates,
@@ -55,7 +55,7 @@ fn push_kid(
     push_search(lines, krates, id, kid, None)
 }
 
-/// Adds what is answered to each of these ids that can be read.
+/// Adds what is answered for each of these ids that can be read.
 pub(crate) fn push_ids(
     lines: &mut String,
     krates: &Krates,
@@ -69,7 +69,7 @@ pub(crate) fn push_ids(
     Ok(())
 }
 
-/// Adds what is found of a feature of this name, of the crate of a number.
+/// Adds what is found of a feature of this name, of the crate with a number.
 fn push_feature(
     lines: &mut String,
     krates: &Krates,

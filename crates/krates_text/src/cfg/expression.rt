@@ -23,8 +23,8 @@ impl Expression {
     ghost use Rattle.krates_text.specs.CfgExpression.{tree};
     ghost use Rattle.krates_text.specs.TargetTable.{target_of};
 
-    /// The expression that a text is. `TooDeep` comes where a beginning of the text opens a 128th form in the forms
-    /// that it has opened, with no fault before; `Syntax` for every other text outside the grammar. Any call may instead
+    /// The expression that a text is. `TooDeep` comes where a beginning of the text opens a 128th nested form
+    /// without a fault before it; `Syntax` for every other text outside the grammar. Any call may instead
     /// return `Memory`. Time O(length), without recursion.
     ///
     /// ```text
@@ -41,7 +41,7 @@ impl Expression {
         Ok(Expression { predicate })
     }
 
-    /// How many words and pairs the expression has; `true` and `false` are none. Time O(size).
+    /// How many words and pairs the expression has; `true` and `false` don't count. Time O(size).
     ///
     /// ```text
     /// assert_eq!(rt; Expression::parse(alloc, "cfg(any(unix, windows))")?.predicates(), 2);

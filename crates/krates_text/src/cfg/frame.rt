@@ -10,7 +10,7 @@ use crate::cfg::CfgError;
 use crate::cfg::predicate::Predicate;
 use std::alloc::Global;
 
-/// A form that is open, with what stands in it before the place where the next predicate may begin.
+/// A form that is open, with what is in it before the place where the next predicate may begin.
 #[derive(Drop)]
 pub(crate) enum Frame {
     Not,

@@ -131,7 +131,7 @@ fn described(info: &TargetInfo, key: &str, string: &str) -> bool
     }
 }
 
-/// How many words and pairs there are, where a `usize` holds the number.
+/// How many words and pairs there are, if a `usize` can hold the number.
 #[cycle(count)]
 pub(crate) fn count(predicate: &Predicate) -> usize
     ensures { count (tree_of predicate.now) < 2 ^ 64 → result ≡ count (tree_of predicate.now) }

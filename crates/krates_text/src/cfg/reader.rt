@@ -14,13 +14,13 @@ use std::alloc::Global;
 /// How many forms may be nested.
 const MAX_NESTING: usize = 127;
 
-/// Where the reader stands.
+/// Where the reader is.
 #[derive(Drop)]
 enum Place {
     /// Where a predicate may begin.
     AtPredicate,
     InWord(String),
-    /// In the blanks after a word.
+    /// In the white space after a word.
     AfterWord(String),
     /// After the `=` that follows this key.
     AtString(String),
@@ -30,7 +30,7 @@ enum Place {
     AtEnd(Predicate),
 }
 
-/// Reads the text behind `cfg(`, up to its end, as a predicate.
+/// Reads the text after `cfg(`, up to its end, as a predicate.
 pub(crate) fn read(alloc: Global, text: &str) -> Result<Predicate, CfgError>
     ensures { GivesTree result (read text.now) }
 {
@@ -234,7 +234,7 @@ fn closed_before(frames: &mut Vec<Frame>) -> Result<Place, CfgError>
     }
 }
 
-/// A word that stands alone.
+/// A word without a value.
 fn leaf(word: String) -> Predicate
     ensures { tree_of result ≡ leaf (string_bytes word) }
 {
