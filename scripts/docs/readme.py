@@ -1,13 +1,14 @@
 """Says whether the examples of the README and the guide are code that the gate runs, and whether they compile.
 
-Each block of Rattle's code in README.md and in docs/GUIDE.md has to be, line by line, in a file readme.rt of a
-crate of worked examples: in one piece, except for what it imports, which the file has to import too, and for lines of
+Each block of Rattle's code in README.md and in docs/GUIDE.md has to be, line by line, in a file readme.rt of a crate
+of worked examples: in one piece, except for what it imports, which the file has to import too, and for lines of
 comment.
+A block of Rust's code (```rs) has to be so in a program of bindings/rust/examples, which its tests compile.
 
-To compile them, each block is a module of its own, word by word, of a crate of tests in a copy of the working tree,
-which `rt try` compiles; nothing is proved. It takes a minute.
+To compile those of Rattle, each block is a module of its own, word by word, of a crate of tests in a copy of the
+working tree, which `rt try` compiles; nothing is proved. It takes a minute.
 
-All is well where this holds for each block, and each page has one.
+All is well where each block is so, and each page has one of Rattle's code.
 """
 import pathlib
 import re
@@ -17,7 +18,7 @@ import tempfile
 from krates_sources import ROOT, copy_tree
 
 PAGES = ("README.md", "docs/GUIDE.md")
-FILES = ("crates/*_tests/src/readme.rt",)
+FILES = {"rust": "crates/*_tests/src/readme.rt", "rs": "bindings/rust/examples/*.rs"}
 
 # The crate whose modules are the blocks, what its line in crates.txt names, and its root file.
 NAME = "page_blocks"
@@ -37,9 +38,9 @@ mod nothing {
 """
 
 
-def blocks(text):
-    """The blocks of code, without the lines that fence them."""
-    return re.findall(r"^```rust\n(.*?)^```$", text, re.M | re.S)
+def blocks(text, language):
+    """The blocks of code in a language, without the lines that fence them."""
+    return re.findall(rf"^```{language}\n(.*?)^```$", text, re.M | re.S)
 
 
 def paths(tree, above=""):
@@ -69,31 +70,33 @@ def lines(text):
 
 
 def stands_in(block, file):
-    """Whether the lines of the block are in the file, in one piece, and the file imports what the block does."""
+    """Whether the lines of the block stand in the file, in one piece, and the file imports what the block does."""
     wanted, there = lines(block), lines(file)
     pieces = (there[at : at + len(wanted)] for at in range(len(there)))
     return imports(block) <= imports(file) and wanted in pieces
 
 
-def compare(examples, page):
-    """Whether each block of the page is in a source; prints those that don't."""
-    sources = [path for pattern in FILES for path in sorted(ROOT.glob(pattern))]
-    files = [path.read_text(encoding="utf-8") for path in sources]
+def compare(examples, page, pattern):
+    """Whether each block of the page is in one of these sources; prints those that aren't."""
+    files = [path.read_text(encoding="utf-8") for path in sorted(ROOT.glob(pattern))]
     missing = [block for block in examples if not any(stands_in(block, file) for file in files)]
     for block in missing:
-        print(f"{page}: nothing that the gate runs has the example that begins so:\n" + "\n".join(lines(block)[:3]))
-    print(f"{page}: {len(examples) - len(missing)} of {len(examples)} examples stand in code that the gate runs")
-    return bool(examples) and not missing
+        print(f"{page}: {pattern} doesn't have the example that begins so:\n" + "\n".join(lines(block)[:3]))
+    print(f"{page}: {len(examples) - len(missing)} of {len(examples)} examples are in {pattern}")
+    return not missing
 
 
-def pages():
-    """The blocks of each page."""
-    return {page: blocks((ROOT / page).read_text(encoding="utf-8")) for page in PAGES}
+def pages(language):
+    """The blocks of each page in a language."""
+    return {page: blocks((ROOT / page).read_text(encoding="utf-8"), language) for page in PAGES}
 
 
 def check():
-    """Whether each block of each page is in a source, and each page has one."""
-    return all([compare(examples, page) for page, examples in pages().items()])
+    """Whether each block of each page is in a source, and each page has one of Rattle's code."""
+    found = [(page, examples, FILES[language]) for language in FILES for page, examples in pages(language).items()]
+    return all([compare(examples, page, pattern) for page, examples, pattern in found if examples]) and all(
+        pages("rust").values()
+    )
 
 
 def write_crate(folder):
@@ -101,7 +104,7 @@ def write_crate(folder):
     source = folder / "crates" / NAME / "src"
     source.mkdir(parents=True)
     modules = []
-    for page, examples in pages().items():
+    for page, examples in pages("rust").items():
         for number, block in enumerate(examples, 1):
             modules.append(f"{pathlib.Path(page).stem.lower()}_{number}")
             (source / f"{modules[-1]}.rt").write_text(block, encoding="utf-8")
