@@ -25,8 +25,7 @@ use Rattle.krates_drawing.specs.declared.outline.FeatureRow.{FeatureRow}
 use Rattle.krates_drawing.specs.declared.outline.Outline.{Outline}
 use Rattle.krates_graph.specs.Graph.{StoredGraph}
 use Rattle.krates_ids.specs.Identity.{Identity, id_cmp}
-use Rattle.krates_selection.specs.CrateNumbers.{id_at, no_id}
-use Rattle.krates_selection.specs.Selection.{feature_fact}
+use Rattle.krates_selection.specs.Selection.{id_at, no_id, feature_fact}
 use Rattle.krates_selection.specs.declared.selection.EnabledFeature.{EnabledFeature}
 use Rattle.krates_rules.specs.Facts.{Id, Feature}
 use Rattle.krates_rules.specs.Resolved.{HasGraphWith, Resolved, StandsAt, id_of, resolved}

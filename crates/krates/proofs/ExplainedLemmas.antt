@@ -13,15 +13,12 @@ use Rattle.krates_drawing.specs.declared.edge.Edge.{Edge}
 use Rattle.krates_drawing.specs.declared.outline.Outline.{Outline}
 use Rattle.krates_selection.proofs.KeptFactLemmas.{same_in}
 use Rattle.krates_selection.proofs.PickedSteps.{seen_back}
-use Rattle.krates_selection.specs.Explanation.{AreBelow}
-use Rattle.krates_selection.specs.CrateNumbers.{id_at, no_id}
-use Rattle.krates_selection.specs.KeptFacts.{Enables, IsBelow, KeepsCrate, KeepsEdge, KeptModel, Toggles, fact_in, facts_in, kept_view, step_in, steps_in}
+use Rattle.krates_selection.specs.KeptFacts.{AreBelow, Enables, IsBelow, KeepsCrate, KeepsEdge, KeptModel, Toggles, fact_in, facts_in, kept_view, step_in, steps_in}
+use Rattle.krates_selection.specs.Selection.{id_at, no_id, IsExplained, IsExplainedOf, IsSelection, crate_fact, edge_fact, facts_of, feature_fact, toggled_fact}
 use Rattle.krates_selection.specs.KeptTables.{AreStepsOf, IsKeptIn}
 use Rattle.krates_selection.specs.declared.kept.KeptStep.{KeptStep}
 use Rattle.krates_graph.specs.Graph.{StoredGraph}
 use Rattle.krates_ids.specs.Identity.{Identity, empty_identity, id_cmp}
-use Rattle.krates_selection.specs.Explained.{IsExplained, IsExplainedOf}
-use Rattle.krates_selection.specs.Selection.{IsSelection, crate_fact, edge_fact, facts_of, feature_fact, toggled_fact}
 use Rattle.krates_selection.specs.declared.selection.Selection.{Selection}
 use Rattle.krates_rules.proofs.ListsOfSteps.{contained_derived}
 use Rattle.krates_rules.proofs.OnlyOne.{place_in}

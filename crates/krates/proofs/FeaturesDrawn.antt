@@ -16,8 +16,7 @@ use Rattle.krates_drawing.specs.declared.outline.Outline.{Outline}
 use Rattle.krates_ids.specs.Identity.{Identity, empty_identity, id_cmp}
 use Rattle.krates_rules.proofs.SeenInOrder.{sorted_same}
 use Rattle.krates_selection.proofs.CrateNumbers.{seen_id}
-use Rattle.krates_selection.specs.CrateNumbers.{HasHome, id_at, no_id}
-use Rattle.krates_selection.specs.SelectionOrder.{feature_cmp}
+use Rattle.krates_selection.specs.Selection.{HasHome, id_at, no_id, feature_cmp}
 use Rattle.krates_rules.specs.Facts.{Id, Fact}
 use Rattle.krates_rules.specs.Facts as facts
 use Rattle.krates_rules.specs.Resolved.{id_of, StandsAt}

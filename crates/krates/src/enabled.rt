@@ -2,7 +2,7 @@
 
 ghost use Rattle.std.specs.Prelude.{◌≡◌, All, IfOk, OnOk, [], length};
 ghost use Rattle.std.specs.BTreeSet.{keys};
-ghost use Rattle.krates_selection.specs.CrateNumbers.{HasHome};
+ghost use Rattle.krates_selection.specs.Selection.{HasHome};
 ghost use Rattle.krates.specs.Enabled.{AreEnabledSets, IsPut};
 
 use krates_drawing::node::EnabledFeatures;

@@ -2,12 +2,12 @@
 use Rattle.std.proofs.Common.{◌≡◌, ◌↔◌, ◌∙◌, List, [], ◌∷◌, Bool, IsTrue, true, false, Contains, inl, inr, refl, sym, subst}
 use Rattle.krates_cm.specs.Document.{Text, DepKindInfoModel}
 use Rattle.krates_derive.specs.Giving.{CrateIn, DepIn, EdgesToIn, FactIn, FeatureIn, GivesIn, KeptIn, ReferenceIn, ReferencesIn, RootsIn, ToggledIn}
-use Rattle.krates_derive.specs.Referring.{toggling}
+use Rattle.krates_derive.specs.Following.{toggling}
 use Rattle.krates_text.specs.FeatureReference.{HasOneReading, IsReference, Reference, krate, simple, strong, weak}
 use Rattle.krates_rules.specs.Demands.{Demands}
 use Rattle.krates_rules.specs.Facts.{Id, Edge, Fact, Cause, Crate, Feature, Kept, Toggled, Lost}
 use Rattle.krates_rules.specs.Features.{HasReference}
-use Rattle.krates_questions.specs.FeatureValues.{AreValuesOf}
+use Rattle.krates_questions.specs.FeatureTable.{AreValuesOf}
 use Rattle.krates_rules.specs.Derivation.{Among, IsClosed}
 use Rattle.krates_rules.specs.Referent.{IsReferent}
 use Rattle.krates_rules.specs.Rules.{IsAskedFor, root_crate, root_feature, lost_root_package, lost_root_node, feature_crate, named, lost_named, asked, toggled_strongly, lost_asked_package, lost_asked_node, lost_toggled_strongly, required, target, lost_undeclared, lost_required_package, lost_required_node, declared, by_default, lost_declared, toggled_weakly, toggled_feature, lost_toggled_weakly}

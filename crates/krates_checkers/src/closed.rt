@@ -6,8 +6,7 @@
 ghost use Rattle.std.specs.Prelude.{◌↔◌, IfOk, IsTrue, map};
 ghost use Rattle.krates_cm.specs.Document.{text_view};
 ghost use Rattle.krates_questions.specs.Context.{rules_of};
-ghost use Rattle.krates_derive.specs.ClosureCheck.{document_in, facts_in, setting_in};
-ghost use Rattle.krates_derive.specs.Giving.{AllIn, FactIn, FeatureIn, ReferenceIn, ReferencesIn};
+ghost use Rattle.krates_derive.specs.Giving.{document_in, facts_in, setting_in, AllIn, FactIn, FeatureIn, ReferenceIn, ReferencesIn};
 ghost use Rattle.krates_rules.specs.Derivation.{IsClosed};
 ghost use Rattle.krates_rules.specs.Resolved.{id_of};
 ghost use Rattle.krates_rules.specs.StepViews.{fact_view, facts_view};

@@ -4,7 +4,7 @@ use Rattle.krates_cm.specs.Document.{MetadataModel, Text}
 use Rattle.krates_rules.specs.DerivationTexts.{derivation_lines}
 use Rattle.krates_rules.specs.StepViews.{steps_view}
 use Rattle.krates_rules.specs.declared.derivation.Step.{Step}
-use Rattle.krates_selection.specs.Explanation.{HasTheseIds}
+use Rattle.krates_selection.specs.KeptFacts.{HasTheseIds}
 use Rattle.krates_ids.specs.Identity.{Identity}
 use Rattle.krates_rules.specs.Checks.{IsAcceptedFor}
 use Rattle.krates_rules.specs.Facts.{Crate}

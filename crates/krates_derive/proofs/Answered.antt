@@ -16,9 +16,3 @@ pub any_told : {A B : Type 0} (f : A → B) (P : B → Type 0) (xs : List A) (r 
     → MatchBool r ((k : ℕ) × (k < length xs) × HoldsAt (λ x. P (f x)) xs k) (AllWithin (λ x. P (f x) → ⊥) xs 0 (length xs)) → IsTrue r ↔ ((y : B) × Contains (map f xs) y × P y)
 any_told f P xs true h = (λ t. at_place f P xs h.0 h.1 h.2, λ w. refl)
 any_told f P xs false h = (λ t. absurd cc, λ w. absurd (each_seen f (λ y. P y → ⊥) xs xs (length xs) refl (omega arith) (λ k d lt. h k d (omega arith) lt) w.0 w.1 w.2))
-
--- whether each view has it
-pub all_told : {A B : Type 0} (f : A → B) (P : B → Type 0) (xs : List A) (r : Bool)
-    → MatchBool r (AllWithin (λ x. P (f x)) xs 0 (length xs)) ((k : ℕ) × (k < length xs) × HoldsAt (λ x. P (f x) → ⊥) xs k) → IsTrue r ↔ ((y : B) → Contains (map f xs) y → P y)
-all_told f P xs true h = (λ t. each_seen f P xs xs (length xs) refl (omega arith) (λ k d lt. h k d (omega arith) lt), λ w. refl)
-all_told f P xs false h = (λ t. absurd cc, λ w. absurd (let z = at_place f (λ y. P y → ⊥) xs h.0 h.1 h.2 in z.2 (w z.0 z.1)))

@@ -5,8 +5,7 @@ use Rattle.std.proofs.lemmas.List.Elements.{Contains-append_left, Contains-push,
 use Rattle.std.specs.BTreeMap.{is_at}
 use Rattle.std.specs.BTreeSet.{BTreeSet, contains}
 use Rattle.std.specs.Ordering.{is_eq}
-use Rattle.krates_derive.specs.FactRef.{fact_cmp, fact_of_ref}
-use Rattle.krates_derive.specs.FactSet.{HasBetween, HasKeys, HasPairs, pair_cmp}
+use Rattle.krates_derive.specs.FactRef.{fact_cmp, fact_of_ref, HasBetween, HasKeys, HasPairs, pair_cmp}
 use Rattle.krates_rules.specs.StepViews.{fact_view, facts_view}
 use Rattle.krates_rules.specs.declared.derivation.Fact.{Fact as ToldFact}
 use Rattle.krates_derive.specs.declared.fact_ref.EdgeRef.{EdgeRef}

@@ -1,9 +1,9 @@
--- What a document gives from single edges, and when all of that stands in a list.
+-- What a document gives from single edges, and when all of that is in a list.
 use Rattle.std.proofs.Common.{◌↔◌, List, Bool, true, false, IsTrue, Contains, refl, subst}
 use Rattle.krates_cm.specs.Document.{DependencyModel, DepKindInfoModel}
 use Rattle.krates_derive.specs.Giving.{IsTaken, ChildIn, EdgeIn}
 use Rattle.krates_rules.specs.Facts.{Id, Edge, Fact, Kept}
-use Rattle.krates_questions.specs.Need.{IsWantedAs, NotWanted, ListsKind, HasChild}
+use Rattle.krates_questions.specs.Availability.{IsWantedAs, NotWanted, ListsKind, HasChild}
 use Rattle.krates_rules.specs.Questions.{edge_between, Stands, IsLoose}
 use Rattle.krates_rules.specs.Resolved.{Resolved}
 use Rattle.krates_rules.specs.Setting.{SettingModel}

@@ -1,7 +1,7 @@
 -- What a text asks for, as the one reference that it is.
 use Rattle.std.proofs.Common.{◌≡◌, ◌↔◌, Bool, Bor, IsTrue, true, false, refl, sym, ◌∙◌, subst}
 use Rattle.krates_cm.specs.Document.{Text}
-use Rattle.krates_derive.specs.Referring.{AsksBy, IsToggleOf, TogglesBy, toggling}
+use Rattle.krates_derive.specs.Following.{AsksBy, IsToggleOf, TogglesBy, toggling}
 use Rattle.krates_rules.specs.Facts.{Id}
 use Rattle.krates_rules.specs.Referent.{IsReferent}
 use Rattle.krates_rules.specs.Demands.{Demands}

@@ -1,8 +1,7 @@
 -- The rules row by row: what each of them asks.
 use Rattle.std.proofs.Common.{◌≡◌, ◌↔◌, ℕ, [], ◌∷◌, Bool, true, false, inl, inr, refl, sym, subst}
 use Rattle.krates_cm.specs.Document.{Text}
-use Rattle.krates_derive.specs.Following.{MayKeep, AsksForFeature, TogglesOver}
-use Rattle.krates_derive.specs.Referring.{Asks, Toggles}
+use Rattle.krates_derive.specs.Following.{MayKeep, AsksForFeature, TogglesOver, Asks, Toggles}
 use Rattle.krates_rules.specs.Facts.{Id, Edge, Crate, Feature, Kept, Toggled}
 use Rattle.krates_rules.specs.Features.{HasReference, ListsFeature}
 use Rattle.krates_rules.specs.Questions.{questions, Stands}
@@ -146,8 +145,3 @@ toggled_row r s weakly p f e a c g = (to, back weakly (number_of weakly) refl p 
     back true n is p a c (toggled_strongly refers referent lists) = absurd cc
     back false n is p a c (toggled_weakly refers referent lists) = absurd cc
     back false n is p a c (toggled_strongly {c = dep} refers referent lists) = (refl, refl, refl, record { dep = dep; refers = refers; referent = referent }, lists)
-
--- no other rule toggles
-pub no_other_toggle : (q : Questions) (n : ℕ) (p : Id) (f : Text) (e : Edge) (a c : Id) (g : Text) → (n ≡ 4 → ⊥) → (n ≡ 7 → ⊥) → Rule q n (Feature p f ∷ Kept e ∷ []) (Toggled a c g) → ⊥
-no_other_toggle q n p f e a c g four seven (toggled_strongly x y z) = four refl
-no_other_toggle q n p f e a c g four seven (toggled_weakly x y z) = seven refl

@@ -1,24 +1,37 @@
--- What single facts give by one rule, and when all of that stands in a list.
-use Rattle.std.specs.Prelude.{◌≡◌, List, Bool, true, false, Contains, ⊤}
+-- What single facts give by one rule, and when all of that is in a list.
+use Rattle.std.specs.Prelude.{List, ◌≡◌, Bool, true, false, Contains, ⊤}
+use Rattle.krates_rules.specs.StepViews.{facts_view}
+use Rattle.krates_derive.specs.declared.closing.ClosureCheck.{ClosureCheck}
+use Rattle.krates_questions.specs.Context.{document_of}
+use Rattle.krates_rules.specs.Facts.{Fact, Id, Edge, Crate, Feature, Kept, Toggled}
+use Rattle.krates_rules.specs.Resolved.{Resolved, NoPackage}
+use Rattle.krates_rules.specs.Setting.{SettingModel}
 use Rattle.krates_cm.specs.Document.{Text, DependencyModel, DepKindInfoModel}
-use Rattle.krates_rules.specs.Facts.{Id, Edge, Fact, Crate, Feature, Kept, Toggled}
 use Rattle.krates_rules.specs.Features.{ListsFeature, LacksFeature, HasReference}
 use Rattle.krates_rules.specs.Questions.{Stands, LacksNode, IsDeclaredAs, IsWanted, IsLoose, edge_between}
 use Rattle.krates_rules.specs.Referent.{IsReferent}
-use Rattle.krates_rules.specs.Resolved.{Resolved, NoPackage}
 use Rattle.krates_rules.specs.Roots.{IsRoot}
 use Rattle.krates_rules.specs.Rules.{default_name}
-use Rattle.krates_rules.specs.Setting.{SettingModel}
 use Rattle.krates_text.specs.FeatureReference.{IsReference, Reference, krate, simple, strong, weak}
+
+abbrev pub document_in : ClosureCheck → Resolved
+document_in c = document_of c.context
+
+abbrev pub setting_in : ClosureCheck → SettingModel
+setting_in c = c.context.setting.now
+
+-- the list
+abbrev pub facts_in : ClosureCheck → List Fact
+facts_in c = facts_view c.facts.now
 
 -- ---- by single facts
 
--- the feature stands in the list if it is listed, and isn't lost
+-- the feature is in the list if it is listed, and isn't lost
 pub record NamedIn (r : Resolved) (fs : List Fact) (i : Id) (g : Text) : Type 0 where
   pub enabled : ListsFeature r i g → Contains fs (Feature i g)
   pub listed : LacksFeature r i g → ⊥
 
--- the toggled feature stands in the list if it is listed, and isn't lost
+-- the toggled feature is in the list if it is listed, and isn't lost
 pub record ToggledIn (r : Resolved) (fs : List Fact) (p c : Id) (g : Text) : Type 0 where
   pub toggled : ListsFeature r c g → Contains fs (Toggled p c g)
   pub listed : LacksFeature r c g → ⊥
@@ -39,7 +52,7 @@ pub record EdgeIn (r : Resolved) (s : SettingModel) (fs : List Fact) (e : Edge) 
   pub child : (d : DependencyModel) → IsWanted r s e d → IsTaken asked d → ChildIn r s fs e
   pub declared : asked ≡ false → IsLoose r s e → ⊥
 
--- the root stands in the list with its features, or is excluded
+-- the root is in the list with its features, or is excluded
 pub record RootIn (r : Resolved) (s : SettingModel) (fs : List Fact) (i : Id) : Type 0 where
   pub kept : Stands r s i → Contains fs (Crate i)
   pub enabled : Stands r s i → (f : Text) → ListsFeature r i f → Contains fs (Feature i f)
@@ -50,7 +63,7 @@ pub record RootIn (r : Resolved) (s : SettingModel) (fs : List Fact) (i : Id) : 
 abbrev pub RootsIn : Resolved → SettingModel → List Fact → Type 0
 RootsIn r s fs = (i : Id) → IsRoot r s i → RootIn r s fs i
 
--- all edges of the crate that have to be kept stand in the list
+-- all edges of the crate that have to be kept are in the list
 abbrev pub CrateIn : Resolved → SettingModel → List Fact → Id → Type 0
 CrateIn r s fs p = (c : Id) (k : DepKindInfoModel) → EdgeIn r s fs (edge_between p c k) false
 
@@ -98,7 +111,7 @@ FactIn r s fs _ = ⊤
 
 -- ---- lists of them
 
--- the crate stands in the list with all features that its node lists
+-- the crate is in the list with all features that its node lists
 abbrev pub StockIn : Resolved → List Fact → Id → Type 0
 StockIn r fs i = Contains fs (Crate i) × ((f : Text) → ListsFeature r i f → Contains fs (Feature i f))
 

@@ -1,11 +1,10 @@
-//! Whether what is given by one rule stands in a list: by the roots, by a crate or an edge of the list, or by a name in a reference.
+//! Whether what is given by one rule is in a list: by the roots, by a crate or an edge of the list, or by a name in a reference.
 //!
 //! What a feature gives together with an edge is asked with the feature, for the edges in the list.
 
 ghost use Rattle.std.specs.Prelude.{◌↔◌, IfOk, IsTrue, map};
 ghost use Rattle.krates_cm.specs.Document.{dependency_view, text_view};
-ghost use Rattle.krates_derive.specs.ClosureCheck.{document_in, facts_in, setting_in};
-ghost use Rattle.krates_derive.specs.Giving.{ChildIn, CrateIn, DefaultIn, DepIn, EdgeIn, EdgesIn, EdgesToIn, KeptIn, MeantIn, NamedIn, NamesIn, RootIn, StockIn, TheseRootsIn, ToggledIn, UsedIn};
+ghost use Rattle.krates_derive.specs.Giving.{document_in, facts_in, setting_in, ChildIn, CrateIn, DefaultIn, DepIn, EdgeIn, EdgesIn, EdgesToIn, KeptIn, MeantIn, NamedIn, NamesIn, RootIn, StockIn, TheseRootsIn, ToggledIn, UsedIn};
 ghost use Rattle.krates_derive.specs.FactRef.{edge_of_ref};
 ghost use Rattle.krates_questions.specs.DocumentAnswers.{lent_ids};
 ghost use Rattle.krates_rules.specs.Resolved.{id_of};
@@ -31,7 +30,7 @@ pub struct ClosureCheck<'a, 's> {
 impl<'a, 's> ClosureCheck<'a, 's> {
     // ---- roots
 
-    /// Whether all that these roots give stands in the list.
+    /// Whether all that these roots give is in the list.
     pub fn are_roots_in(&self, roots: &[&'a Kid]) -> bool
         ensures { IsTrue result
             ↔ TheseRootsIn (document_in self.now) (setting_in self.now) (facts_in self.now)
@@ -45,7 +44,7 @@ impl<'a, 's> ClosureCheck<'a, 's> {
         true
     }
 
-    /// Whether all that a root gives stands in the list.
+    /// Whether all that a root gives is in the list.
     fn is_root_in(&self, krate: &'a Kid) -> bool
         ensures { IsTrue result
             ↔ RootIn (document_in self.now) (setting_in self.now) (facts_in self.now) (id_of krate.now) }
@@ -69,7 +68,7 @@ impl<'a, 's> ClosureCheck<'a, 's> {
 
     // ---- facts
 
-    /// Whether all that a crate gives by its edges stands in the list.
+    /// Whether all that a crate gives by its edges is in the list.
     pub fn is_crate_in(&self, krate: &'a Kid) -> Result<bool, AllocError>
         ensures { IfOk result
             (λ b. IsTrue b ↔ CrateIn (document_in self.now) (setting_in self.now) (facts_in self.now)
@@ -83,7 +82,7 @@ impl<'a, 's> ClosureCheck<'a, 's> {
         Ok(true)
     }
 
-    /// Whether all that an edge of the list gives stands in it.
+    /// Whether all that an edge of the list gives is in it.
     pub fn is_kept_in(&self, edge: &EdgeRef<'a>) -> Result<bool, AllocError>
         ensures { IfOk result
             (λ b. IsTrue b ↔ KeptIn (document_in self.now) (facts_in self.now) (edge_of_ref edge.now)) }
@@ -99,7 +98,7 @@ impl<'a, 's> ClosureCheck<'a, 's> {
 
     // ---- edges
 
-    /// Whether all that the edges from one crate to another give stands in the list.
+    /// Whether all that the edges from one crate to another give is in the list.
     fn are_edges_in(&self, krate: &'a Kid, child: &'a Kid, asked: bool) -> Result<bool, AllocError>
         ensures { IfOk result
             (λ b. IsTrue b ↔ EdgesIn (document_in self.now) (setting_in self.now) (facts_in self.now)
@@ -114,7 +113,7 @@ impl<'a, 's> ClosureCheck<'a, 's> {
         Ok(true)
     }
 
-    /// Whether all that an edge gives stands in the list, if a feature asks for it or its parent needs it.
+    /// Whether all that an edge gives is in the list, if a feature asks for it or its parent needs it.
     fn is_edge_in(&self, edge: &EdgeRef<'a>, asked: bool) -> Result<bool, AllocError>
         ensures { IfOk result
             (λ b. IsTrue b ↔ EdgeIn (document_in self.now) (setting_in self.now) (facts_in self.now)
@@ -132,7 +131,7 @@ impl<'a, 's> ClosureCheck<'a, 's> {
         }
     }
 
-    /// Whether a wanted edge stands in the list if its child stands, and nothing is lost.
+    /// Whether a wanted edge is in the list if its child stands, and nothing is lost.
     fn is_child_in(&self, edge: &EdgeRef<'a>) -> bool
         ensures { IsTrue result
             ↔ ChildIn (document_in self.now) (setting_in self.now) (facts_in self.now) (edge_of_ref edge.now) }
@@ -146,7 +145,7 @@ impl<'a, 's> ClosureCheck<'a, 's> {
         }
     }
 
-    /// Whether all edges from a crate to what a name means stand in the list.
+    /// Whether all edges from a crate to what a name means are in the list.
     pub fn are_edges_to_in(&self, krate: &'a Kid, dep: &str) -> Result<bool, AllocError>
         ensures { IfOk result
             (λ b. IsTrue b ↔ EdgesToIn (document_in self.now) (setting_in self.now) (facts_in self.now)
@@ -198,7 +197,7 @@ impl<'a, 's> ClosureCheck<'a, 's> {
 
     // ---- features
 
-    /// Whether a toggled feature stands in the list if its crate lists it, and isn't lost.
+    /// Whether a toggled feature is in the list if its crate lists it, and isn't lost.
     fn is_toggled_in(&self, by: &'a Kid, krate: &'a Kid, name: &'a str) -> bool
         ensures { IsTrue result
             ↔ ToggledIn (document_in self.now) (facts_in self.now) (id_of by.now) (id_of krate.now) name.now }
@@ -210,7 +209,7 @@ impl<'a, 's> ClosureCheck<'a, 's> {
             .has(&FactRef::Toggled(ToggleRef { by, krate, name }))
     }
 
-    /// Whether a feature stands in the list if its crate lists it, and isn't lost.
+    /// Whether a feature is in the list if its crate lists it, and isn't lost.
     pub fn is_named_in(&self, krate: &'a Kid, name: &'a str) -> bool
         ensures { IsTrue result
             ↔ NamedIn (document_in self.now) (facts_in self.now) (id_of krate.now) name.now }
@@ -221,7 +220,7 @@ impl<'a, 's> ClosureCheck<'a, 's> {
         self.facts.has_feature(krate, name)
     }
 
-    /// Whether all that a declared dependency asks for stands in the list.
+    /// Whether all that a declared dependency asks for is in the list.
     fn is_used_in(&self, krate: &'a Kid, dependency: &'a Dependency) -> bool
         ensures { IsTrue result
             ↔ UsedIn (document_in self.now) (facts_in self.now) (id_of krate.now)
@@ -233,7 +232,7 @@ impl<'a, 's> ClosureCheck<'a, 's> {
         self.is_default_in(krate, dependency.uses_default_features)
     }
 
-    /// Whether the features that a declared dependency lists stand in the list.
+    /// Whether the features that a declared dependency lists are in the list.
     fn are_names_in(&self, krate: &'a Kid, names: &'a [String]) -> bool
         ensures { let texts = map text_view names.now in
             IsTrue result ↔ NamesIn (document_in self.now) (facts_in self.now) (id_of krate.now) texts }
@@ -246,7 +245,7 @@ impl<'a, 's> ClosureCheck<'a, 's> {
         true
     }
 
-    /// Whether the default feature stands in the list, if a declared dependency uses it.
+    /// Whether the default feature is in the list, if a declared dependency uses it.
     fn is_default_in(&self, krate: &'a Kid, uses: bool) -> bool
         ensures { IsTrue result ↔ DefaultIn (document_in self.now) (facts_in self.now)
             (id_of krate.now) uses }

@@ -1,8 +1,7 @@
 //! Whether a list has a fact.
 
 ghost use Rattle.std.specs.Prelude.{◌≡◌, ◌↔◌, Contains, IfOk, IsTrue, List};
-ghost use Rattle.krates_derive.specs.FactRef.{fact_of_ref};
-ghost use Rattle.krates_derive.specs.FactSet.{HasBetween, HasKeys, HasPairs};
+ghost use Rattle.krates_derive.specs.FactRef.{fact_of_ref, HasBetween, HasKeys, HasPairs};
 ghost use Rattle.krates_rules.specs.Facts.{Crate, Feature};
 ghost use Rattle.krates_rules.specs.Resolved.{id_of};
 ghost use Rattle.krates_rules.specs.StepViews.{facts_view};
@@ -36,7 +35,7 @@ pub struct FactSet<'a> {
 
 impl<'a> Model for FactSet<'a> {
     ghost use Rattle.std.specs.Prelude.{List};
-    ghost use Rattle.krates_derive.specs.FactSet.{HasKeys, HasPairs};
+    ghost use Rattle.krates_derive.specs.FactRef.{HasKeys, HasPairs};
     ghost use Rattle.krates_rules.specs.StepViews.{facts_view};
     ghost use Rattle.krates_rules.specs.declared.derivation.Fact.{Fact};
 

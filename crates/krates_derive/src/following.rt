@@ -7,7 +7,7 @@ ghost use Rattle.krates_derive.specs.Following.{AsksDefault, AsksFeature, AsksFo
 ghost use Rattle.krates_derive.specs.FactRef.{edge_of_ref, feature_of_ref, toggle_of_ref};
 ghost use Rattle.krates_derive.specs.Giving.{IsTaken};
 ghost use Rattle.krates_questions.specs.Lookup.{resolved_view};
-ghost use Rattle.krates_questions.specs.Need.{TellsDeclaration, TellsNeed};
+ghost use Rattle.krates_questions.specs.Availability.{TellsDeclaration, TellsNeed};
 ghost use Rattle.krates_rules.specs.Facts.{Crate, Feature, Kept};
 ghost use Rattle.krates_rules.specs.Resolved.{id_of};
 ghost use Rattle.krates_rules.specs.Rules.{Rule};

@@ -1,4 +1,4 @@
-//! Whether a fact follows by one rule from given facts, and whether what is given by one rule stands in a list of facts. No search is
+//! Whether a fact follows by one rule from given facts, and whether what is given by one rule is in a list of facts. No search is
 //! trusted: each question goes to the document.
 #![tactic(auto)]
 

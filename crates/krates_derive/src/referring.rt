@@ -2,7 +2,7 @@
 
 ghost use Rattle.std.specs.Prelude.{◌↔◌, IsTrue};
 ghost use Rattle.krates_questions.specs.Context.{document_of};
-ghost use Rattle.krates_derive.specs.Referring.{Asks, AsksBy, IsToggleOf, Toggles, TogglesBy};
+ghost use Rattle.krates_derive.specs.Following.{Asks, AsksBy, IsToggleOf, Toggles, TogglesBy};
 ghost use Rattle.krates_questions.specs.Lookup.{resolved_view};
 ghost use Rattle.krates_rules.specs.Features.{HasReference};
 ghost use Rattle.krates_rules.specs.Resolved.{id_of};

@@ -10,8 +10,7 @@ use Rattle.std.specs.Ordering.{nat_cmp, ordering_then}
 use Rattle.krates_cm.specs.Document.{text_view}
 use Rattle.krates_ids.specs.Identity.{id_cmp}
 use Rattle.krates_rules.proofs.SeenInOrder.{sorted_seen, sorted_unseen}
-use Rattle.krates_selection.specs.CrateNumbers.{HasCrates, HasEnds, HasHome, id_at}
-use Rattle.krates_selection.specs.SelectionOrder.{place_cmp, feature_cmp, toggled_cmp}
+use Rattle.krates_selection.specs.Selection.{HasCrates, HasEnds, HasHome, id_at, place_cmp, feature_cmp, toggled_cmp}
 use Rattle.krates_selection.specs.declared.selection.ToggledFeature.{ToggledFeature}
 use Rattle.krates_rules.specs.Referent.{id_order}
 use Rattle.krates_drawing.specs.InOrder.{AreInOrder}

@@ -9,7 +9,7 @@ use Rattle.std.specs.List.{AllByRecursion, flat_map, list_any}
 use Rattle.std.specs.List.Sorted.{IsStrictlySortedBy}
 use Rattle.std.specs.Ordering.{is_eq, nat_cmp}
 use Rattle.krates_ids.specs.Identity.{id_cmp}
-use Rattle.krates_selection.specs.CrateNumbers.{HasEnds, id_at}
+use Rattle.krates_selection.specs.Selection.{HasEnds, id_at}
 use Rattle.krates_rules.specs.Facts.{Id}
 use Rattle.krates_rules.specs.Referent.{id_order}
 use Rattle.krates_rules.specs.Resolved.{id_of}

@@ -11,7 +11,7 @@ use Rattle.std.specs.Ordering.{is_eq, nat_cmp}
 use Rattle.krates_ids.specs.Identity.{Identity, empty_identity, id_cmp}
 use Rattle.krates_selection.proofs.ByNumber.{compared_by_place}
 use Rattle.krates_selection.proofs.CrateNumbers.{seen_id}
-use Rattle.krates_selection.specs.CrateNumbers.{HasCrates, HasEnds, id_at}
+use Rattle.krates_selection.specs.Selection.{HasCrates, HasEnds, id_at}
 use Rattle.krates_selection.specs.declared.selection.ToggledFeature.{ToggledFeature}
 use Rattle.krates_rules.specs.Facts.{Id}
 use Rattle.krates_rules.specs.Referent.{id_order}

@@ -4,7 +4,7 @@ use Rattle.std.proofs.lemmas.List.{map-append}
 use Rattle.std.proofs.lemmas.List.Folds.{list_any_none}
 use Rattle.std.specs.List.{flat_map, list_any}
 use Rattle.krates_cm.specs.Document.{text_view}
-use Rattle.krates_selection.specs.CrateNumbers.{id_at}
+use Rattle.krates_selection.specs.Selection.{id_at}
 use Rattle.krates_rules.specs.Facts.{Id}
 use Rattle.krates_drawing.specs.Drawing.{Feature, PlannedEdge, crate_number, feature_lines, feature_number, from_crate, id_eq, is_crate, is_to, leads_to, meaning_lines, place_of}
 use Rattle.krates_drawing.specs.EdgeSource.{IsNumberOfChild}

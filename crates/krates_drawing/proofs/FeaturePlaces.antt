@@ -8,8 +8,7 @@ use Rattle.std.specs.Ordering.{is_eq}
 use Rattle.std.specs.Result.{result_unwrap_or}
 use Rattle.std.specs.Str.{bytes_eq}
 use Rattle.krates_cm.specs.Document.{Text, text_view}
-use Rattle.krates_selection.specs.CrateNumbers.{HasHome, id_at}
-use Rattle.krates_selection.specs.SelectionOrder.{feature_cmp}
+use Rattle.krates_selection.specs.Selection.{HasHome, id_at, feature_cmp}
 use Rattle.krates_drawing.specs.Drawing.{is_feature, place_of}
 use Rattle.krates_drawing.specs.Views.{kids_of, feature_row_view}
 use Rattle.krates_drawing.specs.declared.outline.CrateRow.{CrateRow}

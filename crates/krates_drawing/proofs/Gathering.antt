@@ -8,18 +8,15 @@ use Rattle.std.specs.List.{AllByRecursion, AllZip, sum}
 use Rattle.std.specs.List.Sorted.{IsStrictlySortedBy}
 use Rattle.krates_cm.specs.Document.{NodeModel, PackageModel, node_view, text_view}
 use Rattle.krates_ids.specs.Identity.{Identity, id_cmp}
-use Rattle.krates_questions.specs.Lookup.{IsPackageOf, TellsPackage}
-use Rattle.krates_questions.specs.Contents.{IsNodeOf}
+use Rattle.krates_questions.specs.Lookup.{IsPackageOf, TellsPackage, IsNodeOf}
 use Rattle.krates_rules.specs.Admission.{NoneDoubled}
 use Rattle.krates_rules.specs.DeclaredDependency.{dependency_entry}
 use Rattle.krates_rules.specs.Derivation.{Derivable}
 use Rattle.krates_rules.specs.Facts.{Id, Fact, Crate, Feature, Kept, Toggled}
 use Rattle.krates_rules.specs.Questions.{kind_info_of, questions}
 use Rattle.krates_rules.specs.Resolved.{Resolved, id_of, HasNode, HasPackage, NoPackage, NoNode}
-use Rattle.krates_selection.specs.CrateNumbers.{HasCrates, HasEnds, HasHome, id_at}
-use Rattle.krates_selection.specs.Selection.{edge_view, IsPlaced, IsSelection, crate_fact, edge_fact, facts_of, feature_fact}
+use Rattle.krates_selection.specs.Selection.{HasCrates, HasEnds, HasHome, id_at, edge_view, IsPlaced, IsSelection, crate_fact, edge_fact, facts_of, feature_fact, place_cmp, feature_cmp, HasReferences, counted}
 use Rattle.krates_rules.specs.Setting.{SettingModel}
-use Rattle.krates_selection.specs.SelectionOrder.{place_cmp, feature_cmp}
 use Rattle.krates_selection.specs.declared.selection.EnabledFeature.{EnabledFeature}
 use Rattle.krates_selection.specs.declared.selection.KeptEdge.{KeptEdge}
 use Rattle.krates_selection.specs.declared.selection.Selection.{Selection}
@@ -27,7 +24,6 @@ use Rattle.krates_drawing.specs.Gathered.{AreMeant, IsEdgeWith, IsFeatureWith, d
 use Rattle.krates_drawing.specs.Outline as model
 use Rattle.krates_drawing.specs.Outline.{IsCrateRow, IsEdgeRow, IsMeaning, IsFeatureRow, IsOutline, enabled_order, link_order, outlined_facts, toggle_order}
 use Rattle.krates_drawing.specs.WorkOfOutline.{work_of}
-use Rattle.krates_selection.specs.Work.{HasReferences, counted}
 use Rattle.krates_drawing.specs.InOrder.{AreInOrder}
 use Rattle.krates_drawing.specs.CrateRecord.{IsRecordOf, node_at, node_in, of_crate, package_at, package_in}
 use Rattle.krates_drawing.specs.Views.{kids_of, crate_row_view, edge_row_view, meaning_view, feature_row_view, toggle_of}

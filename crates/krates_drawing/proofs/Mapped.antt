@@ -5,7 +5,7 @@ use Rattle.std.proofs.lemmas.List.{get_or-map}
 use Rattle.std.proofs.lemmas.List.Elements.{filter_agree}
 use Rattle.std.specs.List.{range_with_len}
 use Rattle.std.specs.Ordering.{is_eq}
-use Rattle.krates_selection.specs.CrateNumbers.{id_at}
+use Rattle.krates_selection.specs.Selection.{id_at}
 use Rattle.krates_rules.specs.Referent.{id_order}
 use Rattle.krates_drawing.specs.Drawing.{claims, claims_at, crate_number, is_crate, is_to, from_crate, last_from, mapped, mapping}
 use Rattle.krates_drawing.specs.Outline as model

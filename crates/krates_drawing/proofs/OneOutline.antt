@@ -16,7 +16,7 @@ use Rattle.krates_rules.specs.Setting.{SettingModel}
 use Rattle.krates_selection.specs.Selection.{IsPlacedAs}
 use Rattle.krates_drawing.specs.Alike.{IsDrawnAlike}
 use Rattle.krates_drawing.specs.Drawing.{planned_edges, planned_nodes}
-use Rattle.krates_questions.specs.FeatureValues.{values_of}
+use Rattle.krates_questions.specs.FeatureTable.{values_of}
 use Rattle.krates_drawing.specs.Outline.{CrateRow, IsCrateRow, EdgeRow, IsEdgeRow, asked_by, Meaning, OwnFeature, Crates, FeatureOf, FeatureRow, IsFeatureRow, IsMeaning, Names, Toggle, Outline, IsOutline}
 use Rattle.krates_text.specs.Texts.{has_text}
 use Rattle.krates_drawing.proofs.ById.{crates_total, id_order_total, features_total, links_total, toggles_total}

@@ -17,7 +17,7 @@ use Rattle.krates_selection.specs.Selection.{IsPlacedAs}
 use Rattle.krates_drawing.specs.Alike.{IsOutlineThere}
 use Rattle.krates_drawing.specs.Outline.{CrateRow, IsCrateRow, EdgeRow, IsEdgeRow, asked_by, Meaning, OwnFeature, Crates, FeatureOf, FeatureRow, IsFeatureRow, IsMeaning, Names, Outline, IsOutline}
 use Rattle.krates_text.specs.Texts.{has_text}
-use Rattle.krates_questions.specs.FeatureValues.{values_of}
+use Rattle.krates_questions.specs.FeatureTable.{values_of}
 use Rattle.krates_drawing.proofs.Derivations.{child_kept, crate_of_feature, kept_by, kept_stands}
 use Rattle.krates_drawing.proofs.Holding.{Holds, holds}
 use Rattle.krates_rules.proofs.Members.{Member}

@@ -13,7 +13,7 @@ use Rattle.std.specs.Str.{bytes_eq}
 use mathlib.Core.List.{map-id}
 use Rattle.krates_cm.specs.Document.{Text, text_view}
 use Rattle.krates_ids.specs.Identity.{Identity, id_cmp}
-use Rattle.krates_selection.specs.SelectionOrder.{feature_cmp, place_cmp, toggled_cmp}
+use Rattle.krates_selection.specs.Selection.{feature_cmp, place_cmp, toggled_cmp}
 use Rattle.krates_selection.specs.declared.selection.ToggledFeature.{ToggledFeature}
 use Rattle.krates_rules.specs.Facts.{Id}
 use Rattle.krates_rules.specs.Referent.{id_order}

@@ -11,9 +11,8 @@ use Rattle.krates_rules.specs.Referent.{AreReferents}
 use Rattle.krates_rules.specs.Resolved.{Resolved}
 use Rattle.krates_rules.specs.Setting.{SettingModel}
 use Rattle.krates_rules.proofs.OnlyOne.{one_package}
-use Rattle.krates_questions.specs.FeatureValues.{values_of}
-use Rattle.krates_selection.specs.CrateNumbers.{id_at}
-use Rattle.krates_selection.specs.Work.{CountsName, CountsReference, CountsText, HasReferences}
+use Rattle.krates_questions.specs.FeatureTable.{values_of}
+use Rattle.krates_selection.specs.Selection.{id_at, CountsName, CountsReference, CountsText, HasReferences}
 use Rattle.krates_selection.specs.declared.work.Work.{Work}
 use Rattle.krates_drawing.specs.Outline as model
 use Rattle.krates_drawing.specs.Outline.{Meaning, IsFeatureRow, IsMeaning, Names}

@@ -2,8 +2,7 @@
 use Rattle.std.specs.Prelude.{◌≡◌, ℕ, List, Option, Some, None, option_map, slice_get}
 use Rattle.krates_cm.specs.Document.{NodeModel, PackageModel, node_view, package_view}
 use Rattle.krates_ids.specs.Identity.{Identity}
-use Rattle.krates_questions.specs.Lookup.{TellsPackage}
-use Rattle.krates_questions.specs.Contents.{IsNodeOf}
+use Rattle.krates_questions.specs.Lookup.{TellsPackage, IsNodeOf}
 use Rattle.krates_rules.specs.Resolved.{Resolved, id_of}
 use Rattle.krates_drawing.specs.declared.crate_record.CrateRecord.{CrateRecord}
 

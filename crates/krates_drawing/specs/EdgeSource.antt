@@ -1,7 +1,7 @@
 -- A kept crate from which edges are drawn.
 use Rattle.std.specs.Prelude.{◌≡◌, ◌<◌, ◌++◌, ℕ, true, List, All, filter, flat_map, length, map}
 use Rattle.std.specs.Global.{Vec}
-use Rattle.krates_selection.specs.CrateNumbers.{HasCrates, id_at}
+use Rattle.krates_selection.specs.Selection.{HasCrates, id_at}
 use Rattle.krates_selection.specs.declared.selection.ToggledFeature.{ToggledFeature}
 use Rattle.krates_rules.specs.Facts.{Id}
 use Rattle.krates_drawing.specs.Drawing as drawing

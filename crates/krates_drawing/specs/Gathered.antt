@@ -5,7 +5,7 @@ use Rattle.krates_cm.specs.Document.{Text, text_view, DependencyModel, PackageMo
 use Rattle.krates_rules.specs.Resolved.{Resolved, id_of}
 use Rattle.krates_selection.specs.declared.selection.EnabledFeature.{EnabledFeature}
 use Rattle.krates_selection.specs.declared.selection.KeptEdge.{KeptEdge}
-use Rattle.krates_questions.specs.FeatureValues.{values_of}
+use Rattle.krates_questions.specs.FeatureTable.{values_of}
 use Rattle.krates_drawing.specs.Outline.{Meaning, IsMeaning, asked_by}
 use Rattle.krates_text.specs.Texts.{has_text}
 use Rattle.krates_drawing.specs.CrateRecord.{node_at, package_at, package_in}

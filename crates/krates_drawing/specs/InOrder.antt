@@ -3,8 +3,7 @@ use Rattle.std.specs.Prelude.{All, length, map}
 use Rattle.std.specs.Global.{Vec}
 use Rattle.std.specs.List.Sorted.{IsStrictlySortedBy}
 use Rattle.krates_ids.specs.Identity.{id_cmp}
-use Rattle.krates_selection.specs.CrateNumbers.{HasCrates, HasEnds, HasHome}
-use Rattle.krates_selection.specs.SelectionOrder.{place_cmp, feature_cmp, toggled_cmp}
+use Rattle.krates_selection.specs.Selection.{HasCrates, HasEnds, HasHome, place_cmp, feature_cmp, toggled_cmp}
 use Rattle.krates_selection.specs.declared.selection.ToggledFeature.{ToggledFeature}
 use Rattle.krates_drawing.specs.declared.outline.CrateRow.{CrateRow}
 use Rattle.krates_drawing.specs.declared.outline.EdgeRow.{EdgeRow}

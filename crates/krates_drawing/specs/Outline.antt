@@ -15,7 +15,7 @@ use Rattle.krates_rules.specs.Questions.{questions}
 use Rattle.krates_rules.specs.Referent.{AreReferents, id_order}
 use Rattle.krates_rules.specs.Resolved.{Resolved, HasPackage, HasNode}
 use Rattle.krates_rules.specs.Rules.{default_name}
-use Rattle.krates_questions.specs.FeatureValues.{values_of}
+use Rattle.krates_questions.specs.FeatureTable.{values_of}
 use Rattle.krates_selection.specs.Selection.{IsPlacedAs}
 use Rattle.krates_rules.specs.Setting.{SettingModel}
 

@@ -1,7 +1,7 @@
 -- What stands where in the lists of an outline.
 use Rattle.std.specs.Prelude.{◌≡◌, ℕ, ◌<◌, ◌≤◌, ◌==◌, Bool, List, Option, Some, All, AllPairs, if◌then◌else◌, filter, length, map, not, option_map, slice_get, take, slice_index_or}
 use Rattle.std.specs.List.{list_any}
-use Rattle.krates_selection.specs.CrateNumbers.{HasEnds}
+use Rattle.krates_selection.specs.Selection.{HasEnds}
 use Rattle.krates_selection.specs.declared.selection.ToggledFeature.{ToggledFeature}
 use Rattle.krates_rules.specs.Facts.{Id}
 use Rattle.krates_drawing.specs.Drawing.{crate_number, id_eq, is_crate, last_from, leads_to}

@@ -5,8 +5,7 @@ use Rattle.std.specs.Global.{Vec}
 use Rattle.krates_cm.specs.Document.{text_view}
 use Rattle.krates_rules.specs.Resolved.{id_of}
 use Rattle.krates_ids.specs.Identity.{Identity}
-use Rattle.krates_selection.specs.CrateNumbers.{id_at, no_id}
-use Rattle.krates_selection.specs.Selection.{edge_view}
+use Rattle.krates_selection.specs.Selection.{id_at, no_id, edge_view}
 use Rattle.krates_selection.specs.declared.selection.ToggledFeature.{ToggledFeature}
 use Rattle.krates_drawing.specs.Drawing as drawing
 use Rattle.krates_drawing.specs.Drawing.{EdgeModel, Dep, Feature, DepFeature, PlannedFeature, mapping, planned_feature}

@@ -2,7 +2,7 @@
 use Rattle.std.specs.Prelude.{ℕ, length, map, max}
 use Rattle.std.specs.List.{sum}
 use Rattle.krates_drawing.specs.Outline.{Meaning, OwnFeature, Crates, FeatureOf, Outline}
-use Rattle.krates_selection.specs.Work.{counted}
+use Rattle.krates_selection.specs.Selection.{counted}
 use Rattle.krates_selection.specs.declared.work.Work.{Work}
 
 -- how often a reference counts: once for each crate that its dependency's name means, once where it means none, and once where it is a

@@ -1,6 +1,6 @@
 //! The edges from crates.
 ghost use Rattle.std.specs.Prelude.{All, ◌≡◌, ◌+◌, ◌<◌, List, map, length, take, flat_map, OnOk};
-ghost use Rattle.krates_selection.specs.CrateNumbers.{HasEnds, id_at};
+ghost use Rattle.krates_selection.specs.Selection.{HasEnds, id_at};
 ghost use Rattle.krates_drawing.specs.Drawing.{AtFeature, PlannedEdge as DrawnEdge, crate_lines, crate_number as number_of_crate, pair_lines, uses};
 ghost use Rattle.krates_drawing.specs.EdgeSource.{IsDrawnTo, IsCrateSource, AreToggledBy};
 ghost use Rattle.krates_drawing.specs.LinesFrom.{line_from};

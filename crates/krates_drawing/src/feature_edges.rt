@@ -1,6 +1,6 @@
 //! The edges from features.
 ghost use Rattle.std.specs.Prelude.{◌≡◌, MatchOption, false, map, filter, flat_map, OnOk};
-ghost use Rattle.krates_selection.specs.CrateNumbers.{id_at};
+ghost use Rattle.krates_selection.specs.Selection.{id_at};
 ghost use Rattle.krates_rules.specs.Resolved.{id_of};
 ghost use Rattle.krates_drawing.specs.Drawing.{AtCrate, AtFeature, leads_to as leads, feature_lines};
 ghost use Rattle.krates_drawing.specs.EdgeSource.{IsCrateSource, IsNumberOfChild};

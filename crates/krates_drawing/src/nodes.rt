@@ -1,7 +1,7 @@
 //! The nodes, with the mappings of the crates.
 ghost use Rattle.std.specs.Prelude.{◌≡◌, ◌<◌, length, map, IfOk};
 ghost use Rattle.std.specs.List.{range_with_len};
-ghost use Rattle.krates_selection.specs.CrateNumbers.{HasEnds};
+ghost use Rattle.krates_selection.specs.Selection.{HasEnds};
 ghost use Rattle.krates_drawing.specs.Drawing.{planned_feature, mapped, mapping as mapping_of};
 ghost use Rattle.krates_drawing.specs.OutlineOrder.{AreByChild, HaveEnds, IsClaimed};
 ghost use Rattle.krates_drawing.specs.Views.{ArePlannedNodes, kids_in, krate_at, edge_row_view, planned_feature_view, outline_view};

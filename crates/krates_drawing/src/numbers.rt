@@ -5,7 +5,7 @@ ghost use Rattle.std.specs.List.Sorted.{IsStrictlySortedBy};
 ghost use Rattle.std.specs.Ordering.{nat_cmp, ordering_then};
 ghost use Rattle.krates_cm.specs.Document.{text_view};
 ghost use Rattle.krates_ids.specs.Identity.{id_cmp};
-ghost use Rattle.krates_selection.specs.CrateNumbers.{id_at};
+ghost use Rattle.krates_selection.specs.Selection.{id_at};
 ghost use Rattle.krates_rules.specs.Resolved.{id_of};
 ghost use Rattle.krates_drawing.specs.Drawing.{crate_number as number_of_crate, feature_number as number_of_feature, is_crate, is_feature, place_of, planned_nodes};
 ghost use Rattle.krates_drawing.specs.OutlineOrder.{IsPlaceOfFeature};

@@ -4,11 +4,10 @@ use Rattle.std.proofs.lemmas.Option.{slice_get-map}
 use Rattle.std.specs.List.{slice_get}
 use Rattle.krates_rules.specs.StepViews.{steps_view}
 use Rattle.krates_rules.specs.declared.derivation.Step.{Step}
-use Rattle.krates_selection.specs.Explanation.{AreBelow, HasTheseIds, IsDerivationOf, IsExplanation, IsStepOf, explained_steps, kids_of, uses_in}
+use Rattle.krates_selection.specs.KeptFacts.{AreBelow, HasTheseIds, IsDerivationOf, IsExplanation, IsStepOf, explained_steps, kids_of, uses_in, fact_in, step_in, steps_in}
 use Rattle.krates_selection.specs.PartOfSteps.{AreBackward}
 use Rattle.krates_selection.specs.declared.kept.KeptStep.{KeptStep}
 use Rattle.krates_selection.specs.declared.kept.Explanation.{Explanation}
-use Rattle.krates_selection.specs.KeptFacts.{fact_in, step_in, steps_in}
 use Rattle.krates_ids.specs.Identity.{Identity}
 use Rattle.krates_rules.specs.Facts.{Id, Crate as CrateFact}
 use Rattle.krates_rules.specs.Questions.{questions}

@@ -1,8 +1,7 @@
 -- The steps by which a build keeps what it keeps.
 use Rattle.std.specs.Prelude.{◌≡◌, ◌↔◌, ℕ, List, Contains, Some, length, slice_get}
 use Rattle.krates_cm.specs.Document.{MetadataModel, text_view}
-use Rattle.krates_selection.specs.Explanation.{AreBelow, IsStepOf, uses_in}
-use Rattle.krates_selection.specs.KeptFacts.{Enables, KeepsCrate, KeptModel, facts_in, steps_in}
+use Rattle.krates_selection.specs.KeptFacts.{AreBelow, IsStepOf, uses_in, Enables, KeepsCrate, KeptModel, facts_in, steps_in}
 use Rattle.krates_selection.specs.declared.kept.KeptStep.{KeptStep}
 use Rattle.krates_ids.specs.Identity.{Identity}
 use Rattle.krates_rules.specs.Derivation.{Derivable}

@@ -4,8 +4,8 @@ use Rattle.krates_cm.specs.Document.{text_view}
 use Rattle.krates_rules.specs.StepViews.{steps_view}
 use Rattle.krates_rules.specs.declared.derivation.Derivation.{Derivation}
 use Rattle.krates_rules.specs.declared.derivation.Step.{Step}
-use Rattle.krates_selection.specs.Explanation.{HasTheseIds}
-use Rattle.krates_selection.specs.CrateNumbers.{id_at}
+use Rattle.krates_selection.specs.KeptFacts.{HasTheseIds}
+use Rattle.krates_selection.specs.Selection.{id_at}
 use Rattle.krates_ids.specs.Identity.{Identity}
 use Rattle.krates_rules.specs.Facts.{Crate as CrateFact, Fact, Feature as FeatureFact}
 use Rattle.krates_rules.specs.Questions.{questions}

@@ -1,8 +1,7 @@
 -- All that a name means among the dependencies of a node, in the order of ids.
-use Rattle.std.proofs.Common.{◌≡◌, ◌↔◌, ℕ, zero, suc, ◌+◌, ◌<◌, ◌≤◌, List, [], ◌∷◌, ◌++◌, length, map, take, get_or, Bool, true, false, ◌&&◌, ◌==◌, IsTrue, IfOk, Result, Ok, Err, None, Some, Contains, option_map, Ordering, Less, Equal, Greater, refl, sym, ap, ◌∙◌, inl, inr, arith, subst}
+use Rattle.std.proofs.Common.{◌≡◌, ◌↔◌, ℕ, zero, suc, ◌+◌, ◌<◌, ◌≤◌, List, [], ◌∷◌, ◌++◌, length, map, take, get_or, Bool, true, false, ◌&&◌, ◌==◌, IsTrue, IfOk, Result, Ok, Err, None, Some, Contains, option_map, Ordering, Less, Equal, Greater, refl, sym, ap, ◌∙◌, inl, inr, arith, subst, rules, tests}
 use Rattle.std.proofs.lemmas.List.{append-nil, append_assoc, map-append, take_all, take_more}
 use Rattle.std.proofs.lemmas.List.Elements.{Contains-append_left, Contains-append_right, Contains-push_cases}
-use Rattle.std.proofs.Common.{rules, tests}
 use Rattle.std.specs.Cmp.Rules.{comparing}
 use Rattle.std.proofs.lemmas.Option.{slice_get-map, slice_get-get_or, same_Some}
 use Rattle.std.specs.List.{AllByRecursion, slice_get}
@@ -19,7 +18,7 @@ use Rattle.krates_rules.specs.Resolved.{DepAt, HasDep, HasNode, Resolved, id_of}
 use Rattle.krates_questions.specs.NodeEntry.{AreParts, krate_of}
 use Rattle.krates_questions.specs.declared.node_entry.NodeEntry.{NodeEntry}
 use Rattle.krates_questions.specs.declared.node_entry.NodeParts.{NodeParts}
-use Rattle.krates_questions.specs.LookedUp.{IsEntryBetween}
+use Rattle.krates_questions.specs.DocumentAnswers.{IsEntryBetween}
 use Rattle.krates_questions.specs.ReferentPlace.{AnswersAs, AnswersAt, AnswersBefore, AreReferentsIn, FindsMore, HasAnswering, IsReferentAt, IsReferentIn, referent_id}
 use Rattle.krates_questions.specs.declared.referent.Referent.{Referent}
 use Rattle.krates_rules.proofs.OnlyOne.{one_dep, place_in}
@@ -156,7 +155,7 @@ less_first Less b none h = refl
 less_first Equal b none h = absurd (none refl h)
 less_first Greater b none h = absurd cc
 
--- those with the same id stand at different places
+-- those with the same id are at different places
 abbrev HaveOwnPlaces : List Referent → Type 0
 HaveOwnPlaces xs = (j k : ℕ) (x y : Referent) → slice_get xs j ≡ Some x → slice_get xs k ≡ Some y → id_cmp x.id.now y.id.now ≡ Equal → x.place ≡ y.place
 
@@ -193,7 +192,7 @@ pub record SortsOut (found sorted : List Referent) : Type 0 where
   pub from : (x : Referent) → Contains sorted x → Contains found x
   pub kept : (x : Referent) → Contains found x → (y : Referent) × Contains sorted y × (x.place ≡ y.place)
 
--- referents that compare as equal stand at one place
+-- referents that compare as equal are at one place
 pub same_place : (x y : Referent) → (same_id x.id.now y.id.now && (x.place == y.place)) ≡ true → x.place ≡ y.place
 same_place x y told = search (rules, tests)
 

@@ -10,11 +10,9 @@ use Rattle.krates_rules.specs.DeclaredDependency.{dependency_entry, IsDeclared, 
 use Rattle.krates_rules.specs.Facts.{Id, Edge}
 use Rattle.krates_questions.specs.Lookup.{resolved_view}
 use Rattle.krates_questions.specs.NodeEntry.{AreParts, IsEntry, IsEntryOf, parent_of, child_of, declared_in, entry_of, edge_for}
-use Rattle.krates_questions.specs.LookedUp.{ArePartsOf, NoDep, IsEntryBetween, TellsDeclared}
+use Rattle.krates_questions.specs.DocumentAnswers.{ArePartsOf, NoDep, IsEntryBetween, TellsDeclared, AsksFor, ArePicked, nothing, picked, passed, AreInOrder, of_members}
 use Rattle.krates_rules.specs.Questions.{edge_between, Declares}
 use Rattle.krates_rules.specs.Resolved.{NodeAt, Resolved, id_of, ReadsAs, HasNode, HasDep, StandsAt}
-use Rattle.krates_questions.specs.RootChoice.{AsksFor}
-use Rattle.krates_questions.specs.RootOrder.{ArePicked, nothing, picked, passed, AreInOrder, of_members}
 use Rattle.krates_rules.specs.Roots.{IsRoot}
 use Rattle.krates_rules.specs.Setting.{SettingModel}
 use Rattle.krates_document.specs.CrateTable.{IsPlaceOf}
@@ -31,13 +29,6 @@ use Rattle.krates_questions.proofs.RootLemmas.{root_member}
 use Rattle.krates_rules.proofs.Standings.{contains_at}
 
 -- ---- ids in lists
-
--- the first place of the id in a list is a place of the id
-pub place_told : (ids : List Identity) (i : Id) (answer : Option ℕ) → IsFirstPlace (λ j. j ≡ i) (map id_of ids) answer → IsPlaceOf ids i answer
-place_told ids i None none = λ place s. none place (id_of s.there) (slice_get-map id_of ids place ∙ ap (option_map id_of) s.at) s.same
-place_told ids i (Some place) (j, first) =
-    let x = seen_at id_of ids place j first.here in
-    record { there = get_or ids place x.0; at = slice_get-get_or ids place x.0 x.1; same = x.2 ∙ first.holds }
 
 -- the parts of the node at the crate's place are those of its node
 pub parts_told : ReadsOnce → (d : Lookup) (krate : Id) (place : ℕ) (x : NodeParts) → NodeAt (resolved_view d) krate place → AreParts (resolved_view d) place x → ArePartsOf (resolved_view d) krate x

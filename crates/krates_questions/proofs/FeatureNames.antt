@@ -11,7 +11,7 @@ use Rattle.krates_cm.specs.declared.package.Package.{Package}
 use Rattle.krates_ids.specs.Correction.{named}
 use Rattle.krates_rules.specs.Admission.{NoneDoubled}
 use Rattle.krates_rules.specs.Facts.{Id}
-use Rattle.krates_questions.specs.FeatureValues.{AreNamed, AreValuesOf, values_of}
+use Rattle.krates_questions.specs.FeatureTable.{AreNamed, AreValuesOf, values_of}
 use Rattle.krates_rules.specs.Resolved.{Resolved, HasPackage, NoPackage}
 use Rattle.krates_rules.proofs.OnlyOne.{one_package}
 

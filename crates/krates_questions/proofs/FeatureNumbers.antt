@@ -12,12 +12,9 @@ use Rattle.std.specs.Ordering.{is_eq, eq_by_cmp}
 use Rattle.krates_cm.specs.Document.{Text, NodeModel}
 use Rattle.krates_rules.specs.Admission.{NoneDoubled}
 use Rattle.krates_rules.specs.Facts.{Id}
-use Rattle.krates_questions.specs.FeatureOrder.{listed_cmp, same_listed}
-use Rattle.krates_questions.specs.FeatureTable.{IsNumberOf, listed_view}
+use Rattle.krates_questions.specs.FeatureTable.{listed_cmp, same_listed, IsNumberOf, listed_view, features_from, features_of_node, listed_features, FeatureAt, TellsOwn}
 use Rattle.krates_rules.specs.Features.{ListsFeature, LacksFeature}
-use Rattle.krates_questions.specs.ListedFeatures.{features_from, features_of_node, listed_features}
 use Rattle.krates_rules.specs.Resolved.{NodeAt, Resolved, HasNode}
-use Rattle.krates_questions.specs.Numbering.{FeatureAt, TellsOwn}
 use Rattle.krates_questions.specs.declared.feature_table.ListedFeature.{ListedFeature}
 use Rattle.krates_rules.proofs.OnlyOne.{place_in, one_node}
 use Rattle.krates_rules.proofs.Standings.{contains_at}
@@ -176,7 +173,7 @@ number_at r i f l =
 pub number_within : (r : Resolved) (i : Id) (f : Text) (number : ℕ) → FeatureAt r i f number → number < length (listed_features r)
 number_within r i f number a = slice_get_within (listed_features r) number (a.place, f) a.at
 
--- a listed feature stands with the place of a node
+-- a listed feature has the place of a node
 pub listed_place : (r : Resolved) (number place : ℕ) (f : Text) → slice_get (listed_features r) number ≡ Some (place, f) → place < length r.graph.nodes
 listed_place r number place f at =
     let w = from_listed 0 r.graph.nodes (place, f) (contains_at (listed_features r) number (place, f) at) in

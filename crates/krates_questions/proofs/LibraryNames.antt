@@ -11,7 +11,7 @@ use Rattle.krates_cm.specs.declared.target.TargetKind.TheVariants.{Lib}
 use Rattle.krates_rules.specs.DeclaredDependency.{FirstAt}
 use Rattle.krates_rules.specs.DependencyName.{IsNameOf}
 use Rattle.krates_rules.specs.Referent.{IsLibraryRename}
-use Rattle.krates_questions.specs.Library.{IsLibraryOf}
+use Rattle.krates_questions.specs.NameIndex.{IsLibraryOf}
 use Rattle.krates_rules.proofs.FirstPlaces.{first_place}
 
 -- a test that only one element passes tells whether the list contains it

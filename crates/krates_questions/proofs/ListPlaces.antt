@@ -8,7 +8,7 @@ use Rattle.std.specs.Vec.{vec_len}
 use Rattle.krates_rules.proofs.Readings.{right_of}
 use Rattle.krates_questions.proofs.NodeParts.{within_vec}
 
--- what stands at a place of the lists
+-- what is at a place of the lists
 pub list_at : {B : Type 0} (lists : Vec (Vec B)) (place : ℕ) (v : Vec B) (list : List B) → slice_get (map (λ (u : Vec B). u.items) lists.items) place ≡ Some list → v ≡ get_or lists.items place v → list ≡ v.items
 list_at {B} lists place v list at is =
     let items : Vec B → List B = λ u. u.items in

@@ -18,7 +18,7 @@ mapped_at text [] k t h = absurd cc
 mapped_at text (x ∷ xs) zero t h = (x, refl, cc)
 mapped_at text (x ∷ xs) (suc k) t h = mapped_at text xs k t h
 
--- where the id stands in the list of ids, an element with the id stands in the other list
+-- where the id is in the list of ids, an element with the id is in the other list
 pub at_place : {A : Type 0} (text : A → Text) (xs : List A) (ids : List Identity) (i : Id) (place : ℕ) → AllZip Reads (map text xs) ids → StandsAt ids i place
     → (x : A) × (slice_get xs place ≡ Some x) × ReadsAs (text x) i
 at_place text xs ids i place z s =

@@ -14,8 +14,8 @@ use Rattle.krates_rules.specs.Setting.{SettingModel, IsIgnored, Passes}
 use Rattle.krates_questions.specs.NodeEntry.{IsEntry, parent_of, child_of, declared_in, entry_of, edge_for}
 use Rattle.krates_questions.specs.declared.node_entry.NodeEntry.{NodeEntry}
 use Rattle.krates_questions.specs.declared.node_entry.NodeParts.{NodeParts}
-use Rattle.krates_questions.specs.LookedUp.{ArePartsOf, NoDep, IsEntryBetween, TellsDeclared}
-use Rattle.krates_questions.specs.Need.{HasChild, ListsKind, IsDeclaredOnly, IsWantedAs, TellsNeed}
+use Rattle.krates_questions.specs.DocumentAnswers.{ArePartsOf, NoDep, IsEntryBetween, TellsDeclared}
+use Rattle.krates_questions.specs.Availability.{HasChild, ListsKind, IsDeclaredOnly, IsWantedAs, TellsNeed}
 use Rattle.krates_questions.specs.declared.dependency_questions.Need.TheVariants as needs
 use Rattle.krates_rules.proofs.Readings.{ReadsOnce, left_of, right_of}
 use Rattle.krates_document.proofs.DeclaredOnce.{declared_once, declared_stands}
@@ -72,7 +72,7 @@ wanted_need r s x k place d none h first passes = record {
   not_loose = not_loose r s x k place d none h.at first;
 }
 
--- the declared dependency stands at its place in the package's list
+-- the declared dependency is at its place in the package's list
 pub declared_below : (x : NodeEntry) (k : DepKindInfoModel) (place : ℕ) (d : DependencyModel) → IsDeclared (declared_in x) (entry_of x) k place d → place < length x.declared.now
 declared_below x k place d first = (seen_at dependency_view x.declared.now place d (declared_stands (declared_in x) (entry_of x) k place d first)).1
 

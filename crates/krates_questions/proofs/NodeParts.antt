@@ -22,7 +22,7 @@ use Rattle.krates_questions.specs.NodeEntry.{AreDeclaredBy, AreParts, HasItsVers
 use Rattle.krates_questions.specs.declared.lookup.Lookup.{Lookup}
 use Rattle.krates_questions.specs.declared.node_entry.NodeEntry.{NodeEntry}
 use Rattle.krates_questions.specs.declared.node_entry.NodeParts.{NodeParts}
-use Rattle.krates_questions.specs.declared.node_place.NodePlace.{NodePlace}
+use Rattle.krates_questions.specs.declared.lookup.NodePlace.{NodePlace}
 use Rattle.krates_rules.proofs.Readings.{left_of}
 use Rattle.krates_questions.proofs.Lookups.{at_place}
 use Rattle.krates_questions.proofs.ReadIds.{read_at}
@@ -35,7 +35,7 @@ long_zip R [] (y ∷ ys) z = absurd z
 long_zip R (x ∷ xs) [] z = absurd z
 long_zip R (x ∷ xs) (y ∷ ys) z = ap suc (long_zip R xs ys z.1)
 
--- what stands at one place of two lists is related
+-- what is at one place of two lists is related
 zip_at : {A B : Type 0} (R : A → B → Type 0) (xs : List A) (ys : List B) (k : ℕ) (x : A) (y : B) → AllZip R xs ys → slice_get xs k ≡ Some x → slice_get ys k ≡ Some y → R x y
 zip_at R xs ys k x y z a b = let w = left_of R xs ys k y z b in subst (λ v. R v y) (same_Some w.0 x (sym w.1 ∙ a)) w.2
 

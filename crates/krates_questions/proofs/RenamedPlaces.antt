@@ -16,7 +16,7 @@ use Rattle.krates_document.specs.declared.named_places.NamedPlace.{NamedPlace}
 use Rattle.krates_ids.specs.Identity.{Identity, Reads}
 use Rattle.krates_document.specs.CrateTable.{AreNumbersOf, IsIndex, IsNumberOf, at_number, numbers_in}
 use Rattle.krates_questions.specs.Lookup.{IsLookup, IsPackagePlace, resolved_view}
-use Rattle.krates_questions.specs.Renamed.{AreRenamed, AreRenamedIn, HasRenamed, IsRenamedAt, package_numbered, standing_at}
+use Rattle.krates_questions.specs.NameIndex.{AreRenamed, AreRenamedIn, HasRenamed, IsRenamedAt, package_numbered, standing_at}
 use Rattle.krates_questions.specs.declared.lookup.Lookup.{Lookup}
 use Rattle.krates_document.proofs.NamedPlaces.{stands_push}
 use Rattle.krates_rules.specs.Admission.{NoneDoubled, package_texts}
@@ -32,7 +32,7 @@ use Rattle.krates_document.proofs.NumberedPlaces.{index_answer}
 
 -- ---- of one node, as the code goes over its dependencies
 
--- those before a place that are so named stand under the names of their packages
+-- those before a place that are so named are listed under the names of their packages
 abbrev pub StandBelow : (ℕ → Type 0) → List Identity → List NamedPlace → ℕ → Type 0
 StandBelow P kids named end = (k : ℕ) (c : Identity) → k < end → slice_get kids k ≡ Some c → P k → StandsUnder named c.name no_target k
 

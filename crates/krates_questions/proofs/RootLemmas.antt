@@ -13,7 +13,7 @@ use Rattle.krates_rules.specs.NamedIds.{IsReadOf}
 use Rattle.krates_rules.specs.Features.{ListsFeature}
 use Rattle.krates_rules.specs.Resolved.{NodeAt, ReadsAs, Resolved, id_of, IsMember, HasPackage, HasNode}
 use Rattle.krates_questions.specs.Lookup.{IsLookup, resolved_view}
-use Rattle.krates_questions.specs.RootChoice.{AsksFor, AsksForManifests, HasOneOf}
+use Rattle.krates_questions.specs.DocumentAnswers.{AsksFor, AsksForManifests, HasOneOf}
 use Rattle.krates_rules.specs.Roots.{IsRoot, of_graph, of_workspace, of_manifests, by_setting, without_root, by_manifest, HasManifest}
 use Rattle.krates_rules.specs.Setting.{SettingModel}
 use Rattle.krates_questions.specs.declared.lookup.Lookup.{Lookup}
@@ -60,17 +60,6 @@ root_member r s true i (by_setting _ on) (of_graph _ off _ _) = absurd (cc (on, 
 root_member r s true i (without_root _ no_root) (of_graph _ _ at _) = absurd (cc (no_root, at))
 root_member r s true i (by_manifest w) (of_graph none _ _ _) = absurd (cc (w.alone, none))
 root_member r s false i asks (of_graph none _ _ _) = absurd (asks.some none)
-
--- where manifests are asked for, a member whose package has one is a root
-pub manifest_root : (r : Resolved) (s : SettingModel) (i : Id) → AsksForManifests r s → IsMember r i → HasManifest r s i ↔ IsRoot r s i
-manifest_root r s i asks m = (of_manifests asks.not_workspace m, back)
-  where
-    back : IsRoot r s i → HasManifest r s i
-    back (of_graph none _ _ _) = absurd (asks.some none)
-    back (of_workspace (by_setting none _) _) = absurd (asks.some none)
-    back (of_workspace (without_root none _) _) = absurd (asks.some none)
-    back (of_workspace (by_manifest w) _) = absurd (asks.not_workspace w)
-    back (of_manifests _ _ h) = h
 
 -- whether the package with the id has one of the manifests
 pub manifest_here : (r : Resolved) (s : SettingModel) (i : Id) (p : PackageModel) → NoneDoubled r.metadata r.graph → HasPackage r i p → HasOneOf s.manifests p.manifest_path ↔ HasManifest r s i

@@ -3,11 +3,11 @@ use Rattle.krates_cm.specs.Document.{DependencyModel, Text, dep_kind_info_view}
 use Rattle.krates_ids.specs.declared.error.Error.{Error}
 use Rattle.krates_questions.specs.Lookup.{resolved_view}
 use Rattle.krates_questions.specs.NodeEntry.{AreParts, IsEntry, declared_in, edge_of, entry_of}
-use Rattle.krates_questions.specs.Numbering.{FeatureAt}
+use Rattle.krates_questions.specs.FeatureTable.{FeatureAt}
 use Rattle.krates_questions.specs.declared.node_entry.EntryEdge.{EntryEdge}
 use Rattle.krates_questions.specs.declared.node_entry.NodeEntry.{NodeEntry}
 use Rattle.krates_questions.specs.declared.node_entry.NodeParts.{NodeParts}
-use Rattle.krates_questions.specs.RootChoice.{AsksFor}
+use Rattle.krates_questions.specs.DocumentAnswers.{AsksFor}
 use Rattle.krates_questions.specs.declared.context.Context.{Context}
 use Rattle.krates_rules.specs.DeclaredDependency.{IsDeclared}
 use Rattle.krates_rules.specs.Derivation.{Derivable}
@@ -31,11 +31,11 @@ rules_of b = questions (document_of b) b.setting.now
 abbrev pub Derives : Context → Fact → Type 0
 Derives b = Derivable (rules_of b)
 
--- why nothing is selected; the ids that are named are read of the document
+-- why nothing is selected; the ids that are named are read from the document
 abbrev pub Refuses : Context → Error → Type 0
 Refuses b e = SelectionRefusal (rules_of b) e × NamesIdsOf (document_of b) e
 
--- the crate's node stands at the place
+-- the crate's node is at the place
 abbrev pub IsNodeAt : Context → Id → ℕ → Type 0
 IsNodeAt b = NodeAt (document_of b)
 

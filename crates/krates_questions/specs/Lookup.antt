@@ -1,6 +1,6 @@
 -- What look-ups in a document return.
 use Rattle.std.specs.Prelude.{◌≡◌, ℕ, Bool, [], Option, MatchOption, MatchBool, map, option_map}
-use Rattle.krates_cm.specs.Document.{MetadataModel, PackageModel, metadata_view, node_view, package_view, resolve_view}
+use Rattle.krates_cm.specs.Document.{MetadataModel, PackageModel, metadata_view, node_view, package_view, resolve_view, NodeModel}
 use Rattle.krates_cm.specs.declared.metadata.Metadata.{Metadata}
 use Rattle.krates_cm.specs.declared.package.Package.{Package}
 use Rattle.krates_cm.specs.declared.resolve.Resolve.{Resolve}
@@ -10,15 +10,13 @@ use denote.Ref.{NamedLft}
 use mir.Syntax.{named}
 use Rattle.krates_rules.specs.Admission.{AreIdsOf, NoneDoubled}
 use Rattle.krates_rules.specs.Facts.{Id}
-use Rattle.krates_questions.specs.FeatureTable.{AreNumbered, listed_in}
+use Rattle.krates_questions.specs.FeatureTable.{AreNumbered, listed_in, features_from}
 use Rattle.krates_document.specs.Ids.{ids_view}
-use Rattle.krates_questions.specs.ListedFeatures.{features_from}
-use Rattle.krates_rules.specs.Resolved.{HasGraphWith, Resolved, resolved, HasPackage, NoPackage, NoNode, IsMember, NodeAt, PackageAt, id_of}
+use Rattle.krates_rules.specs.Resolved.{HasGraphWith, Resolved, resolved, HasPackage, NoPackage, NoNode, IsMember, NodeAt, PackageAt, id_of, HasNode}
 use Rattle.krates_document.specs.CrateTable.{IsNumberOf, numbers_in}
-use Rattle.krates_questions.specs.NameIndex.{IsNameIndex, lists_in}
-use Rattle.krates_questions.specs.Renamed.{AreRenamedIn}
+use Rattle.krates_questions.specs.NameIndex.{IsNameIndex, lists_in, AreRenamedIn}
 use Rattle.krates_questions.specs.declared.lookup.Lookup.{Lookup}
-use Rattle.krates_questions.specs.declared.node_place.NodePlace.{NodePlace}
+use Rattle.krates_questions.specs.declared.lookup.NodePlace.{NodePlace}
 
 abbrev pub resolved_view : Lookup → Resolved
 resolved_view d = record { metadata = metadata_view d.metadata.now; graph = resolve_view d.resolve.now }
@@ -74,3 +72,7 @@ IsDocumentOf m d = HasGraphWith m (λ g. resolved_view d ≡ resolved m g)
 -- a lifetime, which a code doesn't go by
 abbrev pub at_any : NamedLft
 at_any = record { mir = named 0; lft = [] }
+
+-- the node with the id, or none if the graph has no such node
+abbrev pub IsNodeOf : Resolved → Id → Option NodeModel → Type 0
+IsNodeOf r i answer = MatchOption answer (NoNode r i) (HasNode r i)

@@ -22,7 +22,7 @@ pub record AreDeclaredBy (r : Resolved) (i : Id) (ds : List DependencyModel) : T
   pub each : (p : PackageModel) → HasPackage r i p → p.dependencies ≡ ds
   pub from : (place : ℕ) (d : DependencyModel) → slice_get ds place ≡ Some d → (p : PackageModel) × HasPackage r i p
 
--- these are the parts of the node at the place, whose id is read of the document
+-- these are the parts of the node at the place, whose id is read from the document
 pub record AreParts (r : Resolved) (place : ℕ) (x : NodeParts) : Type 0 where
   pub at : NodeAt r (id_of x.parent.now) place
   pub has_node : HasNode r (id_of x.parent.now) at.node
@@ -54,7 +54,7 @@ entry_of x = dependency_entry (child_of x) (node_dep_view x.dep.now)
 abbrev pub HasItsVersion : NodeEntry → Type 0
 HasItsVersion x = HasThisVersion x.child.now (parts_of x.version.now)
 
--- the parts of an entry are consistent, and its ids are read of the document
+-- the parts of an entry are consistent, and its ids are read from the document
 pub record IsEntry (r : Resolved) (x : NodeEntry) : Type 0 where
   pub node : NodeModel
   pub has_node : HasNode r (parent_of x) node
@@ -84,7 +84,7 @@ edge_for x k = edge_between (parent_of x) (child_of x) k
 abbrev pub edge_of : EntryEdge → Edge
 edge_of x = edge_for x.entry.now (dep_kind_info_view x.info.now)
 
--- what the package of the crate declares stands there by name
+-- what the package of the crate declares is listed there by name
 abbrev pub TellsDeclaredPlaces : Resolved → Id → List NamedPlace → Type 0
 TellsDeclaredPlaces r i places = (ds : List DependencyModel) → AreDeclaredBy r i ds → AreDeclaredPlaces ds places
 

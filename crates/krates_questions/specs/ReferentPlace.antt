@@ -18,7 +18,7 @@ pub record IsReferentAt (r : Resolved) (parts : NodeParts) (name : Text) (index 
   pub dep : DepAt r (id_of parts.parent.now) (id_of child) parts.place.index index
   pub is : IsReferent r false (id_of parts.parent.now) name (id_of child)
 
--- the dependency stands at its place, and the name means it
+-- the dependency is at its place, and the name means it
 pub record IsReferentIn (r : Resolved) (all : Bool) (parts : NodeParts) (name : Text) (x : Referent) : Type 0 where
   pub at : slice_get parts.children.now x.place ≡ Some x.id.now
   pub dep : DepAt r (krate_of parts) (id_of x.id.now) parts.place.index x.place

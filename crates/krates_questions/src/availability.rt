@@ -11,7 +11,7 @@ ghost use Rattle.krates_rules.specs.Setting.{SettingModel};
 ghost use Rattle.std.specs.Prelude.{◌↔◌, IfOk, IsTrue};
 
 use crate::context::Context;
-use crate::node_place::NodePlace;
+use crate::lookup::NodePlace;
 use crate::questions::Document;
 use krates_document::setting::Setting;
 use krates_ids::Kid;

@@ -2,7 +2,7 @@
 
 ghost use Rattle.std.specs.Prelude.{◌↔◌, Contains, IsTrue, map};
 ghost use Rattle.krates_cm.specs.Document.{Text, text_view};
-ghost use Rattle.krates_questions.specs.FeatureValues.{AreNamed, AreValuesOf};
+ghost use Rattle.krates_questions.specs.FeatureTable.{AreNamed, AreValuesOf};
 ghost use Rattle.krates_questions.specs.Lookup.{IsLookup, resolved_view};
 ghost use Rattle.krates_rules.specs.Features.{ListsFeature};
 ghost use Rattle.krates_rules.specs.Resolved.{id_of};

@@ -4,7 +4,7 @@ ghost use Rattle.std.specs.Prelude.{◌↔◌, Contains, IfOk, IsTrue, map};
 ghost use Rattle.krates_cm.specs.Document.{DepKindInfoModel, dep_kind_info_view};
 ghost use Rattle.krates_questions.specs.Lookup.{IsLookup, resolved_view};
 ghost use Rattle.krates_questions.specs.NodeEntry.{IsEntry, edge_for};
-ghost use Rattle.krates_questions.specs.Need.{HasChild, ListsKind, TellsDeclaration, TellsNeed};
+ghost use Rattle.krates_questions.specs.Availability.{HasChild, ListsKind, TellsDeclaration, TellsNeed};
 ghost use Rattle.krates_rules.specs.Facts.{Id};
 ghost use Rattle.krates_rules.specs.Questions.{edge_between};
 ghost use Rattle.krates_rules.specs.Referent.{IsReferent};

@@ -1,11 +1,13 @@
 //! The features that nodes list, by number.
 
 ghost use Rattle.std.specs.Prelude.{◌≡◌, IfOk, OnOk, map};
-ghost use Rattle.krates_cm.specs.Document.{node_view};
-ghost use Rattle.krates_questions.specs.FeatureTable.{AreNumbered, ListsMore, listed_in, listed_view};
-ghost use Rattle.krates_questions.specs.ListedFeatures.{features_from};
+ghost use Rattle.krates_cm.specs.Document.{node_view, text_view};
+ghost use Rattle.krates_questions.specs.FeatureTable.{AreNumbered, ListsMore, listed_in, listed_view, features_from, AreNamed, AreValuesOf, TellsNumber, TellsOwn};
+ghost use Rattle.krates_questions.specs.Lookup.{IsLookup, resolved_view};
+ghost use Rattle.krates_rules.specs.Resolved.{id_of};
 
-use crate::node_place::NodePlace;
+use crate::lookup::NodePlace;
+use crate::questions::Document;
 use krates_cm::Node;
 use std::alloc::{AllocError, Global};
 use std::collections::BTreeMap;
@@ -73,4 +75,19 @@ fn list_features<'a>(
         })?;
     }
     Ok(())
+}
+
+impl<'a> Document<'a> {
+    /// The number of a feature of the node at this place; none where the node doesn't list it. Time O(log n) in the
+    /// listed features.
+    pub fn feature_number(&self, place: NodePlace, name: &'a str) -> Option<usize>
+        ensures number { TellsNumber (resolved_view self.now) place.index name.now result }
+        ensures own { TellsOwn (resolved_view self.now) result }
+    {
+        self.lookup
+            .features
+            .numbers
+            .get(&ListedFeature { place, name })
+            .copied()
+    }
 }

@@ -10,16 +10,21 @@ ghost use Rattle.krates_rules.specs.Facts.{Id};
 ghost use Rattle.krates_rules.specs.Resolved.{id_of};
 
 use crate::feature_table::{FeatureTable, feature_table};
-use crate::name_index::{NameIndex, name_index};
-use crate::node_place::NodePlace;
+use crate::name_index::{Libraries, NameIndex, name_index, renamed_by_name};
 use crate::questions::Document;
-use crate::renamed::{Libraries, renamed_by_name};
 use krates_cm::{Metadata, Package, Resolve};
 use krates_document::crate_table::number_of;
 use krates_document::ids::Ids;
 use krates_document::named_places::NamedPlace;
 use krates_ids::{Kid, laws};
 use std::alloc::{AllocError, Global};
+
+/// The place of a node among those of a document's resolved graph, in the order of the document.
+#[derive(Clone, Copy, Debug, PartialEq, Eq, PartialOrd, Ord)]
+pub struct NodePlace {
+    /// How many nodes are before it.
+    pub index: usize,
+}
 
 /// A document with its ids, its crates by number, its features by number, and its dependencies by name.
 #[derive(Drop)]
@@ -28,7 +33,7 @@ pub struct Lookup<'a> {
     pub metadata: &'a Metadata,
     /// Its resolved graph.
     pub resolve: &'a Resolve,
-    /// The ids that were read of it, place by place, and its crates by number.
+    /// The ids that were read from it, place by place, and its crates by number.
     pub ids: &'a Ids,
     /// The features that its nodes list, by number.
     pub features: FeatureTable<'a>,

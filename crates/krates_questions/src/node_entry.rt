@@ -8,7 +8,7 @@ ghost use Rattle.krates_questions.specs.NodeEntry.{AreDeclaredBy, AreParts, HasI
 ghost use Rattle.krates_rules.specs.Facts.{Id};
 ghost use Rattle.krates_rules.specs.Resolved.{DepAt, HasNode, NodeAt, id_of};
 
-use crate::node_place::NodePlace;
+use crate::lookup::NodePlace;
 use crate::questions::Document;
 use krates_cm::{DepKindInfo, Dependency, NodeDep};
 use krates_document::declared_dependency::{Sought, declared_of};
@@ -44,7 +44,7 @@ pub struct EntryEdge<'a, 's> {
     pub entry: &'s NodeEntry<'a>,
     /// The kind and target.
     pub info: &'s DepKindInfo,
-    /// Where what the package of the kept crate declares stands by name.
+    /// Where what the package of the kept crate declares is found by name.
     pub places: &'s [NamedPlace<'a>],
 }
 
@@ -153,7 +153,7 @@ impl<'a> Document<'a> {
         }
     }
 
-    /// The number of the crate whose node stands at the place; it has one. Time O(1).
+    /// The number of the crate whose node is at the place; it has one. Time O(1).
     pub fn node_number(&self, place: NodePlace) -> Option<usize>
         requires within { place.index < length (resolved_view self.now).graph.nodes }
         ensures number { (i : Id) → NodeAt (resolved_view self.now) i place.index
@@ -188,7 +188,7 @@ impl<'a> Document<'a> {
         self.node_place_at(self.child_number_at(entry.place, entry.index))
     }
 
-    /// Where what the package of a dependency's parent declares stands by name. Nothing where it has no package. Time O(1).
+    /// Where what the package of a dependency's parent declares is found by name. Nothing where it has no package. Time O(1).
     pub fn places_for(&self, entry: &NodeEntry<'_>) -> &[NamedPlace<'a>]
         requires entry { IsEntry (resolved_view self.now) entry.now }
         ensures { TellsDeclaredPlaces (resolved_view self.now) (parent_of entry.now) result.now }

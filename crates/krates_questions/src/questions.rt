@@ -5,12 +5,10 @@ ghost use Rattle.krates_cm.specs.Document.{dep_kind_info_view, metadata_view, no
 ghost use Rattle.krates_rules.specs.Admission.{IsAdmitted};
 ghost use Rattle.krates_document.specs.Ids.{ids_view};
 ghost use Rattle.krates_questions.specs.Lookup.{IsDocumentOf, IsLookup, resolved_view};
-ghost use Rattle.krates_questions.specs.DocumentAnswers.{AreRoots, AreRootsInOrder, IsOpenAs, TellsDeclaredPlace, TellsReferent, TellsReferents, edge_asked};
-ghost use Rattle.krates_questions.specs.LookedUp.{PicksRoots, TellsDeclared, TellsEntry, TellsParts};
+ghost use Rattle.krates_questions.specs.DocumentAnswers.{AreRoots, AreRootsInOrder, IsOpenAs, TellsDeclaredPlace, TellsReferent, TellsReferents, edge_asked, PicksRoots, TellsDeclared, TellsEntry, TellsParts, AsksFor};
 ghost use Rattle.krates_document.specs.NamedPlaces.{places_in};
 ghost use Rattle.krates_questions.specs.NodeEntry.{AreParts, IsEntry};
 ghost use Rattle.krates_rules.specs.Resolved.{IsMember, StandsAt, id_of};
-ghost use Rattle.krates_questions.specs.RootChoice.{AsksFor};
 ghost use Rattle.krates_document.specs.CrateTable.{IsPlaceAmong, IsPlaceOf};
 
 mod contents;
@@ -212,7 +210,7 @@ impl<'a> Document<'a> {
     }
 }
 
-/// Of these places of a list, the first at which the id stands.
+/// Of these places of a list, the first at which the id is.
 fn place_among(ids: &[Kid], places: &[NamedPlace<'_>], id: &Kid) -> Option<usize>
     ensures { IsPlaceAmong ids.now (places_in places.now) (id_of id.now) result }
 {
@@ -224,7 +222,7 @@ fn place_among(ids: &[Kid], places: &[NamedPlace<'_>], id: &Kid) -> Option<usize
     None
 }
 
-/// Whether the id stands at the place of the list.
+/// Whether the id is at the place of the list.
 fn stands_at(ids: &[Kid], place: usize, id: &Kid) -> bool
     ensures { IsTrue result ↔ StandsAt ids.now (id_of id.now) place }
 {

@@ -6,7 +6,7 @@ ghost use Rattle.krates_questions.specs.Lookup.{IsLookup, resolved_view};
 ghost use Rattle.krates_questions.specs.NodeEntry.{AreParts};
 ghost use Rattle.krates_questions.specs.ReferentPlace.{AnswersAs, AnswersBefore, AreReferentsIn, FindsMore, GoesOn, IsBefore, TellsReferent};
 
-use crate::library::is_library_rename;
+use crate::name_index::is_library_rename;
 use crate::node_entry::NodeParts;
 use crate::questions::Document;
 use krates_cm::NodeDep;

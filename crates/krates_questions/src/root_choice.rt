@@ -4,7 +4,7 @@ ghost use Rattle.std.specs.Prelude.{◌↔◌, IsTrue, map};
 ghost use Rattle.krates_cm.specs.Document.{text_view};
 ghost use Rattle.krates_questions.specs.Lookup.{IsLookup, resolved_view};
 ghost use Rattle.krates_rules.specs.Resolved.{id_of, IsMember};
-ghost use Rattle.krates_questions.specs.RootChoice.{IsChoice, AsksFor, HasOneOf};
+ghost use Rattle.krates_questions.specs.DocumentAnswers.{IsChoice, AsksFor, HasOneOf};
 ghost use Rattle.krates_rules.specs.Roots.{IsRoot, HasManifest, IsWorkspaceManifest};
 
 use crate::questions::Document;

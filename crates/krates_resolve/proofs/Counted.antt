@@ -6,8 +6,8 @@ use Rattle.std.proofs.lemmas.List.Sums.{sum_by_push}
 use Rattle.std.proofs.lemmas.Option.{slice_get-get_or, slice_get_within, same_Some}
 use Rattle.std.proofs.Math.Nat.{min-eq_left, min-eq_right}
 use Rattle.std.specs.List.{slice_get}
-use Rattle.krates_resolve.specs.Counting.{NumberHasReferences, HasCounted, HaveTakenReferences, HasCountedAll}
-use Rattle.krates_selection.specs.Work.{IsFresh, counted}
+use Rattle.krates_resolve.specs.Saturation.{NumberHasReferences, HasCounted, HaveTakenReferences, HasCountedAll}
+use Rattle.krates_selection.specs.Selection.{IsFresh, counted}
 use Rattle.krates_search.specs.declared.search_state.SearchState.{SearchState}
 use Rattle.krates_selection.specs.declared.work.Work.{Work}
 use Rattle.krates_resolve.proofs.Taken.{taken_to}
@@ -36,7 +36,7 @@ counted_both a b =
 
 -- ---- one is taken
 
--- what stands among the first elements stood there before
+-- what is among the first elements was there before
 stood : (xs ys : List ℕ) (n k p : ℕ) → ((j q : ℕ) → slice_get xs j ≡ Some q → slice_get ys j ≡ Some q) → n ≤ length xs → k < n → slice_get ys k ≡ Some p → slice_get xs k ≡ Some p
 stood xs ys n k p stays within lt at =
     let old = slice_get-get_or xs k 0 (omega (arith, lt, within)) in

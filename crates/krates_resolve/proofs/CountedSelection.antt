@@ -8,10 +8,8 @@ use Rattle.krates_ids.specs.Identity.{Identity}
 use Rattle.krates_rules.specs.Admission.{NoneDoubled}
 use Rattle.krates_rules.specs.Facts.{Id}
 use Rattle.krates_rules.specs.Resolved.{NodeAt, Resolved}
-use Rattle.krates_questions.specs.ListedFeatures.{listed_features}
-use Rattle.krates_questions.specs.Numbering.{FeatureAt, IsOwn}
-use Rattle.krates_selection.specs.SelectionOrder.{same_feature}
-use Rattle.krates_selection.specs.Work.{CountsEach, HasReferences, counted}
+use Rattle.krates_questions.specs.FeatureTable.{listed_features, FeatureAt, IsOwn}
+use Rattle.krates_selection.specs.Selection.{same_feature, CountsEach, HasReferences, counted, id_at}
 use Rattle.krates_search.specs.declared.search_state.SearchState.{SearchState}
 use Rattle.krates_selection.specs.declared.selection.EnabledFeature.{EnabledFeature}
 use Rattle.krates_selection.specs.declared.work.Work.{Work}
@@ -19,13 +17,12 @@ use Rattle.krates_rules.proofs.OnlyOne.{one_node_place}
 use Rattle.krates_rules.proofs.Readings.{left_of}
 use Rattle.krates_rules.proofs.Standings.{contains_at}
 use Rattle.krates_rules.proofs.Distinct.{distinct_from, zip_shuffled}
-use Rattle.krates_selection.specs.CrateNumbers.{id_at}
 use Rattle.krates_rules.proofs.Elements.{both}
 use Rattle.krates_search.proofs.KeptFeatures.{same_name}
 use Rattle.krates_questions.specs.declared.context.Context.{Context}
 use Rattle.krates_questions.specs.Context.{document_of}
-use Rattle.krates_search.specs.KeptFeatures.{AreSorted, IsFeatureOf}
-use Rattle.krates_resolve.specs.Counting.{HasCountedAll}
+use Rattle.krates_search.specs.KeptLists.{AreSorted, IsFeatureOf}
+use Rattle.krates_resolve.specs.Saturation.{HasCountedAll}
 
 -- a boolean that isn't true is false
 is_false : (b : Bool) → (b ≡ true → ⊥) → b ≡ false

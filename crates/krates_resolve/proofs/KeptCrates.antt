@@ -15,7 +15,7 @@ use Rattle.krates_rules.specs.Resolved.{NodeAt, id_of}
 use Rattle.krates_document.specs.CrateTable.{AreNumbered, IsNumberOf}
 use Rattle.krates_questions.specs.Lookup.{IsLookup, IsNumberIn, resolved_view}
 use Rattle.krates_questions.specs.declared.lookup.Lookup.{Lookup}
-use Rattle.krates_questions.specs.declared.node_place.NodePlace.{NodePlace}
+use Rattle.krates_questions.specs.declared.lookup.NodePlace.{NodePlace}
 use Rattle.krates_rules.proofs.OnlyOne.{one_node_place}
 use Rattle.krates_rules.proofs.SeenInOrder.{equal_self, sorted_unseen}
 use Rattle.krates_rules.proofs.Standings.{contains_at}
@@ -54,7 +54,7 @@ no_places d =
     nothing (suc n) zero p at = cc at
     nothing (suc n) (suc k) p at = nothing n k p at
 
--- what stands at a number is there
+-- what is at a number is there
 there : (kept : List (Option NodePlace)) (n : ℕ) (p : NodePlace) → slice_get kept n ≡ Some (Some p) → Contains (there_in kept) p.index
 there [] n p at = absurd (cc at)
 there (None ∷ kept) zero p at = absurd (cc at)
@@ -71,7 +71,7 @@ there_more (None ∷ kept) (suc n) p at = there_more kept n p at
 there_more (Some q ∷ kept) (suc n) p at =
     IsPermutation-trans _ _ _ (IsPermutation-append_left (there_in kept) (p.index ∷ q.index ∷ []) (q.index ∷ p.index ∷ []) (IsPermutation-append_comm (p.index ∷ []) (q.index ∷ []))) (IsPermutation-cons q.index _ _ (there_more kept n p at))
 
--- what stands at a number once a place was put at one
+-- what is at a number once a place was put at one
 put_cases : (kept : List (Option NodePlace)) (n m : ℕ) (p q : NodePlace) → slice_get (set kept n (Some p)) m ≡ Some (Some q) → ((m ≡ n) × (q ≡ p)) ⊎ (slice_get kept m ≡ Some (Some q))
 put_cases [] n m p q at = inr at
 put_cases (o ∷ kept) zero zero p q at = inl (refl, sym (same_Some p q (same_Some (Some p) (Some q) at)))

@@ -10,24 +10,22 @@ use Rattle.krates_rules.specs.Admission.{NoneDoubled}
 use Rattle.krates_rules.specs.Demands.{Demands}
 use Rattle.krates_rules.specs.Derivation.{follows}
 use Rattle.krates_rules.specs.Facts.{Id, Edge, Crate, Feature, Kept}
-use Rattle.krates_questions.specs.FeatureValues.{AreNamed, AreValuesOf}
+use Rattle.krates_questions.specs.FeatureTable.{AreNamed, AreValuesOf, listed_features, FeatureAt}
 use Rattle.krates_search.specs.SearchState.{HasFound, HasFollowed, HasFollowedReferences, HasTriedEach, IsAny, Grows, MayEnable, MayToggle, IsSound, IsAskingStep, Advances, IsValueOfEnabled, MayTry, HasTried}
-use Rattle.krates_search.specs.FollowedReferences.{IsAskedAt, IsToggledStronglyAt, IsValueStep, HasEnabledReference}
+use Rattle.krates_search.specs.SearchContext.{IsAskedAt, IsToggledStronglyAt, IsValueStep, HasEnabledReference}
 use Rattle.krates_rules.specs.Resolved.{DepAt, NodeAt, Resolved, NoNode, id_of}
 use Rattle.krates_search.specs.Links.{IsMarked, HasWaiter}
-use Rattle.krates_questions.specs.ListedFeatures.{listed_features}
 use Rattle.krates_questions.specs.NodeEntry.{IsEntry, IsEntryOf, parent_of, child_of, krate_of}
-use Rattle.krates_questions.specs.Numbering.{FeatureAt}
 use Rattle.krates_rules.specs.Questions.{Stands, questions}
 use Rattle.krates_rules.specs.Referent.{IsReferent}
 use Rattle.krates_rules.specs.Rules.{IsAskedFor, feature_crate, named, lost_named, asked, toggled_strongly, lost_asked_package, lost_asked_node, lost_toggled_strongly, toggled_weakly, lost_toggled_weakly}
-use Rattle.krates_selection.specs.Work.{CountsText, HasReferences, counted}
+use Rattle.krates_selection.specs.Selection.{CountsText, HasReferences, counted}
 use Rattle.krates_questions.proofs.StandingLaws.{derivable_stands}
 use Rattle.krates_search.specs.declared.search_state.SearchState.{SearchState}
 use Rattle.krates_search.specs.declared.links.Links.{Links}
 use Rattle.krates_questions.specs.declared.node_entry.NodeEntry.{NodeEntry}
 use Rattle.krates_questions.specs.declared.node_entry.NodeParts.{NodeParts}
-use Rattle.krates_questions.specs.declared.node_place.NodePlace.{NodePlace}
+use Rattle.krates_questions.specs.declared.lookup.NodePlace.{NodePlace}
 use Rattle.krates_rules.proofs.Readings.{ReadsOnce}
 use Rattle.krates_rules.proofs.Zips.{zip_next}
 use Rattle.krates_resolve.proofs.Counted.{counted_more}

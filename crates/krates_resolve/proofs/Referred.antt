@@ -19,7 +19,7 @@ use Rattle.krates_questions.specs.declared.referent.Referent.{Referent}
 use Rattle.krates_questions.proofs.DepPlaces.{one_dep_place}
 use Rattle.krates_search.specs.SearchState.{WaitsOrIsToggled, HasFollowed, Grows, IsAny}
 use Rattle.krates_selection.proofs.Steps.{one_way}
-use Rattle.krates_selection.specs.Work.{CountsName}
+use Rattle.krates_selection.specs.Selection.{CountsName}
 use Rattle.krates_search.specs.declared.search_state.SearchState.{SearchState}
 use Rattle.krates_resolve.specs.References.{CountsReferenceOf, DependsAt, HasFollowedAt, NamesDependency, name_of, RefersTo, Refers}
 use Rattle.krates_resolve.specs.declared.references.Referrer.{Referrer}
@@ -42,7 +42,7 @@ item_among xs k x lt is = (k, lt, sym is)
 pub each_among : (P : Referent → Type 0) (xs : List Referent) (i : ℕ) → length xs ≤ i → SeenBelow P xs i → (x : Referent) → Contains xs x → P x
 each_among P xs i le seen x (k, lt, is) = subst P is (seen k x (omega (arith, lt, le)))
 
--- each stands at a place of the node
+-- each is at a place of the node
 pub referent_within : (by : Referrer) (reference : Reference) (xs : List Referent) (x : Referent) → AreMeant by reference xs → Contains xs x → x.place < length by.parts.children.now
 referent_within by reference xs x h among = slice_get_within by.parts.children.now x.place x.id.now (h.each x among).at
 

@@ -22,7 +22,7 @@ use Rattle.krates_questions.specs.Availability.{IsExcludedOnly}
 use Rattle.krates_questions.proofs.Lookups.{one_id}
 use Rattle.krates_questions.proofs.RootLemmas.{root_member}
 use Rattle.krates_search.proofs.Growing.{rooted_grows}
-use Rattle.krates_resolve.specs.Rooted.{HasRootedEach}
+use Rattle.krates_resolve.specs.Saturation.{HasRootedEach}
 
 pub members_rooted : ReadsOnce → (b : Context) (x : SearchState) (all : Bool) (members : List Identity) → AsksForRoots b all → AllZip Reads (document_of b).metadata.workspace_members members
     → All (λ m. HasRoot b (id_of m) → HasRooted b x (id_of m)) members → HasRoots b x

@@ -12,19 +12,18 @@ use Rattle.krates_rules.specs.Features.{HasReference}
 use Rattle.krates_search.specs.SearchState.{HasFound, HasRoots, HasExpanded, HasFollowedReferences, HasFollowed, IsAsked, IsAny, IsFeatureStep, IsKrateStep, IsSound, Advances, HasToggled, HasTried}
 use Rattle.krates_rules.specs.Resolved.{DepAt, Resolved}
 use Rattle.krates_search.specs.Links.{HasLinks, AreNew}
-use Rattle.krates_questions.specs.ListedFeatures.{listed_features}
+use Rattle.krates_questions.specs.FeatureTable.{listed_features}
 use Rattle.krates_questions.specs.Availability.{AreExclusions}
 use Rattle.krates_rules.specs.Questions.{IsDeclaredAs, Stands, questions}
 use Rattle.krates_rules.specs.Demands.{Demands}
 use Rattle.krates_rules.specs.Referent.{IsReferent}
 use Rattle.krates_rules.specs.Rules.{Rule, IsAskedFor, root_crate, root_feature, lost_root_package, lost_root_node, feature_crate, named, lost_named, asked, toggled_strongly, lost_asked_package, lost_asked_node, lost_toggled_strongly, required, target, lost_undeclared, lost_required_package, lost_required_node, declared, by_default, lost_declared, toggled_weakly, toggled_feature, lost_toggled_weakly}
-use Rattle.krates_search.specs.FoundEdge.{found_view, IsFoundEdge}
-use Rattle.krates_search.specs.FoundToggle.{found_toggled, IsFoundToggle}
+use Rattle.krates_search.specs.Found.{found_view, IsFoundEdge, found_toggled, IsFoundToggle}
 use Rattle.krates_rules.specs.Steps.{StepModel}
 use Rattle.krates_selection.specs.Trace.{IsTrace}
 use Rattle.krates_search.specs.declared.search_state.SearchState.{SearchState}
-use Rattle.krates_search.specs.declared.found_edge.FoundEdge.{FoundEdge}
-use Rattle.krates_search.specs.declared.found_toggle.FoundToggle.{FoundToggle}
+use Rattle.krates_search.specs.declared.found.FoundEdge.{FoundEdge}
+use Rattle.krates_search.specs.declared.found.FoundToggle.{FoundToggle}
 use Rattle.krates_rules.proofs.PutElements.{none_there}
 use Rattle.krates_rules.proofs.DerivationLaws.{closed_under}
 use Rattle.krates_rules.proofs.OnlyOne.{place_in}
@@ -77,7 +76,7 @@ open_by_rule b (lost_toggled_weakly refers referent lacks) = tt
 kept_open : (b : Context) (e : Edge) → Derives b (Kept e) → IsOpen b e
 kept_open b e (follows rule ds) = open_by_rule b rule
 
--- it stands at a place among the dependencies of a node
+-- it is at a place among the dependencies of a node
 record StandsIn (r : Resolved) (e : Edge) : Type 0 where
   pub place : ℕ
   pub index : ℕ

@@ -11,15 +11,12 @@ use Rattle.krates_ids.specs.Identity.{Identity, Reads, id_cmp}
 use Rattle.krates_rules.specs.Admission.{NoneDoubled, node_texts}
 use Rattle.krates_rules.specs.Facts.{Id, Edge, Fact, Crate, Feature, Kept, Toggled, Lost}
 use Rattle.krates_rules.specs.Resolved.{id_of}
-use Rattle.krates_selection.specs.CrateNumbers.{id_at}
-use Rattle.krates_search.specs.FoundEdge.{found_view, IsFoundEdge}
-use Rattle.krates_search.specs.FoundToggle.{found_toggled, IsFoundToggle}
+use Rattle.krates_selection.specs.Selection.{id_at, edge_view, crate_fact, edge_fact, feature_fact, toggled_fact, facts_of, IsSelection, CountsEach}
+use Rattle.krates_search.specs.Found.{found_view, IsFoundEdge, found_toggled, IsFoundToggle}
 use Rattle.krates_selection.specs.KeptTables.{IsKeptIn}
-use Rattle.krates_selection.specs.Selection.{edge_view, crate_fact, edge_fact, feature_fact, toggled_fact, facts_of, IsSelection}
-use Rattle.krates_selection.specs.Work.{CountsEach}
 use Rattle.krates_search.specs.declared.search_state.SearchState.{SearchState}
-use Rattle.krates_search.specs.declared.found_edge.FoundEdge.{FoundEdge}
-use Rattle.krates_search.specs.declared.found_toggle.FoundToggle.{FoundToggle}
+use Rattle.krates_search.specs.declared.found.FoundEdge.{FoundEdge}
+use Rattle.krates_search.specs.declared.found.FoundToggle.{FoundToggle}
 use Rattle.krates_selection.specs.declared.selection.Selection.{Selection}
 use Rattle.krates_rules.proofs.Readings.{ReadsOnce}
 use Rattle.krates_resolve.specs.KeptCrates.{AreAt, AreKept}
@@ -27,7 +24,7 @@ use Rattle.krates_rules.proofs.FirstPlaces.{seen_at}
 use Rattle.krates_questions.proofs.Lookups.{one_id}
 use Rattle.krates_questions.proofs.FeatureNumbers.{listed_place}
 use Rattle.krates_questions.proofs.NodeParts.{long_zip, node_here}
-use Rattle.krates_questions.specs.ListedFeatures.{listed_features}
+use Rattle.krates_questions.specs.FeatureTable.{listed_features}
 use Rattle.krates_questions.specs.Lookup.{IsLookup}
 use Rattle.krates_rules.proofs.Elements.{contains_image, contains_or, contains_source}
 use Rattle.krates_search.proofs.LinkLemmas.{there_is}
@@ -36,9 +33,7 @@ use Rattle.krates_rules.proofs.OnlyOne.{place_in}
 use Rattle.krates_rules.proofs.Standings.{contains_at}
 use Rattle.krates_questions.specs.declared.context.Context.{Context}
 use Rattle.krates_questions.specs.Context.{document_of, rules_of, Derives, IsNodeAt, IsFeatureAt}
-use Rattle.krates_search.specs.KeptToggled.{AreToggled, HasKeptCrates}
-use Rattle.krates_search.specs.KeptFeatures.{AreSorted, HasKeptHome}
-use Rattle.krates_search.specs.KeptEdges.{HasKeptNodes, AreInOrder}
+use Rattle.krates_search.specs.KeptLists.{AreToggled, HasKeptCrates, AreSorted, HasKeptHome, HasKeptNodes, AreInOrder}
 use Rattle.krates_resolve.specs.Saturation.{HasExactly}
 
 -- ---- the ids at places

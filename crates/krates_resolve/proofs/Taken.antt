@@ -71,7 +71,7 @@ same_agendas x a b c d e h = ap (λ (n : PutNumbers). with_agendas x n b) e ∙ 
 
 -- ---- lists of numbers that grow
 
--- what stands at a place stays there
+-- what is at a place stays there
 abbrev Stays : List ℕ → List ℕ → Type 0
 Stays xs ys = (k p : ℕ) → slice_get xs k ≡ Some p → slice_get ys k ≡ Some p
 
@@ -103,7 +103,7 @@ grown_long xs ys n stays within = elim (cases_lt (length ys) n) [
   | inr le ↦ le
 ]
 
--- if nothing stands at a place, the list ends before it
+-- if nothing is at a place, the list ends before it
 none_left : (xs : List ℕ) (n : ℕ) → slice_get xs n ≡ None → length xs ≤ n
 none_left xs n none = elim (cases_lt n (length xs)) [
   | inl lt ↦ absurd (none-some (get_or xs n 0) (sym none ∙ slice_get-get_or xs n 0 lt))

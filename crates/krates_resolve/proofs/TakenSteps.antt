@@ -4,7 +4,7 @@ use Rattle.std.proofs.lemmas.Option.{get_or_from_slice_get, slice_get_within}
 use Rattle.std.specs.List.{AllZip, slice_get}
 use Rattle.krates_rules.proofs.Readings.{right_of}
 
--- next to what was put at a place stands the number of its step
+-- next to what was put at a place is the number of its step
 pub taken_step : (R : ℕ → ℕ → Type 0) (put steps : List ℕ) (k t at n : ℕ) → AllZip R put steps → slice_get put k ≡ Some t → at ≡ k → n ≡ get_or steps at n → R t n
 taken_step R put steps k t at n z here same is =
     let w = right_of R put steps k t z here in

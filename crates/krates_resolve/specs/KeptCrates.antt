@@ -9,7 +9,7 @@ use Rattle.krates_rules.specs.Resolved.{NodeAt, id_of}
 use Rattle.krates_document.specs.CrateTable.{AreNumbersOf}
 use Rattle.krates_questions.specs.Lookup.{IsNumberIn, resolved_view}
 use Rattle.krates_questions.specs.declared.lookup.Lookup.{Lookup}
-use Rattle.krates_questions.specs.declared.node_place.NodePlace.{NodePlace}
+use Rattle.krates_questions.specs.declared.lookup.NodePlace.{NodePlace}
 
 -- the ids are those at the places
 abbrev pub AreAt : List Identity → List ℕ → List Identity → Type 0

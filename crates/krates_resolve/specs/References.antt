@@ -1,5 +1,5 @@
 -- What a reference of an enabled feature gives at each dependency that its name means, and what is known of the crate that refers.
-use Rattle.krates_selection.specs.Work.{CountsReference, CountsText}
+use Rattle.krates_selection.specs.Selection.{CountsReference, CountsText}
 use Rattle.krates_cm.specs.Document.{Text}
 use Rattle.krates_questions.specs.Context.{document_of, HasParts, IsDepAt}
 use Rattle.krates_questions.specs.NodeEntry.{krate_of}
@@ -7,8 +7,7 @@ use Rattle.krates_resolve.specs.declared.references.Referrer.{Referrer}
 use Rattle.krates_rules.specs.Facts.{Id}
 use Rattle.krates_rules.specs.Referent.{IsReferent}
 use Rattle.krates_rules.specs.Demands.{Demands}
-use Rattle.krates_search.specs.FollowedReferences.{IsAskedAt, IsToggledStronglyAt, IsWaitingAt, IsReferringStep, HasEnabledReference}
-use Rattle.krates_search.specs.SearchContext.{FindsToggled}
+use Rattle.krates_search.specs.SearchContext.{IsAskedAt, IsToggledStronglyAt, IsWaitingAt, IsReferringStep, HasEnabledReference, FindsToggled}
 use Rattle.krates_search.specs.declared.search_state.SearchState.{SearchState}
 use Rattle.krates_selection.specs.declared.trace.Reason.{Reason}
 use Rattle.krates_text.specs.FeatureReference.{Reference, krate, simple, strong, weak, IsReference}
@@ -28,7 +27,7 @@ abbrev pub NamesDependency : Reference → Type 0
 NamesDependency (simple g) = ⊥
 NamesDependency _ = ⊤
 
--- its node is taken apart of the document
+-- its node is taken apart from the document
 abbrev pub HasItsParts : Referrer → Type 0
 HasItsParts by = HasParts by.context by.parts.place.index by.parts
 

@@ -18,7 +18,7 @@ pub(crate) struct KeptCrates {
 }
 
 impl KeptCrates {
-    /// The crates whose nodes stand at these places. No id is compared: the document's numbers are in the order of the ids. The only
+    /// The crates whose nodes are at these places. No id is compared: the document's numbers are in the order of the ids. The only
     /// error is running out of memory.
     ///
     /// Time: O(n) for n crates of the document.

@@ -9,8 +9,8 @@ ghost use Rattle.std.specs.Prelude.{◌≡◌, ◌<◌, Contains, IfErr, IfOk, O
 ghost use Rattle.krates_text.specs.FeatureReference.{reference_of};
 ghost use Rattle.krates_rules.specs.Facts.{Crate, Id};
 ghost use Rattle.krates_search.specs.Links.{IsMarked};
-ghost use Rattle.krates_search.specs.FollowedReferences.{IsValueStep};
-ghost use Rattle.krates_resolve.specs.Counting.{TakenHasReferences};
+ghost use Rattle.krates_search.specs.SearchContext.{IsValueStep};
+ghost use Rattle.krates_resolve.specs.Saturation.{TakenHasReferences};
 
 use krates_graph::agenda::Taken;
 use krates_ids::{Error, laws};

@@ -3,7 +3,7 @@
 ghost use Rattle.krates_questions.specs.Context.{AsksForRoots, Refuses};
 ghost use Rattle.krates_search.specs.SearchState.{HasFound, HasRoots, IsSound, Advances, HasRooted};
 ghost use Rattle.krates_search.specs.SearchContext.{HasListed, MayEnableListed, crate_of, IsNodeOf};
-ghost use Rattle.krates_resolve.specs.Rooted.{HasRootedRoot, IsMemberOf, IsRootOf, IsStandingRoot, HasRootedEach};
+ghost use Rattle.krates_resolve.specs.Saturation.{HasRootedRoot, IsMemberOf, IsRootOf, IsStandingRoot, HasRootedEach};
 ghost use Rattle.std.specs.Prelude.{All, IfErr, OnOk};
 ghost use Rattle.krates_cm.specs.Document.{Text};
 ghost use Rattle.krates_rules.specs.Facts.{Crate};
@@ -15,8 +15,7 @@ use krates_questions::Availability;
 use krates_questions::context::Context;
 use krates_questions::root_choice::RootChoice;
 use krates_search::enabling::{KeptNode, NamedFeature, enable};
-use krates_search::search_state::SearchState;
-use krates_search::tracing::put_krate;
+use krates_search::search_state::{SearchState, put_krate};
 use krates_selection::trace::Reason;
 
 /// Puts the roots: the graph's root, every member, or the members with one of the manifests that are asked for.

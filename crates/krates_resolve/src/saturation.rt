@@ -1,11 +1,10 @@
 //! All that is kept of a document.
 
-ghost use Rattle.krates_resolve.specs.Saturation.{TakesNext, HasExactly, HasDone};
+ghost use Rattle.krates_resolve.specs.Saturation.{TakesNext, HasExactly, HasDone, HasCounted, HasCountedAll};
 ghost use Rattle.krates_questions.specs.Context.{Refuses};
 ghost use Rattle.std.specs.Prelude.{◌≡◌, IfErr, IfOk, OnOk};
-ghost use Rattle.krates_selection.specs.Work.{IsFresh};
+ghost use Rattle.krates_selection.specs.Selection.{IsFresh};
 ghost use Rattle.krates_search.specs.SearchState.{IsSound};
-ghost use Rattle.krates_resolve.specs.Counting.{HasCounted, HasCountedAll};
 
 use crate::references::follow_references;
 use crate::roots::put_roots;

@@ -15,13 +15,13 @@ use Rattle.krates_rules.specs.Resolved.{DepAt, Resolved, id_of}
 use Rattle.krates_search.specs.Links.{IsMarked}
 use Rattle.krates_questions.specs.NodeEntry.{parent_of, child_of, declared_in, entry_of, edge_for}
 use Rattle.krates_rules.specs.Questions.{IsDeclaredAt, kind_info_of}
-use Rattle.krates_search.specs.FoundEdge.{found_view, IsFoundEdge}
+use Rattle.krates_search.specs.Found.{found_view, IsFoundEdge}
 use Rattle.krates_selection.specs.Trace.{HasSomeStep}
 use Rattle.krates_search.specs.declared.search_state.SearchState.{SearchState}
 use Rattle.krates_search.specs.declared.links.Links.{Links}
 use Rattle.krates_questions.specs.declared.node_entry.NodeEntry.{NodeEntry}
-use Rattle.krates_questions.specs.declared.node_place.NodePlace.{NodePlace}
-use Rattle.krates_search.specs.declared.found_edge.FoundEdge.{FoundEdge}
+use Rattle.krates_questions.specs.declared.lookup.NodePlace.{NodePlace}
+use Rattle.krates_search.specs.declared.found.FoundEdge.{FoundEdge}
 use Rattle.krates_document.proofs.DeclaredOnce.{declared_once, declared_stands}
 use Rattle.krates_rules.proofs.FirstPlaces.{seen_at}
 use Rattle.krates_search.proofs.Growing.{used_grows, tried_grows}
@@ -143,7 +143,7 @@ pub optional_declared : (x : NodeEntry) (k : DepKindInfoModel) (place : ℕ) (d 
 optional_declared x k place d y first at b is =
     ap (λ (m : DependencyModel). m.optional) (sym (declared_seen x.declared.now place d y (declared_stands (declared_in x) (entry_of x) k place d first) at)) ∙ is
 
--- it stands within the list
+-- it is within the list
 pub declared_within : (ds : List Dependency) (place : ℕ) (d : DependencyModel) → slice_get (map dependency_view ds) place ≡ Some d → place < length ds
 declared_within ds place d at = (seen_at dependency_view ds place d at).1
 

@@ -5,14 +5,11 @@ use Rattle.std.specs.List.{AllZip, slice_get}
 use Rattle.krates_cm.specs.Document.{Text, NodeModel, text_view}
 use Rattle.krates_ids.specs.Identity.{Identity, Reads}
 use Rattle.krates_rules.specs.Facts.{Id, Fact, Feature}
-use Rattle.krates_questions.specs.FeatureTable.{listed_view}
-use Rattle.krates_questions.specs.ListedFeatures.{listed_features}
+use Rattle.krates_questions.specs.FeatureTable.{listed_view, listed_features, FeatureAt}
 use Rattle.krates_rules.specs.Resolved.{NodeAt, Resolved, id_of}
-use Rattle.krates_questions.specs.Numbering.{FeatureAt}
-use Rattle.krates_selection.specs.CrateNumbers.{id_at}
+use Rattle.krates_selection.specs.Selection.{id_at, feature_fact}
 use Rattle.krates_selection.specs.KeptTables.{IsKeptNode, IsNumberAt, document_in, kids_in}
 use Rattle.krates_selection.specs.declared.kept_tables.KeptTables.{KeptTables}
-use Rattle.krates_selection.specs.Selection.{feature_fact}
 use Rattle.krates_questions.specs.declared.feature_table.ListedFeature.{ListedFeature}
 use Rattle.krates_selection.specs.declared.selection.EnabledFeature.{EnabledFeature}
 use Rattle.krates_rules.proofs.Readings.{ReadsOnce, left_of, right_of}
@@ -23,7 +20,7 @@ use Rattle.krates_rules.proofs.Standings.{contains_at}
 use Rattle.krates_questions.specs.declared.context.Context.{Context}
 use Rattle.krates_questions.specs.Context.{document_of, IsFeatureAt}
 use Rattle.krates_search.specs.SearchState.{IsEnabled}
-use Rattle.krates_search.specs.KeptFeatures.{HasKeptHome, IsFeatureOf}
+use Rattle.krates_search.specs.KeptLists.{HasKeptHome, IsFeatureOf}
 
 -- a node has only one id
 same_id_at : ReadsOnce → (r : Resolved) (i j : Id) (place other : ℕ) → NodeAt r i place → NodeAt r j other → place ≡ other → i ≡ j

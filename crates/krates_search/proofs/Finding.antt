@@ -15,8 +15,7 @@ use Rattle.krates_text.specs.FeatureReference.{Reference, simple, strong, weak}
 use Rattle.krates_questions.specs.declared.context.Context.{Context}
 use Rattle.krates_questions.specs.Context.{document_of, rules_of, Lists, HasRoot, Wants}
 use Rattle.krates_search.specs.SearchState.{IsAskingStep, HasStepOf, Grows}
-use Rattle.krates_search.specs.FollowedReferences.{IsReferringStep}
-use Rattle.krates_search.specs.SearchContext.{Finds}
+use Rattle.krates_search.specs.SearchContext.{IsReferringStep, Finds}
 
 -- ---- from no premise, one or two
 

@@ -11,8 +11,8 @@ use Rattle.std.specs.Ordering.{is_eq}
 use Rattle.krates_cm.specs.Document.{DepKindInfoModel, dep_kind_info_view}
 use Rattle.krates_cm.specs.declared.resolve.DepKindInfo.{DepKindInfo}
 use Rattle.krates_questions.specs.NodeEntry.{IsFirstInfo}
-use Rattle.krates_search.specs.Kinds.{IsAmongPlaces, IsFirstKind, kind_cmp, kind_view, AreFirstKinds}
-use Rattle.krates_search.specs.declared.kinds.KindKey.{KindKey}
+use Rattle.krates_search.specs.Found.{IsAmongPlaces, IsFirstKind, kind_cmp, kind_view, AreFirstKinds}
+use Rattle.krates_search.specs.declared.found.KindKey.{KindKey}
 use Rattle.krates_search.proofs.KindOrder.{kind_from, kind_to}
 use Rattle.krates_rules.proofs.PutElements.{none_there}
 use Rattle.krates_rules.specs.DeclaredDependency.{FirstAt}
@@ -149,7 +149,7 @@ first_within infos places place first among =
     let w = first.first place among in
     subst (λ (n : ℕ). place < n) (infos_long infos) (slice_get_within (map dep_kind_info_view infos) place w.0 w.1.here)
 
--- and what stands there stands there first
+-- and what is there is there for the first time
 pub first_info : (infos : List DepKindInfo) (places : List ℕ) (place : ℕ) (info : DepKindInfo) → AreFirstKinds (map dep_kind_info_view infos) places → Contains places place → slice_get (map dep_kind_info_view infos) place ≡ Some (dep_kind_info_view info)
     → IsFirstInfo infos info place
 first_info infos places place info first among here =

@@ -10,13 +10,13 @@ use Rattle.krates_search.specs.SearchState.{HasFound, IsAny, IsEdgeStep, IsFeatu
 use Rattle.krates_rules.specs.Resolved.{DepAt, Resolved, id_of}
 use Rattle.krates_search.specs.Links.{IsMarked, NotesAsked, IsWaiter, IsMarkedBy, HasMarked, HasWaiter, Waits, HasLinks, WasAsked}
 use Rattle.krates_rules.specs.Questions.{edge_between}
-use Rattle.krates_questions.specs.Numbering.{IsOwn}
-use Rattle.krates_search.specs.FoundToggle.{found_toggled, IsFoundToggle}
+use Rattle.krates_questions.specs.FeatureTable.{IsOwn}
+use Rattle.krates_search.specs.Found.{found_toggled, IsFoundToggle}
 use Rattle.krates_search.specs.declared.search_state.SearchState.{SearchState}
 use Rattle.krates_selection.specs.Trace.{HasSomeStep, HasStep, IsTrace, MayFind, Names}
 use Rattle.krates_search.specs.declared.links.Links.{Links}
 use Rattle.krates_search.specs.declared.links.Waiting.{Waiting}
-use Rattle.krates_search.specs.declared.found_toggle.FoundToggle.{FoundToggle}
+use Rattle.krates_search.specs.declared.found.FoundToggle.{FoundToggle}
 use Rattle.krates_selection.specs.declared.trace.NumberedStep.{NumberedStep}
 use Rattle.krates_rules.proofs.Readings.{ReadsOnce}
 use Rattle.krates_search.proofs.Growing.{used_grows, tried_grows}

@@ -11,11 +11,9 @@ use Rattle.krates_rules.specs.Facts.{Edge, Id}
 use Rattle.krates_rules.specs.Questions.{edge_between, kind_info_of}
 use Rattle.krates_rules.specs.Resolved.{HasDep, HasNode, Resolved}
 use Rattle.krates_rules.specs.Setting.{SettingModel}
-use Rattle.krates_selection.specs.CrateNumbers.{id_at}
-use Rattle.krates_search.specs.FoundEdge.{found_view, IsFoundEdge}
-use Rattle.krates_selection.specs.Selection.{IsPlaced, IsPlacedAs, edge_view}
-use Rattle.krates_selection.specs.SelectionOrder.{place_cmp}
-use Rattle.krates_search.specs.declared.found_edge.FoundEdge.{FoundEdge}
+use Rattle.krates_selection.specs.Selection.{id_at, IsPlaced, IsPlacedAs, edge_view, place_cmp}
+use Rattle.krates_search.specs.Found.{found_view, IsFoundEdge}
+use Rattle.krates_search.specs.declared.found.FoundEdge.{FoundEdge}
 use Rattle.krates_selection.specs.declared.selection.KeptEdge.{KeptEdge}
 use Rattle.krates_rules.proofs.OnlyOne.{one_dep, place_in}
 use Rattle.krates_rules.proofs.Readings.{left_of, right_of}
@@ -23,7 +21,7 @@ use Rattle.krates_rules.proofs.Standings.{contains_at}
 use Rattle.krates_rules.proofs.Elements.{both, contains_image, contains_or, contains_source}
 use Rattle.krates_questions.specs.declared.context.Context.{Context}
 use Rattle.krates_questions.specs.Context.{document_of}
-use Rattle.krates_search.specs.KeptEdges.{IsCopyOf, AreInOrder}
+use Rattle.krates_search.specs.KeptLists.{IsCopyOf, AreInOrder}
 
 -- ---- edges at one place are one
 

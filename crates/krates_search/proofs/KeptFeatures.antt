@@ -6,9 +6,7 @@ use Rattle.std.specs.List.Sorted.{IsPermutation, IsStrictlySortedBy}
 use Rattle.std.specs.declared.alloc.Global.{Global}
 use Rattle.krates_cm.specs.Document.{Text, text_view}
 use Rattle.krates_ids.specs.Identity.{Identity}
-use Rattle.krates_selection.specs.CrateNumbers.{id_at}
-use Rattle.krates_selection.specs.Selection.{feature_fact}
-use Rattle.krates_selection.specs.SelectionOrder.{feature_cmp, same_feature, same_text}
+use Rattle.krates_selection.specs.Selection.{id_at, feature_fact, feature_cmp, same_feature, same_text}
 use Rattle.krates_selection.specs.declared.selection.EnabledFeature.{EnabledFeature}
 use Rattle.krates_rules.proofs.Elements.{both, contains_image, contains_or, contains_source}
 use Rattle.krates_search.proofs.FeaturesAt.{enabled_told}
@@ -17,7 +15,7 @@ use Rattle.krates_rules.proofs.OnlyOne.{place_in}
 use Rattle.krates_rules.proofs.Readings.{ReadsOnce, left_of}
 use Rattle.krates_questions.specs.declared.context.Context.{Context}
 use Rattle.krates_search.specs.SearchState.{IsEnabled}
-use Rattle.krates_search.specs.KeptFeatures.{AreSorted, IsFeatureOf}
+use Rattle.krates_search.specs.KeptLists.{AreSorted, IsFeatureOf}
 
 -- ---- features that compare as equal are the same
 

@@ -21,7 +21,7 @@ use Rattle.krates_search.specs.SearchContext.{FindsUsed}
 use Rattle.krates_questions.specs.Context.{Wants}
 use Rattle.krates_selection.specs.declared.trace.NumberedFact.TheVariants as numbered
 
--- the edge of an entry stands at its places
+-- the edge of an entry is at its places
 pub entry_edge : (r : Resolved) (x : NodeEntry) (k : DepKindInfoModel) (kind : ℕ) → NoneDoubled r.metadata r.graph → IsEntry r x → FirstAt (λ o. o ≡ k) (node_dep_view x.dep.now).dep_kinds kind k
     → Names r (numbered.Kept x.place x.index kind) (Kept (edge_for x k))
 entry_edge r x k kind none is first =

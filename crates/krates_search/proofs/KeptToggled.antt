@@ -5,18 +5,16 @@ use Rattle.std.specs.List.Sorted.{IsStrictlySortedBy}
 use Rattle.krates_cm.specs.Document.{Text, text_view}
 use Rattle.krates_ids.specs.Identity.{Identity}
 use Rattle.krates_rules.specs.Facts.{Fact, Id, Toggled}
-use Rattle.krates_selection.specs.CrateNumbers.{id_at}
-use Rattle.krates_search.specs.FoundToggle.{found_toggled}
-use Rattle.krates_selection.specs.Selection.{toggled_fact}
-use Rattle.krates_selection.specs.SelectionOrder.{same_text, toggled_cmp}
-use Rattle.krates_search.specs.declared.found_toggle.FoundToggle.{FoundToggle}
+use Rattle.krates_selection.specs.Selection.{id_at, toggled_fact, same_text, toggled_cmp}
+use Rattle.krates_search.specs.Found.{found_toggled}
+use Rattle.krates_search.specs.declared.found.FoundToggle.{FoundToggle}
 use Rattle.krates_selection.specs.declared.selection.ToggledFeature.{ToggledFeature}
 use Rattle.krates_rules.proofs.OnlyOne.{place_in}
 use Rattle.krates_rules.proofs.Readings.{left_of, right_of}
 use Rattle.krates_rules.proofs.Standings.{contains_at}
 use Rattle.krates_rules.proofs.Elements.{both, contains_image, contains_or, contains_source}
 use Rattle.krates_search.proofs.KeptFeatures.{same_name}
-use Rattle.krates_search.specs.KeptToggled.{AreToggled, IsToggleCopy}
+use Rattle.krates_search.specs.KeptLists.{AreToggled, IsToggleCopy}
 
 -- whether toggled features are equal
 abbrev pub same_toggled : ToggledFeature → ToggledFeature → Bool

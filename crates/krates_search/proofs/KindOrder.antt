@@ -1,8 +1,8 @@
 -- The order of kinds and targets: two compare as equal exactly where they are the same.
 use Rattle.std.proofs.Common.{◌≡◌, Equal, refl, ap}
 use Rattle.krates_cm.specs.Document.{DepKindInfoModel}
-use Rattle.krates_search.specs.Kinds.{kind_cmp, kind_view}
-use Rattle.krates_search.specs.declared.kinds.KindKey.{KindKey}
+use Rattle.krates_search.specs.Found.{kind_cmp, kind_view}
+use Rattle.krates_search.specs.declared.found.KindKey.{KindKey}
 use Rattle.krates_rules.proofs.KeyOrder.{equal_then, kind_tells, option_tells, then_equal}
 
 -- keys that compare as equal are the same kind and target

@@ -28,7 +28,7 @@ same_or_not j k = elim (cases_order j k) [
 
 -- ---- one link is changed
 
--- this link now stands where the other stood, and nothing else has changed
+-- this link now is where the other was, and nothing else has changed
 pub record IsReplaced (old new : Links) (place index : ℕ) (was is : Link) : Type 0 where
   pub before : LinkAt old place index was
   pub after : LinkAt new place index is

@@ -4,8 +4,8 @@ use Rattle.std.specs.Bool.{OnTrue, OnFalse}
 use Rattle.std.specs.Global.{Vec}
 use Rattle.krates_cm.specs.Document.{Text}
 use Rattle.krates_graph.specs.Agenda.{PutNumbers}
-use Rattle.krates_questions.specs.Numbering.{IsOwn}
-use Rattle.krates_questions.specs.declared.node_place.NodePlace.{NodePlace}
+use Rattle.krates_questions.specs.FeatureTable.{IsOwn}
+use Rattle.krates_questions.specs.declared.lookup.NodePlace.{NodePlace}
 use Rattle.krates_search.proofs.Growing.{advances_refl, advances_trans}
 use Rattle.krates_search.proofs.Growth.{crate_advances, feature_advances, put_step_has, step_advances}
 use Rattle.krates_search.specs.SearchState.{HasFound, IsSound, Advances}

@@ -9,7 +9,7 @@ use Rattle.krates_questions.specs.declared.node_entry.NodeEntry.{NodeEntry}
 use Rattle.krates_search.specs.declared.search_state.SearchState.{SearchState}
 use Rattle.krates_search.proofs.Growing.{tried_grows}
 use Rattle.krates_questions.specs.declared.context.Context.{Context}
-use Rattle.krates_search.specs.Kinds.{AreFirstKinds}
+use Rattle.krates_search.specs.Found.{AreFirstKinds}
 use Rattle.krates_search.specs.SearchState.{Grows, HasTried}
 
 -- the kinds and targets of the entry's dependency

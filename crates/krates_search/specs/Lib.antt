@@ -1,10 +1,5 @@
-pub mod FollowedReferences
-pub mod FoundEdge
-pub mod FoundToggle
-pub mod KeptEdges
-pub mod KeptFeatures
-pub mod KeptToggled
-pub mod Kinds
+pub mod Found
+pub mod KeptLists
 pub mod Links
 pub mod SearchContext
 pub mod SearchState

@@ -1,9 +1,9 @@
--- What the calls of a search ask for and answer, of its state and of the steps in it.
-use Rattle.krates_questions.specs.Context.{document_of, Derives, IsNodeAt, IsFeatureAt, Lists, Wants}
+-- What the calls of a search require and promise of its state and of the steps in it.
+use Rattle.krates_questions.specs.Context.{document_of, Derives, IsNodeAt, IsFeatureAt, Lists, Wants, IsDepAt}
 use Rattle.krates_cm.specs.Document.{DependencyModel, Text, node_dep_view}
-use Rattle.krates_search.specs.SearchState.{HasTriedEach, HasFound, HasStepOf}
+use Rattle.krates_search.specs.SearchState.{HasTriedEach, HasFound, HasStepOf, IsAny, WaitsOrIsToggled, HasToggled, HasTried}
 use Rattle.krates_questions.specs.NodeEntry.{child_of, parent_of}
-use Rattle.krates_selection.specs.Trace.{MayFind, Names}
+use Rattle.krates_selection.specs.Trace.{MayFind, Names, HasStep}
 use Rattle.krates_questions.specs.declared.context.Context.{Context}
 use Rattle.krates_search.specs.declared.enabling.KeptNode.{KeptNode}
 use Rattle.krates_search.specs.declared.search_state.SearchState.{SearchState}
@@ -17,9 +17,11 @@ use Rattle.krates_rules.specs.NamedIds.{IsReadOf}
 use Rattle.krates_rules.specs.Questions.{Stands}
 use Rattle.krates_rules.specs.Resolved.{id_of}
 use Rattle.krates_rules.specs.Rules.{default_name}
-use Rattle.krates_questions.specs.Numbering.{IsOwn}
+use Rattle.krates_questions.specs.FeatureTable.{IsOwn}
 use Rattle.krates_ids.specs.Identity.{Identity}
-use Rattle.std.specs.Prelude.{◌≡◌, Contains, ℕ, true}
+use Rattle.std.specs.Prelude.{◌≡◌, Contains, ℕ, true, List}
+use Rattle.krates_text.specs.FeatureReference.{IsReference, Reference}
+use Rattle.krates_rules.specs.Features.{HasReference}
 
 -- the crate of a node
 abbrev pub crate_of : KeptNode → Id
@@ -40,11 +42,11 @@ HasTriedEntry b x entry = HasTriedEach b x (parent_of entry) (child_of entry) (n
 abbrev pub HasAvailability : Context → NodeEntry → Availability → Type 0
 HasAvailability b entry = IsAvailability (document_of b) b.setting.now (child_of entry)
 
--- the id is read of the document
+-- the id is read from the document
 abbrev pub IsRead : Context → Identity → Type 0
 IsRead b = IsReadOf (document_of b)
 
--- the node of a kept crate stands at its place, and its id is read of the document
+-- the node of a kept crate is at its place, and its id is read from the document
 pub record IsNodeOf (b : Context) (node : KeptNode) : Type 0 where
   pub at : IsNodeAt b (crate_of node) node.place.index
   pub read : IsRead b node.id.now
@@ -89,7 +91,7 @@ pub record MayPutStep (b : Context) (x : SearchState) (step : NumberedStep) : Ty
 abbrev pub HasPutStep : Context → SearchState → NumberedStep → ℕ → Type 0
 HasPutStep b x step number = (f : Fact) → Names (document_of b) step.fact f → HasStepOf b x number f
 
--- a crate stands at the place that follows
+-- a crate whose node is at the place follows
 pub record MayPutKrate (b : Context) (x : SearchState) (place : ℕ) (reason : Reason) : Type 0 where
   pub krate : Id
   pub node : IsNodeAt b krate place
@@ -102,3 +104,36 @@ pub record MayPutFeature (b : Context) (x : SearchState) (number : ℕ) (reason 
   pub number_of : IsNumberOf b krate name number
   pub kept : HasFound b x (Crate krate)
   pub finds : Finds b x reason (Feature krate name)
+
+-- ---- what a reference of an enabled feature may give
+
+-- an enabled feature of the crate has the reference
+pub record HasEnabledReference (b : Context) (p : Id) (reference : Reference) : Type 0 where
+  pub feature : Text
+  pub enabled : Derives b (Feature p feature)
+  pub refers : HasReference (document_of b) p feature reference
+
+-- the step is that of a feature of the crate that has the reference
+pub record IsReferringStep (b : Context) (trace : List NumberedStep) (step : ℕ) (p : Id) (reference : Reference) : Type 0 where
+  pub feature : Text
+  pub found : HasStep (document_of b) trace step (Feature p feature)
+  pub refers : HasReference (document_of b) p feature reference
+
+-- that has the text for a reference
+pub record IsValueStep (b : Context) (trace : List NumberedStep) (step : ℕ) (p : Id) (text : Text) : Type 0 where
+  pub feature : Text
+  pub found : HasStep (document_of b) trace step (Feature p feature)
+  pub refers : (reference : Reference) → IsReference text reference → HasReference (document_of b) p feature reference
+
+-- each edge by the dependency at these places has been tried
+abbrev pub IsAskedAt : Context → SearchState → Id → ℕ → ℕ → Type 0
+IsAskedAt b x p place index = (e : Edge) → e.parent ≡ p → IsDepAt b p e.child place index → HasTried b x e IsAny
+
+-- where an edge by that dependency may be kept, the feature is toggled
+abbrev pub IsToggledStronglyAt : Context → SearchState → Id → ℕ → ℕ → Text → Type 0
+IsToggledStronglyAt b x p place index g =
+    (e : Edge) (d : DependencyModel) → e.parent ≡ p → IsDepAt b p e.child place index → Wants b e d → Stands (document_of b) b.setting.now e.child → HasToggled b x p e.child g
+
+-- the feature of that dependency waits for a kept edge, or is toggled
+abbrev pub IsWaitingAt : Context → SearchState → Id → ℕ → ℕ → Text → Type 0
+IsWaitingAt b x p place index g = (child : Id) → IsDepAt b p child place index → WaitsOrIsToggled b x p child place index g

@@ -10,17 +10,15 @@ use Rattle.krates_search.specs.Links.{HasLinks, IsMarked, IsWaiter, IsMarkedBy, 
 use Rattle.krates_selection.specs.Trace.{HasSomeStep, HasStep, IsTrace}
 use Rattle.krates_questions.specs.Availability.{AreExclusions}
 use Rattle.krates_rules.specs.Questions.{edge_between, Stands, LacksNode, IsLoose}
-use Rattle.krates_questions.specs.ListedFeatures.{listed_features}
-use Rattle.krates_questions.specs.Numbering.{IsOwn}
+use Rattle.krates_questions.specs.FeatureTable.{listed_features, IsOwn}
 use Rattle.krates_rules.specs.Referent.{IsReferent}
 use Rattle.krates_rules.specs.Rules.{default_name}
-use Rattle.krates_search.specs.FoundEdge.{found_view, IsFoundEdge}
-use Rattle.krates_search.specs.FoundToggle.{found_toggled, IsFoundToggle}
+use Rattle.krates_search.specs.Found.{found_view, IsFoundEdge, found_toggled, IsFoundToggle}
 use Rattle.krates_search.specs.declared.search_state.SearchState.{SearchState}
 use Rattle.krates_search.specs.declared.links.Waiting.{Waiting}
 use Rattle.krates_selection.specs.declared.trace.NumberedStep.{NumberedStep}
-use Rattle.krates_search.specs.declared.found_edge.FoundEdge.{FoundEdge}
-use Rattle.krates_search.specs.declared.found_toggle.FoundToggle.{FoundToggle}
+use Rattle.krates_search.specs.declared.found.FoundEdge.{FoundEdge}
+use Rattle.krates_search.specs.declared.found.FoundToggle.{FoundToggle}
 use Rattle.krates_questions.specs.declared.context.Context.{Context}
 use Rattle.krates_questions.specs.Context.{document_of, Derives, IsNodeAt, IsDepAt, IsFeatureAt, Lists, HasRoot, Wants}
 
@@ -199,7 +197,7 @@ pub record HaveTheirSteps (b : Context) (x : SearchState) : Type 0 where
 
 -- ---- what has been found is right
 
--- all that has been found is derivable, and what follows from kept edges, toggled and enabled features alone stands in it
+-- all that has been found is derivable, and what follows from kept edges, toggled and enabled features alone is in it
 pub record IsSound (b : Context) (x : SearchState) : Type 0 where
   -- it is known which packages are excluded
   pub excluded : AreExclusions (document_of b) b.setting.now x.excluded.items
@@ -254,6 +252,6 @@ HasTriedEach b x parent child dep taken = (info : DepKindInfoModel) → Contains
 abbrev pub HasExpanded : Context → SearchState → Id → Type 0
 HasExpanded b x i = (e : Edge) → e.parent ≡ i → HasTried b x e IsRequired
 
--- each root stands in it
+-- each root is in it
 abbrev pub HasRoots : Context → SearchState → Type 0
 HasRoots b x = (i : Id) → HasRoot b i → HasRooted b x i

@@ -7,14 +7,12 @@ ghost use Rattle.krates_questions.specs.NodeEntry.{child_of, edge_of, parent_of}
 ghost use Rattle.std.specs.Prelude.{◌≡◌, IfErr, IfOk, OnOk};
 ghost use Rattle.krates_cm.specs.Document.{dependency_view};
 ghost use Rattle.krates_rules.specs.Facts.{Crate, Feature, Kept};
-ghost use Rattle.krates_search.specs.Kinds.{IsFirstOf};
+ghost use Rattle.krates_search.specs.Found.{IsFirstOf};
 ghost use Rattle.krates_search.specs.Links.{IsMarked};
 ghost use Rattle.krates_rules.specs.Rules.{default_name};
 
-use crate::found_edge::found_edge;
-use crate::found_toggle::FoundToggle;
-use crate::search_state::SearchState;
-use crate::tracing::{put_feature, put_krate, put_step};
+use crate::found::{FoundToggle, found_edge};
+use crate::search_state::{SearchState, put_feature, put_krate, put_step};
 use krates_cm::Dependency;
 use krates_ids::{Error, Kid, Lost, laws};
 use krates_questions::NodePlace;
@@ -237,7 +235,7 @@ fn wake<'a>(
 
 /// Keeps an edge of an entry, and with it the crate that it leads to, and what it asks of that crate.
 ///
-/// What follows from the edge is put before the edge itself, so that no edge ever stands without what it gives.
+/// What follows from the edge is put before the edge itself, so that no edge is ever there without what it gives.
 pub(crate) fn keep<'a>(
     context: &Context<'a, '_>,
     edge: &EntryEdge<'a, '_>,

@@ -7,10 +7,10 @@ ghost use Rattle.krates_questions.specs.NodeEntry.{HasItsPlaces, IsListedEdge, e
 ghost use Rattle.std.specs.Prelude.{◌≡◌, ◌<◌, IfErr, IfOk, OnOk, Some, Contains, true};
 ghost use Rattle.krates_cm.specs.Document.{DepKindInfoModel};
 ghost use Rattle.krates_search.specs.SearchState.{IsAny, TakenWhen, HasExpanded, IsKrateStep, IsSound, Advances, MayTry, HasTried};
-ghost use Rattle.krates_search.specs.Kinds.{IsFirstOf};
+ghost use Rattle.krates_search.specs.Found.{IsFirstOf};
 
 use crate::enabling::{Keeping, keep};
-use crate::kinds::{first_kinds, info_at};
+use crate::found::{first_kinds, info_at};
 use crate::search_state::SearchState;
 use krates_graph::agenda::Taken;
 use krates_ids::{Error, Lost, laws};
@@ -65,7 +65,7 @@ struct Trial {
 
 /// Tries each edge of an entry; an optional one only where it is asked for.
 ///
-/// A kind and target that stands several times is tried once, and what there is for the crate is asked once. Where no edge was passed over,
+/// A kind and target that occurs several times is tried once, and what there is for the crate is asked once. Where no edge was passed over,
 /// it is noted that all of them have been asked for.
 pub fn expand_entry<'a>(
     context: &Context<'a, '_>,

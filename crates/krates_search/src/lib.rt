@@ -6,12 +6,7 @@
 
 pub mod enabling;
 pub mod expansion;
-pub mod found_edge;
-pub mod found_toggle;
-pub mod kept_edges;
-pub mod kept_features;
-pub mod kept_toggled;
-mod kinds;
+pub mod found;
+pub mod kept_lists;
 pub mod links;
 pub mod search_state;
-pub mod tracing;

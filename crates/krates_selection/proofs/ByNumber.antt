@@ -6,7 +6,7 @@ use Rattle.std.proofs.lemmas.List.{map-id, take_all}
 use Rattle.std.proofs.lemmas.Map.Keys.{Less-from_sorted}
 use Rattle.std.proofs.lemmas.Option.{get_or_from_slice_get, slice_get_within}
 use Rattle.std.specs.Cmp.{IsTotalOrder, nat_cmp_is}
-use Rattle.std.specs.List.{AllByRecursion, AllZip, slice_get}
+use Rattle.std.specs.List.{AllZip, slice_get}
 use Rattle.std.specs.List.Sorted.{IsStrictlySortedBy}
 use Rattle.std.specs.Ordering.{nat_cmp, ordering_reverse}
 use Rattle.krates_rules.proofs.Zips.{zip_next}
@@ -24,27 +24,11 @@ places_compare {K} {R} o xs d sorted m n lm ln = elim (cases_order m n) [
   ]
 ]
 
--- what stands in a list in order compares as its places
+-- what is in a list in order compares as its places
 pub compared_by_place : {K : Type 0} {R : K → K → Ordering} → IsTotalOrder R → (xs : List K) → IsStrictlySortedBy R xs → (x y : K) (m n : ℕ) → slice_get xs m ≡ Some x → slice_get xs n ≡ Some y → R x y ≡ nat_cmp m n
 compared_by_place {K} {R} o xs sorted x y m n at_m at_n =
     let same = places_compare o xs x sorted m n (slice_get_within xs m x at_m) (slice_get_within xs n y at_n) in
     ap (R x) (sym (get_or_from_slice_get xs n y x at_n)) ∙ ap (λ z. R z (get_or xs n x)) (sym (get_or_from_slice_get xs m x x at_m)) ∙ same
-
-all_below : {A B : Type 0} (R : A → A → Ordering) (S : B → B → Ordering) (P : A → B → Type 0) → ((a c : A) (b d : B) → P a b → P c d → S b d ≡ R a c) → (x : A) (y : B) (xs : List A) (ys : List B) → P x y → AllZip P xs ys
-    → AllByRecursion (λ c. R x c ≡ Less) xs → AllByRecursion (λ d. S y d ≡ Less) ys
-all_below R S P same x y [] [] p z h = tt
-all_below R S P same x y [] (b ∷ ys) p z h = absurd z
-all_below R S P same x y (a ∷ xs) [] p z h = absurd z
-all_below R S P same x y (a ∷ xs) (b ∷ ys) p z h = (same x a y b p z.0 ∙ h.0, all_below R S P same x y xs ys p z.1 h.1)
-
--- lists whose items compare alike are in order alike
-pub sorted_zip : {A B : Type 0} (R : A → A → Ordering) (S : B → B → Ordering) (P : A → B → Type 0) → ((a c : A) (b d : B) → P a b → P c d → S b d ≡ R a c) → (xs : List A) (ys : List B) → AllZip P xs ys → IsStrictlySortedBy R xs
-    → IsStrictlySortedBy S ys
-unfolding IsStrictlySortedBy
-sorted_zip R S P same [] [] z h = tt
-sorted_zip R S P same [] (b ∷ ys) z h = absurd z
-sorted_zip R S P same (a ∷ xs) [] z h = absurd z
-sorted_zip R S P same (a ∷ xs) (b ∷ ys) z h = (all_below R S P same a b xs ys z.0 z.1 h.0, sorted_zip R S P same xs ys z.1 h.1)
 
 -- ---- item by item
 

@@ -1,14 +1,13 @@
 -- The chosen steps of a list, one by one.
-use Rattle.std.proofs.Common.{◌≡◌, ◌≢◌, inl, inr, ℕ, suc, ◌+◌, ◌<◌, ◌≤◌, List, [], ◌∷◌, ◌++◌, Option, Some, None, Contains, length, get_or, length-append, arith, refl, sym, ap, ◌∙◌, subst}
+use Rattle.std.proofs.Common.{◌≡◌, ◌≢◌, inl, inr, ℕ, suc, ◌+◌, ◌<◌, List, [], ◌∷◌, ◌++◌, Option, Some, None, Contains, length, get_or, length-append, arith, refl, sym, ap, ◌∙◌, subst}
 use Rattle.std.proofs.Math.ListN.{set}
 use Rattle.std.proofs.lemmas.Bool.{cases_lt}
 use Rattle.std.proofs.lemmas.Option.{slice_get_within, get_or_from_slice_get, same_Some}
 use Rattle.std.specs.List.{AllZip, slice_get}
 use Rattle.krates_rules.specs.Uses.{number_in, numbers_used}
 use Rattle.krates_rules.specs.declared.uses.Uses.{Uses}
-use Rattle.krates_selection.specs.Choosing.{IsMarked, HasChosen, IsChoice, HasNewNumber, IsNumbered, IsPartBelow, IsMade}
-use Rattle.krates_selection.specs.PartOfSteps.{IsNewNumber, IsChosenStep, SameFact}
-use Rattle.krates_selection.specs.declared.choosing.MarkedSteps.{MarkedSteps}
+use Rattle.krates_selection.specs.PartOfSteps.{IsMarked, HasChosen, IsChoice, HasNewNumber, IsNumbered, IsPartBelow, IsNewNumber, IsChosenStep, SameFact}
+use Rattle.krates_selection.specs.declared.part_of_steps.MarkedSteps.{MarkedSteps}
 use Rattle.krates_selection.proofs.Places.{grown, end_of, last_of, set_here, set_there}
 
 -- ---- new numbers
@@ -38,31 +37,6 @@ use_numbered c count n x chosen part numbers choice here at h used among =
     let s = r.1 in
     let w = h.placed s.chosen (omega (arith, r.0, s.earlier)) s.marked in
     (w.0, record { fact = w.1.fact; fact_at = sym s.same ∙ w.1.fact_at; at = w.1.at })
-
--- nothing is chosen yet
-pub none_chosen : (c : MarkedSteps) (numbers : List (Option ℕ)) → IsPartBelow c 0 [] [] numbers
-none_chosen c numbers = record {
-  long = refl;
-  low = λ j a at. absurd cc;
-  increase = λ j k a b at there lt. absurd cc;
-  marked = λ j a at. absurd cc;
-  each = λ j x at. absurd cc;
-  placed = λ k lt m. absurd (omega (arith, lt));
-}
-
--- the next step isn't marked
-pub step_passed : (c : MarkedSteps) (n : ℕ) (chosen : List ℕ) (part : List Uses) (numbers : List (Option ℕ)) → (IsMarked c.marks.now n → ⊥) → IsPartBelow c n chosen part numbers → IsPartBelow c (n + 1) chosen part numbers
-step_passed c n chosen part numbers out h = record {
-  long = h.long;
-  low = λ j a at. omega (arith, h.low j a at);
-  increase = h.increase;
-  marked = h.marked;
-  each = h.each;
-  placed = λ k lt m. elim (cases_lt k n) [
-    | inl low ↦ h.placed k low m
-    | inr ge ↦ absurd (out (subst (IsMarked c.marks.now) (omega (arith, lt, ge)) m))
-  ];
-}
 
 stands_grown : (facts chosen : List ℕ) (n before now : ℕ) → IsNewNumber (SameFact facts) chosen before now → IsNewNumber (SameFact facts) (chosen ++ n ∷ []) before now
 stands_grown facts chosen n before now s = record { number = s.number; chosen_at = grown chosen (n ∷ []) now s.number s.chosen_at; earlier = s.earlier; same = s.same }
@@ -153,11 +127,3 @@ step_chosen c n f v x y chosen part numbers choice here at fact is uses h = reco
           let number : HasNewNumber c.facts.now (set numbers f (Some v)) n v = record { fact = f; fact_at = fact; at = set_here numbers f (Some v) within } in
           subst (λ (i : ℕ). (j : ℕ) × HasNewNumber c.facts.now (set numbers f (Some v)) i j × (slice_get (chosen ++ n ∷ []) j ≡ Some i)) e (v, number, put))
     ]
-
--- all are chosen
-pub part_made : (c : MarkedSteps) (count n : ℕ) (chosen : List ℕ) (part : List Uses) (numbers : List (Option ℕ)) → IsChoice c count → length c.steps.now ≤ n → IsPartBelow c n chosen part numbers → IsMade c chosen part
-part_made c count n chosen part numbers choice le h = record {
-  is_part = record { increase = h.increase; long = h.long; each = h.each };
-  marked = h.marked;
-  each = λ k m. (let w = h.placed k (omega (arith, le, choice.marks, slice_get_within c.marks.now k _ m)) m in (w.0, w.2));
-}

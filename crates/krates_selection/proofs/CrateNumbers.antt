@@ -6,7 +6,7 @@ use Rattle.std.proofs.lemmas.Map.Keys.{Less-from_sorted}
 use Rattle.std.specs.List.Sorted.{IsStrictlySortedBy}
 use Rattle.krates_rules.proofs.DistinctIds.{OrderTellsSame, same_of}
 use Rattle.krates_ids.specs.Identity.{Identity, empty_identity, id_cmp}
-use Rattle.krates_selection.specs.CrateNumbers.{id_at, no_id}
+use Rattle.krates_selection.specs.Selection.{id_at, no_id}
 use Rattle.krates_rules.specs.Resolved.{id_of}
 
 -- the id of a number is that of the crate at that place

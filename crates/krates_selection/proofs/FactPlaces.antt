@@ -7,8 +7,7 @@ use Rattle.std.specs.BTreeMap.{BTreeMap, get}
 use Rattle.std.specs.List.{AllZip, slice_get}
 use Rattle.std.specs.Ordering.{is_eq}
 use Rattle.krates_rules.proofs.PutElements.{equal_is, is_equal}
-use Rattle.krates_selection.specs.Keys.{AreFactNumbers, AreNoPlaces, home, key_cmp, key_view}
-use Rattle.krates_selection.specs.KeptFacts.{KeptModel}
+use Rattle.krates_selection.specs.KeptFacts.{AreFactNumbers, AreNoPlaces, home, key_cmp, key_view, KeptModel}
 use Rattle.krates_selection.specs.declared.key.KeptFactKey.{KeptFactKey}
 use Rattle.krates_selection.proofs.KeptKeyOrder.{key_tells}
 use Rattle.krates_selection.proofs.PickedSteps.{pushed_at}
@@ -16,7 +15,7 @@ use Rattle.krates_selection.specs.PartOfSteps.{SameFact}
 
 -- ---- the map, filled place by place
 
--- the fact stands at the place, and at no later one below this
+-- the fact is at the place, and at no later one below this
 pub record IsLastBelow (all : List KeptModel) (x : KeptModel) (i n : ℕ) : Type 0 where
   pub low : n < i
   pub at : slice_get all n ≡ Some x
@@ -109,11 +108,11 @@ pub record AreNumbersBelow (all : List KeptModel) (i : ℕ) (numbers : List ℕ)
   pub low : (k n : ℕ) → slice_get numbers k ≡ Some n → n ≤ k
   pub same : (j k : ℕ) (f g : KeptModel) → j < i → k < i → slice_get all j ≡ Some f → slice_get all k ≡ Some g → SameFact numbers j k ↔ (f ≡ g)
 
--- the number of a fact that stood at an earlier place is the one there, and that of another its own place
+-- the number of a fact that was at an earlier place is the one there, and that of another its own place
 abbrev pub IsNumberFor : List ℕ → ℕ → Option ℕ → ℕ → Type 0
 IsNumberFor numbers i earlier n = MatchOption earlier (n ≡ i) (λ at. slice_get numbers at ≡ Some n)
 
--- a fact that stood before has a number
+-- a fact that was there before has a number
 pub number_there : (all : List KeptModel) (x : KeptModel) (i : ℕ) (o : Option ℕ) (numbers : List ℕ) → length numbers ≡ i → IsPlaceBelow all x i o → IfSome o (λ at. at < length numbers)
 number_there all x i None numbers long h = tt
 number_there all x i (Some n) numbers long h = omega (arith, long, h.low)

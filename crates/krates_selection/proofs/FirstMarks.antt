@@ -5,10 +5,8 @@ use Rattle.std.proofs.lemmas.Bool.{cases_eq, cases_lt}
 use Rattle.std.proofs.lemmas.Option.{slice_get_within, get_or_from_slice_get, same_Some}
 use Rattle.std.specs.List.{slice_get}
 use Rattle.krates_rules.specs.declared.uses.Uses.{Uses}
-use Rattle.krates_selection.specs.Choosing.{HasChosen, IsMarked, IsChoice, IsMade}
-use Rattle.krates_selection.specs.First.{AreFirst, AreFirstBelow, HasMarked}
-use Rattle.krates_selection.specs.PartOfSteps.{AreBackward, HaveOwnNumbers, IsChosenFor, SameFact}
-use Rattle.krates_selection.specs.declared.choosing.MarkedSteps.{MarkedSteps}
+use Rattle.krates_selection.specs.PartOfSteps.{HasChosen, IsMarked, IsChoice, IsMade, AreFirst, AreFirstBelow, HasMarked, AreBackward, HaveOwnNumbers, IsChosenFor, SameFact}
+use Rattle.krates_selection.specs.declared.part_of_steps.MarkedSteps.{MarkedSteps}
 use Rattle.krates_selection.proofs.Marks.{none_marked}
 use Rattle.krates_selection.proofs.Places.{end_of, grown, last_of, set_here, set_there}
 use Rattle.krates_selection.proofs.NeededParts.{one_place}

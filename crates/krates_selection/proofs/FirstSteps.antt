@@ -5,10 +5,7 @@ use Rattle.std.proofs.lemmas.Option.{get_or_from_slice_get, slice_get-map, slice
 use Rattle.std.specs.List.{AllZip, slice_get}
 use Rattle.std.specs.List.Sorted.{IsStrictlySortedBy}
 use Rattle.krates_rules.proofs.DistinctIds.{OrderTellsSame}
-use Rattle.krates_selection.specs.Chosen.{AreChosen, IsChosenIn}
-use Rattle.krates_selection.specs.Explanation.{AreBelow, uses_in}
-use Rattle.krates_selection.specs.KeptFacts.{Enables, IsBelow, KeepsCrate, KeepsEdge, KeptModel, Toggles, fact_in, facts_in, step_in, steps_in}
-use Rattle.krates_selection.specs.Keys.{AreFactNumbers, home, key_view}
+use Rattle.krates_selection.specs.KeptFacts.{AreChosen, IsChosenIn, AreBelow, uses_in, Enables, IsBelow, KeepsCrate, KeepsEdge, KeptModel, Toggles, fact_in, facts_in, step_in, steps_in, AreFactNumbers, home, key_view}
 use Rattle.krates_selection.specs.KeptTables.{AreKeptFacts, AreStepsOf, IsKeptIn, IsKeyOf, document_in, kids_in, numbered_facts}
 use Rattle.krates_selection.specs.declared.kept.KeptStep.{KeptStep}
 use Rattle.krates_selection.specs.declared.key.KeptFactKey.{KeptFactKey}
@@ -34,8 +31,7 @@ use Rattle.krates_rules.specs.Setting.{SettingModel}
 use Rattle.krates_rules.specs.Steps.{EachFollows, IsEarlier, StepModel}
 use Rattle.krates_rules.specs.Uses.{numbers_used}
 use Rattle.krates_rules.specs.declared.uses.Uses.{Uses}
-use Rattle.krates_selection.specs.PartOfSteps.{AreBackward, HaveOwnNumbers, IsChosenFor, IsPartBy, SameFact}
-use Rattle.krates_selection.specs.Picked.{ArePicked, FirstsFollow, FirstsHaveOwnFacts, HaveTheseFacts, IsPicked, UseThese}
+use Rattle.krates_selection.specs.PartOfSteps.{AreBackward, HaveOwnNumbers, IsChosenFor, IsPartBy, SameFact, ArePicked, FirstsFollow, FirstsHaveOwnFacts, HaveTheseFacts, IsPicked, UseThese}
 
 abbrev pub uses_of : List NumberedStep → List Uses
 uses_of steps = map (λ (x : NumberedStep). x.reason.uses) steps

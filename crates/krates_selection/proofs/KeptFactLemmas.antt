@@ -4,7 +4,7 @@ use Rattle.std.specs.List.Sorted.{IsStrictlySortedBy}
 use Rattle.krates_cm.specs.Document.{NodeModel}
 use Rattle.krates_rules.proofs.DistinctIds.{OrderTellsSame}
 use Rattle.krates_selection.specs.KeptFacts.{KeptModel, KeepsCrate, KeepsEdge, Enables, Toggles, IsBelow, edge_in, fact_in}
-use Rattle.krates_selection.specs.CrateNumbers.{id_at}
+use Rattle.krates_selection.specs.Selection.{id_at}
 use Rattle.krates_selection.proofs.CrateNumbers.{one_number}
 use Rattle.krates_selection.proofs.KeptEnds.{child_kept, crate_of_feature, parent_kept, toggled_kept}
 use Rattle.krates_selection.specs.KeptTables.{HasKeptCrates, IsKeptIn}

@@ -3,7 +3,7 @@ use Rattle.std.proofs.Common.{◌≡◌, ◌↔◌, ℕ, Equal, refl, subst}
 use Rattle.std.proofs.lemmas.Cmp.{tied_itself, nat_cmp_total}
 use Rattle.std.proofs.lemmas.Map.Lookups.{exact_unsigned}
 use Rattle.std.specs.Ordering.{nat_cmp}
-use Rattle.krates_selection.specs.Keys.{key_cmp, key_view}
+use Rattle.krates_selection.specs.KeptFacts.{key_cmp, key_view}
 use Rattle.krates_selection.specs.declared.key.KeptFactKey.{KeptFactKey}
 use Rattle.krates_selection.specs.declared.key.KeptFactKey.TheVariants as keys
 use Rattle.krates_selection.specs.declared.key.FeatureKey.{FeatureKey}

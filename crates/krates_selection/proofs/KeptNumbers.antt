@@ -1,11 +1,11 @@
--- The numbers of kept crates, and what stands at the places of a document.
+-- The numbers of kept crates, and what is at the places of a document.
 use Rattle.std.proofs.Common.{◌≡◌, ℕ, ◌<◌, List, length, map, Option, Some, None, IfSome, option_map, refl, sym, ap, ◌∙◌, subst, arith}
 use Rattle.std.proofs.lemmas.List.{length-map}
 use Rattle.std.proofs.lemmas.Option.{slice_get-map, slice_get_within, get_or_from_slice_get, same_Some}
 use Rattle.std.specs.List.{slice_get}
 use Rattle.std.specs.Option.{IsSome}
 use Rattle.krates_cm.specs.Document.{NodeModel, NodeDepModel}
-use Rattle.krates_selection.specs.CrateNumbers.{id_at, no_id}
+use Rattle.krates_selection.specs.Selection.{id_at, no_id}
 use Rattle.krates_selection.specs.KeptTables.{IsChildAt, IsKeptChild, IsKeptIn, IsKeptNode, IsNumberAt, document_in, kids_in}
 use Rattle.krates_selection.specs.declared.kept_tables.KeptTables.{KeptTables}
 use Rattle.krates_selection.proofs.FactPlaces.{zip_long}
@@ -53,9 +53,9 @@ number_within t i (Some m) n =
     let long = zip_long (IsNumberOf (map id_of t.krates.now)) (map id_of ids) t.numbers.now t.numbered in
     omega (arith, slice_get_within (map id_of ids) m i n, length-map ids id_of, long)
 
--- ---- what stands at a place
+-- ---- what is at a place
 
--- the number of the crate whose node stands at the place, in a table of them
+-- the number of the crate whose node is at the place, in a table of them
 pub record HasNumberAt (t : KeptTables) (place : ℕ) (answer : Option ℕ) : Type 0 where
   pub number : ℕ
   pub answered : answer ≡ Some number

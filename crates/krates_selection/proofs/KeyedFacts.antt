@@ -5,16 +5,15 @@ use Rattle.std.specs.List.{slice_get}
 use Rattle.krates_cm.specs.Document.{Text}
 use Rattle.krates_cm.specs.declared.dependency.DependencyKind.{DependencyKind}
 use Rattle.krates_selection.specs.KeptFacts.{edge_in}
-use Rattle.krates_selection.specs.CrateNumbers.{id_at}
+use Rattle.krates_selection.specs.Selection.{id_at}
 use Rattle.krates_selection.specs.KeptTables.{IsEdgeIn, IsFeatureIn, IsKeyOf, IsNumberAt, document_in, kids_in}
 use Rattle.krates_selection.specs.declared.key.KeptEdgeKey.{KeptEdgeKey}
 use Rattle.krates_selection.specs.declared.key.KeptFactKey.TheVariants as keys
 use Rattle.krates_selection.specs.declared.key.FeatureKey.{FeatureKey}
 use Rattle.krates_selection.specs.declared.kept_tables.KeptTables.{KeptTables}
 use Rattle.krates_ids.specs.Identity.{Identity}
-use Rattle.krates_questions.specs.ListedFeatures.{listed_features}
-use Rattle.krates_questions.specs.Numbering.{FeatureAt}
-use Rattle.krates_questions.specs.declared.node_place.NodePlace.{NodePlace}
+use Rattle.krates_questions.specs.FeatureTable.{listed_features, FeatureAt}
+use Rattle.krates_questions.specs.declared.lookup.NodePlace.{NodePlace}
 use Rattle.krates_selection.specs.declared.trace.NumberedFact.TheVariants as numbered
 use Rattle.krates_rules.specs.Facts.{Id, Edge, Crate, Feature, Kept, Toggled}
 use Rattle.krates_rules.specs.Resolved.{NodeAt}

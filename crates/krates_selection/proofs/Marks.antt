@@ -1,16 +1,13 @@
 -- Marks at places of a list.
-use Rattle.std.proofs.Common.{◌≡◌, ◌↔◌, ◌⊎◌, inl, inr, ℕ, zero, suc, ◌+◌, ◌<◌, ◌≤◌, List, [], ◌∷◌, Bool, true, false, Option, Some, None, Contains, length, replicate, arith, refl, sym, ap, ◌∙◌, subst}
+use Rattle.std.proofs.Common.{◌≡◌, ◌↔◌, ◌⊎◌, inl, inr, ℕ, zero, suc, ◌+◌, ◌<◌, ◌≤◌, List, [], ◌∷◌, Bool, true, false, Option, Some, Contains, length, replicate, arith, refl, sym, ap, ◌∙◌, subst}
 use Rattle.std.proofs.Math.ListN.{set}
 use Rattle.std.proofs.lemmas.Bool.{cases_lt}
-use Rattle.std.proofs.lemmas.List.{length-replicate}
 use Rattle.std.proofs.lemmas.List.Elements.{Contains-append_left, Contains-append_right, Contains-append_cases}
 use Rattle.std.proofs.lemmas.Option.{same_Some}
 use Rattle.std.specs.List.{slice_get}
 use Rattle.krates_rules.specs.Uses.{number_in, numbers_used}
 use Rattle.krates_rules.specs.declared.uses.Uses.{Uses}
-use Rattle.krates_selection.specs.Choosing.{IsMarked}
-use Rattle.krates_selection.specs.Needed.{HasMarkedUser, IsAloneMarked, AreMarkedFrom}
-use Rattle.krates_selection.specs.PartOfSteps.{AreBackward}
+use Rattle.krates_selection.specs.PartOfSteps.{IsMarked, HasMarkedUser, IsAloneMarked, AreMarkedFrom, AreBackward}
 
 pub marked_set : (xs : List Bool) (i : ℕ) → i < length xs → (k : ℕ) → IsMarked (set xs i true) k ↔ (IsMarked xs k ⊎ (k ≡ i))
 marked_set [] i lt k = absurd (omega (arith, lt))
@@ -28,11 +25,6 @@ none_marked zero k m = absurd cc
 none_marked (suc n) zero m = absurd cc
 none_marked (suc n) (suc k) m = none_marked n k m
 
-pub alone_marked : (n last : ℕ) → last < n → IsAloneMarked last (set (replicate n false) last true)
-alone_marked n last lt k =
-    let w = marked_set (replicate n false) last (omega (arith, lt, length-replicate n false)) k in
-    (λ m. elim (w.0 m) [ inl h ↦ absurd (none_marked n k h) | inr e ↦ e ], λ e. w.1 (inr e))
-
 -- ---- what a step uses
 
 only_one : (u k : ℕ) → Contains (u ∷ []) k → k ≡ u
@@ -48,12 +40,6 @@ one_marked old new used number is lt made k =
       λ m. elim (w.0 m) [ inl h ↦ inl h | inr e ↦ inr (subst (λ j. Contains (number ∷ []) j) (sym e) (0, omega arith, refl)) ],
       λ h. elim h [ inl m ↦ w.1 (inl m) | inr c ↦ w.1 (inr (only_one number k c)) ],
     ))
-
--- no step is used
-pub nothing_marked : (marks : List Bool) (used : Option ℕ) → used ≡ None → (k : ℕ) → IsMarked marks k ↔ (IsMarked marks k ⊎ Contains (number_in used) k)
-nothing_marked marks used is k =
-    subst (λ (o : Option ℕ). IsMarked marks k ↔ (IsMarked marks k ⊎ Contains (number_in o) k)) (sym is)
-    (λ m. inl m, λ h. elim h [ inl m ↦ m | inr c ↦ absurd (omega (arith, c.1)) ])
 
 pub both_marked : (old mid new : List Bool) (uses : Uses) → ((k : ℕ) → IsMarked mid k ↔ (IsMarked old k ⊎ Contains (number_in uses.first) k)) → ((k : ℕ) → IsMarked new k ↔ (IsMarked mid k ⊎ Contains (number_in uses.second) k))
     → (k : ℕ) → IsMarked new k ↔ (IsMarked old k ⊎ Contains (numbers_used uses) k)

@@ -1,4 +1,4 @@
--- The part of a list that one step stands on.
+-- The part of a list on which one step depends.
 use Rattle.std.proofs.Common.{◌≡◌, inl, inr, ℕ, zero, suc, ◌+◌, ◌<◌, ◌≤◌, List, [], ◌∷◌, ◌++◌, Some, Contains, length, get_or, length-append, arith, refl, sym, ap, ◌∙◌, subst}
 use Rattle.std.proofs.lemmas.Bool.{cases_lt, cases_order}
 use Rattle.std.proofs.lemmas.Option.{slice_get_within, slice_get-get_or, same_Some}
@@ -6,10 +6,8 @@ use Rattle.std.specs.List.{AllZip, slice_get}
 use Rattle.krates_rules.specs.StepParts.{Increase}
 use Rattle.krates_rules.specs.Uses.{numbers_used}
 use Rattle.krates_rules.specs.declared.uses.Uses.{Uses}
-use Rattle.krates_selection.specs.Choosing.{IsMarked, IsChoice, IsMade}
-use Rattle.krates_selection.specs.Needed.{AreNeeded, AreOwnNumbers}
-use Rattle.krates_selection.specs.PartOfSteps.{AreBackward, AreUsedBehind, EndsAt, IsChosenStep, IsNewNumber, IsPartBy, IsUsedBehind, SameFact, SameNumber}
-use Rattle.krates_selection.specs.declared.choosing.MarkedSteps.{MarkedSteps}
+use Rattle.krates_selection.specs.PartOfSteps.{IsMarked, IsChoice, IsMade, AreNeeded, AreOwnNumbers, AreBackward, AreUsedBehind, EndsAt, IsChosenStep, IsNewNumber, IsPartBy, IsUsedBehind, SameFact, SameNumber}
+use Rattle.krates_selection.specs.declared.part_of_steps.MarkedSteps.{MarkedSteps}
 use Rattle.krates_selection.proofs.Places.{end_of, grown}
 
 -- ---- own numbers
@@ -101,7 +99,7 @@ one_place chosen up j k a one other = elim (cases_order j k) [
   | inr r ↦ elim r [ inl low ↦ absurd (omega (arith, up j k a a one other low)) | inr high ↦ absurd (omega (arith, up k j a a other one high)) ]
 ]
 
--- of two chosen steps the earlier one stands first
+-- of two chosen steps the earlier one comes first
 before_by : (chosen : List ℕ) → Increase chosen → (j k a b : ℕ) → slice_get chosen j ≡ Some a → slice_get chosen k ≡ Some b → a < b → j < k
 before_by chosen up j k a b one other lt = elim (cases_order j k) [
   | inl e ↦ absurd (omega (arith, lt, same_Some a b (sym one ∙ ap (λ i. slice_get chosen i) e ∙ other)))

@@ -7,8 +7,7 @@ use Rattle.krates_rules.specs.StepParts.{HaveOwnFacts, IsPart, IsRenumbered, IsU
 use Rattle.krates_rules.specs.Steps.{EndsIn, StepModel}
 use Rattle.krates_rules.specs.Uses.{numbers_used}
 use Rattle.krates_rules.specs.declared.uses.Uses.{Uses}
-use Rattle.krates_selection.specs.PartOfSteps.{AreUsedBehind, EndsAt, HaveOwnNumbers, IsNewNumber, IsPartBy, SameFact, SameNumber}
-use Rattle.krates_selection.specs.Picked.{ArePicked, HaveTheseFacts, UseThese}
+use Rattle.krates_selection.specs.PartOfSteps.{AreUsedBehind, EndsAt, HaveOwnNumbers, IsNewNumber, IsPartBy, SameFact, SameNumber, ArePicked, HaveTheseFacts, UseThese}
 use Rattle.krates_selection.proofs.NeededParts.{one_place}
 
 -- steps that are the same by number have the same fact

@@ -5,17 +5,14 @@ use Rattle.std.proofs.lemmas.Option.{slice_get-map, slice_get_read, slice_get-ge
 use Rattle.std.specs.List.{slice_get}
 use Rattle.krates_rules.specs.StepViews.{fact_view, step_view, steps_view}
 use Rattle.krates_rules.specs.declared.derivation.Step.{Step}
-use Rattle.krates_selection.specs.Chosen.{AreChosen, IsChosenIn}
-use Rattle.krates_selection.specs.Explanation.{explained_steps, kids_of}
-use Rattle.krates_selection.specs.KeptFacts.{fact_in, kept_view, step_in}
-use Rattle.krates_selection.specs.Keys.{key_view}
+use Rattle.krates_selection.specs.KeptFacts.{AreChosen, IsChosenIn, explained_steps, kids_of, fact_in, kept_view, step_in, key_view}
 use Rattle.krates_selection.specs.declared.kept.Explanation.{Explanation}
 use Rattle.krates_selection.specs.declared.kept.KeptStep.{KeptStep}
 use Rattle.krates_selection.specs.declared.key.KeptFactKey.{KeptFactKey}
 use Rattle.krates_selection.specs.declared.trace.NumberedStep.{NumberedStep}
 use Rattle.krates_rules.specs.Uses.{numbers_used}
 use Rattle.krates_rules.specs.declared.uses.Uses.{Uses}
-use Rattle.krates_selection.specs.Picked.{ArePicked, IsPicked}
+use Rattle.krates_selection.specs.PartOfSteps.{ArePicked, IsPicked}
 
 pub pushed_at : {A : Type 0} (xs : List A) (y : A) (k : ℕ) (x : A) → slice_get (xs ++ y ∷ []) k ≡ Some x → (slice_get xs k ≡ Some x) ⊎ ((k ≡ length xs) × (x ≡ y))
 pushed_at [] y zero x at = inr (refl, sym (same_Some y x at))

@@ -1,4 +1,4 @@
--- What stands at a place of a list that grows, or in which one place is overwritten.
+-- What is at a place of a list that grows, or in which one place is overwritten.
 use Rattle.std.proofs.Common.{◌≡◌, ◌≢◌, ◌⊎◌, inl, inr, ℕ, zero, suc, ◌<◌, List, [], ◌∷◌, ◌++◌, Some, length, arith, refl, sym, ap}
 use Rattle.std.proofs.Math.ListN.{set}
 use Rattle.std.proofs.lemmas.Option.{same_Some}

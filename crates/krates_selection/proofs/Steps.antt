@@ -4,13 +4,13 @@ use Rattle.std.proofs.lemmas.Option.{same_Some, slice_get_within}
 use Rattle.std.specs.List.{AllZip, slice_get}
 use Rattle.krates_cm.specs.Document.{DepKindInfoModel, NodeDepModel, NodeModel, Text}
 use Rattle.krates_questions.proofs.Lookups.{one_id}
-use Rattle.krates_questions.specs.Numbering.{FeatureAt}
+use Rattle.krates_questions.specs.FeatureTable.{FeatureAt}
 use Rattle.krates_selection.specs.Trace.{EdgeAt, HasStep, IsShown, IsTrace, MayFind, Names}
 use Rattle.krates_selection.specs.declared.trace.NumberedFact.{NumberedFact}
 use Rattle.krates_selection.specs.declared.trace.NumberedFact.TheVariants as numbered
 use Rattle.krates_selection.specs.declared.trace.NumberedStep.{NumberedStep}
 use Rattle.krates_selection.specs.declared.trace.Reason.{Reason}
-use Rattle.krates_rules.proofs.ListsOfSteps.{contained_derived, given_derivable, step_put}
+use Rattle.krates_rules.proofs.ListsOfSteps.{contained_derived, step_put}
 use Rattle.krates_rules.proofs.Readings.{ReadsOnce, right_of}
 use Rattle.krates_rules.proofs.Standings.{contains_at}
 use Rattle.krates_rules.specs.Derivation.{Derivable}
@@ -23,13 +23,13 @@ use Rattle.krates_rules.specs.Uses.{numbers_used}
 
 -- ---- lists with one more element
 
--- what stands at a place stays there
+-- what is at a place stays there
 pub stays_at : {A : Type 0} (xs : List A) (y : A) (k : ℕ) (x : A) → slice_get xs k ≡ Some x → slice_get (xs ++ y ∷ []) k ≡ Some x
 stays_at [] y k x h = absurd cc
 stays_at (z ∷ xs) y zero x h = h
 stays_at (z ∷ xs) y (suc k) x h = stays_at xs y k x h
 
--- the last element stands after the others
+-- the last element comes after the others
 pub last_at : {A : Type 0} (xs : List A) (y : A) → slice_get (xs ++ y ∷ []) (length xs) ≡ Some y
 last_at [] y = refl
 last_at (z ∷ xs) y = last_at xs y
@@ -101,7 +101,7 @@ finds_more r s old new reason f stay h = record { premises = h.premises; uses = 
 
 -- ---- what follows
 
--- a step that is used stands earlier in the derivation
+-- a step that is used comes earlier in the derivation
 earlier : ReadsOnce → (r : Resolved) (trace : List NumberedStep) (steps : List StepModel) → AllZip (IsShown r) trace steps → (n : ℕ) (f : Fact) → HasStep r trace n f → IsEarlier steps (length steps) n f
 earlier once r trace steps shown n f h =
     let x = right_of (IsShown r) trace steps n h.step shown h.at in
@@ -113,10 +113,6 @@ given once r s trace reason f t h = record {
   uses = zip_weaker (HasStep r trace) (IsEarlier t.steps (length t.steps)) (numbers_used reason.uses) h.premises (earlier once r trace t.steps t.shown) h.uses;
   rule = h.rule;
 }
-
--- what follows is derivable
-pub found_derivable : ReadsOnce → (r : Resolved) (s : SettingModel) (trace : List NumberedStep) (reason : Reason) (f : Fact) → IsTrace r s trace → MayFind r s trace reason f → Derivable (questions r s) f
-found_derivable once r s trace reason f t h = given_derivable (questions r s) t.steps reason.rule (numbers_used reason.uses) f t.follows (given once r s trace reason f t h)
 
 -- and so is the fact of each step
 pub step_derivable : ReadsOnce → (r : Resolved) (s : SettingModel) (trace : List NumberedStep) (n : ℕ) (f : Fact) → IsTrace r s trace → HasStep r trace n f → Derivable (questions r s) f

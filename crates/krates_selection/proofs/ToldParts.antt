@@ -4,16 +4,14 @@ use Rattle.std.proofs.lemmas.List.{map-append, take_more}
 use Rattle.std.proofs.lemmas.Option.{slice_get-get_or, slice_get_within, get_or_from_slice_get}
 use Rattle.krates_rules.specs.StepViews.{fact_view, facts_view}
 use Rattle.krates_rules.specs.declared.derivation.Fact.{Fact as ToldFact}
-use Rattle.krates_selection.specs.Explanation.{uses_in}
-use Rattle.krates_selection.specs.KeptFacts.{fact_in, facts_in, kept_view, step_in, steps_in}
+use Rattle.krates_selection.specs.KeptFacts.{uses_in, fact_in, facts_in, kept_view, step_in, steps_in}
 use Rattle.krates_selection.specs.declared.kept.KeptStep.{KeptStep}
 use Rattle.krates_ids.specs.Identity.{Identity}
 use Rattle.krates_rules.specs.Facts.{Fact}
 use Rattle.krates_rules.specs.Steps.{StepModel}
 use Rattle.krates_rules.specs.Uses.{numbers_used}
 use Rattle.krates_rules.specs.declared.uses.Uses.{Uses}
-use Rattle.krates_selection.specs.PartOfSteps.{IsPartBy}
-use Rattle.krates_selection.specs.Picked.{UseThese}
+use Rattle.krates_selection.specs.PartOfSteps.{IsPartBy, UseThese}
 
 -- the steps use what their numbers stand for
 pub use_these : (kids : List Identity) (steps : List KeptStep) → UseThese (steps_in kids steps) (uses_in steps)

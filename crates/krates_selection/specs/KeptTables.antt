@@ -1,9 +1,7 @@
 -- Numbered facts by the numbers of the kept crates.
 use Rattle.std.specs.Prelude.{◌≡◌, ℕ, ◌<◌, List, All, Contains, length, map}
 use Rattle.krates_cm.specs.Document.{NodeModel, Text}
-use Rattle.krates_selection.specs.Explanation.{AreBelow, uses_in}
-use Rattle.krates_selection.specs.KeptFacts.{IsBelow, fact_in, facts_in, steps_in}
-use Rattle.krates_selection.specs.Keys.{edge_view, key_view}
+use Rattle.krates_selection.specs.KeptFacts.{AreBelow, uses_in, IsBelow, fact_in, facts_in, steps_in, edge_view, key_view}
 use Rattle.krates_selection.specs.declared.key.KeptEdgeKey.{KeptEdgeKey}
 use Rattle.krates_selection.specs.declared.key.KeptFactKey.{KeptFactKey}
 use Rattle.krates_selection.specs.declared.key.FeatureKey.{FeatureKey}
@@ -11,8 +9,8 @@ use Rattle.krates_selection.specs.declared.kept_tables.KeptTables.{KeptTables}
 use Rattle.krates_selection.specs.declared.kept.KeptStep.{KeptStep}
 use Rattle.krates_ids.specs.Identity.{Identity}
 use Rattle.krates_questions.specs.Context.{document_of}
-use Rattle.krates_questions.specs.Numbering.{FeatureAt}
-use Rattle.krates_selection.specs.CrateNumbers.{id_at}
+use Rattle.krates_questions.specs.FeatureTable.{FeatureAt}
+use Rattle.krates_selection.specs.Selection.{id_at}
 use Rattle.krates_selection.specs.Trace.{EdgeAt, HasSomeStep, Names}
 use Rattle.krates_selection.specs.declared.trace.NumberedFact.{NumberedFact}
 use Rattle.krates_selection.specs.declared.trace.NumberedStep.{NumberedStep}
@@ -48,7 +46,7 @@ HasKeptCrates r kids (Kept e) = IsKeptIn kids e.parent × IsKeptWithNode r kids 
 HasKeptCrates r kids (Toggled by i f) = IsKeptIn kids by × IsKeptIn kids i
 HasKeptCrates r kids (Lost c) = ⊥
 
--- the node of a kept crate stands at the place
+-- the node of a kept crate is at the place
 pub record IsKeptNode (t : KeptTables) (place : ℕ) : Type 0 where
   pub krate : Id
   pub node : NodeAt (document_in t) krate place
@@ -117,7 +115,7 @@ numbered_facts steps = map (λ (x : NumberedStep). x.fact) steps
 
 -- ---- the kept steps
 
--- The kept steps follow, each from earlier ones, no fact stands twice among them, each fact that has a step has one among them, and its crates are numbered.
+-- The kept steps follow, each from earlier ones, no fact occurs twice among them, each fact that has a step has one among them, and its crates are numbered.
 pub record AreStepsOf (r : Resolved) (s : SettingModel) (kids : List Identity) (trace : List NumberedStep) (steps : List KeptStep) : Type 0 where
   pub below : AreBelow (length kids) steps
   pub backward : AreBackward (uses_in steps)

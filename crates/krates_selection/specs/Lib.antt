@@ -1,16 +1,5 @@
-pub mod Choosing
-pub mod Chosen
-pub mod CrateNumbers
-pub mod Explained
-pub mod Explanation
-pub mod First
 pub mod KeptFacts
 pub mod KeptTables
-pub mod Keys
-pub mod Needed
 pub mod PartOfSteps
-pub mod Picked
 pub mod Selection
-pub mod SelectionOrder
 pub mod Trace
-pub mod Work

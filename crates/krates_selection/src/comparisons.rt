@@ -1,7 +1,7 @@
 //! Laws of the comparisons of what a selection has, each the contract of a function that does nothing.
 ghost use Rattle.std.specs.Prelude.{◌≡◌, ◌↔◌, Some, true};
 ghost use Rattle.krates_cm.specs.Document.{text_view};
-ghost use Rattle.krates_selection.specs.SelectionOrder.{feature_cmp, place_cmp, toggled_cmp};
+ghost use Rattle.krates_selection.specs.Selection.{feature_cmp, place_cmp, toggled_cmp};
 
 use crate::selection::{EnabledFeature, KeptEdge, ToggledFeature};
 use crate::work::Work;

@@ -1,19 +1,17 @@
 //! The steps of a selection, by the numbers of the kept crates, each fact once.
 
 ghost use Rattle.std.specs.Prelude.{◌≡◌, ◌<◌, All, IfOk, length, map};
-ghost use Rattle.krates_selection.specs.Chosen.{AreChosen};
+ghost use Rattle.krates_selection.specs.KeptFacts.{AreChosen};
 ghost use Rattle.krates_selection.specs.KeptTables.{AreStepsOf, IsKeptIn, kids_in};
 ghost use Rattle.krates_questions.specs.Context.{Derives, document_of};
 ghost use Rattle.krates_selection.specs.Trace.{IsTrace};
 ghost use Rattle.krates_rules.specs.Facts.{Crate, Id};
 
-use crate::firsts::first_steps;
 use crate::kept::KeptStep;
 use crate::kept_tables::KeptTables;
-use crate::key::{KeptFactKey, fact_of};
+use crate::key::{KeptFactKey, fact_numbers, fact_of};
 use crate::laws as step_laws;
-use crate::numbering::fact_numbers;
-use crate::part_of_steps::PartOfSteps;
+use crate::part_of_steps::{PartOfSteps, first_steps};
 use crate::trace::NumberedStep;
 use krates_ids::laws;
 use krates_rules::Uses;

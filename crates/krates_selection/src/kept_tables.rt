@@ -94,7 +94,7 @@ impl<'a, 's> KeptTables<'a, 's> {
         }
     }
 
-    /// The number of the kept crate whose node stands at a place. Time O(1).
+    /// The number of the kept crate whose node is at a place. Time O(1).
     pub fn crate_at(&self, place: NodePlace) -> usize
         requires kept { IsKeptNode self.now place.index }
         ensures { IsNumberAt self.now place.index result }

@@ -1,28 +1,21 @@
-//! What a search found of a document under a setting, the steps by which, and the derivations told from them.
+//! What a search found of a document under a setting, the steps by which it did, and the derivations made from them.
 //!
 //! What a search found is a selection: what is kept, in which order, and how much work it was, with a step for each fact. The crate that resolves
 //! makes it; what is drawn or asked of a graph needs no more than what is said here.
 //!
-//! A build keeps the steps: each fact once, by the numbers of the kept crates. Of these the derivation of one fact is told, with ids.
-//! Parts of lists of steps are told by number alone: those on which one step stands, and the first step of each fact. What a step says is
+//! A build keeps the steps: each fact once, by the numbers of the kept crates. From these the derivation of one fact is made, with ids.
+//! Parts of lists of steps are made by number alone: those on which one step depends, and the first step of each fact. What a step says is
 //! another's concern: a part of a list of steps that follow follows too, whatever they say.
 #![tactic(auto)]
 
-mod choosing;
 pub mod comparisons;
-mod derivation;
 mod explaining;
-mod firsts;
 pub mod kept;
 pub mod kept_tables;
 mod key;
 mod laws;
-mod marking;
-mod numbering;
 mod part_of_steps;
 pub mod selection;
-mod shortening;
-mod telling;
 pub mod trace;
 pub mod work;
 

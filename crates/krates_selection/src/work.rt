@@ -1,8 +1,7 @@
 //! How much work a selection was.
 
 ghost use Rattle.std.specs.Prelude.{◌≡◌, ◌+◌};
-ghost use Rattle.krates_selection.specs.Work.{IsFresh};
-ghost use Rattle.krates_selection.specs.Work.{counted};
+ghost use Rattle.krates_selection.specs.Selection.{IsFresh, counted};
 
 /// How much work a selection was: how many crates and features were taken, each once, and how many references these features have.
 ///

@@ -1,8 +1,7 @@
 //! All that is kept, as facts.
 
 ghost use Rattle.std.specs.Prelude.{◌≡◌, All, IfOk};
-ghost use Rattle.krates_selection.specs.Explanation.{HasTheseIds};
-ghost use Rattle.krates_selection.specs.KeptFacts.{facts_in};
+ghost use Rattle.krates_selection.specs.KeptFacts.{HasTheseIds, facts_in};
 ghost use Rattle.krates_rules.specs.StepParts.{HaveOwnFacts};
 ghost use Rattle.krates_queries.specs.KeptSteps.{steps_of};
 ghost use Rattle.krates_queries.specs.Kept.{ids_of};

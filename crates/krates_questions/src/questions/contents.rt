@@ -2,10 +2,8 @@
 
 ghost use Rattle.std.specs.Prelude.{◌≡◌, ◌<◌, Some, length, option_map, slice_get};
 ghost use Rattle.krates_cm.specs.Document.{node_view, package_view};
-ghost use Rattle.krates_questions.specs.Lookup.{IsPackageOf, resolved_view};
-ghost use Rattle.krates_questions.specs.Contents.{IsNodeOf};
-ghost use Rattle.krates_questions.specs.FeatureTable.{listed_view};
-ghost use Rattle.krates_questions.specs.ListedFeatures.{listed_features};
+ghost use Rattle.krates_questions.specs.Lookup.{IsPackageOf, resolved_view, IsNodeOf};
+ghost use Rattle.krates_questions.specs.FeatureTable.{listed_view, listed_features};
 ghost use Rattle.krates_rules.specs.Resolved.{id_of};
 
 use crate::feature_table::ListedFeature;

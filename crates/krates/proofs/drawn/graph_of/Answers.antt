@@ -4,8 +4,7 @@ use Rattle.krates_drawing.specs.Drawing.{planned_edges, planned_nodes}
 use Rattle.krates_drawing.specs.Views.{planned_edge_view, kids_in, outline_view}
 use Rattle.krates_drawing.specs.declared.edge.PlannedEdge.{PlannedEdge}
 use Rattle.krates_drawing.specs.declared.outline.FeatureRow.{FeatureRow}
-use Rattle.krates_selection.specs.CrateNumbers.{HasHome}
-use Rattle.krates_selection.specs.Selection.{feature_fact}
+use Rattle.krates_selection.specs.Selection.{HasHome, feature_fact}
 use Rattle.krates_selection.specs.declared.selection.EnabledFeature.{EnabledFeature}
 use Rattle.krates_queries.specs.Drawn.{planned_node}
 use Rattle.krates_drawing.specs.Krate.{krate_ids}

@@ -9,7 +9,7 @@ use Rattle.std.specs.Prelude.{String}
 use Rattle.std.specs.declared.alloc.Global.{Global}
 use mathlib.Core.List.{map-id}
 use Rattle.krates_rules.proofs.Members.{Member, contains_of}
-use Rattle.krates_selection.specs.CrateNumbers.{HasHome}
+use Rattle.krates_selection.specs.Selection.{HasHome}
 use Rattle.krates_selection.specs.declared.selection.EnabledFeature.{EnabledFeature}
 use Rattle.krates.specs.Enabled.{AreEnabledSets, IsPut}
 use Rattle.krates.proofs.EnabledLemmas.{none_enabled, one_more_enabled, taken_item}

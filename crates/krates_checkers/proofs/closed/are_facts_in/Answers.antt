@@ -1,8 +1,7 @@
 use Rattle.std.proofs.Common.{refl}
-use Rattle.krates_derive.specs.Giving.{FactIn}
+use Rattle.krates_derive.specs.Giving.{FactIn, document_in, facts_in, setting_in}
 use Rattle.krates_rules.specs.StepViews.{fact_view}
 use Rattle.krates_rules.specs.declared.derivation.Fact.{Fact as ToldFact}
-use Rattle.krates_derive.specs.ClosureCheck.{document_in, facts_in, setting_in}
 use Rattle.krates_rules.specs.Facts.{Fact}
 use Rattle.krates_rules.proofs.Elements.{contains_read}
 use Rattle.krates_rules.proofs.Seen.{seen_more, each_seen}

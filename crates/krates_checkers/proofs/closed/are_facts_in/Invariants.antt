@@ -1,7 +1,6 @@
-use Rattle.krates_derive.specs.Giving.{FactIn}
+use Rattle.krates_derive.specs.Giving.{FactIn, document_in, facts_in, setting_in}
 use Rattle.krates_rules.specs.StepViews.{fact_view}
 use Rattle.krates_rules.proofs.Seen.{SeenBelow}
-use Rattle.krates_derive.specs.ClosureCheck.{document_in, facts_in, setting_in}
 use Rattle.krates_checkers.proofs.closed.are_facts_in.Given as goal
 
 -- it holds of the facts so far

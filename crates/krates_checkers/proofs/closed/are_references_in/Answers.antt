@@ -1,8 +1,7 @@
 use Rattle.std.proofs.Common.{String, refl, sym, subst}
 use Rattle.std.specs.Global.{Global}
 use Rattle.krates_cm.specs.Document.{Text, text_view}
-use Rattle.krates_derive.specs.ClosureCheck.{document_in, facts_in, setting_in}
-use Rattle.krates_derive.specs.Giving.{ReferenceIn}
+use Rattle.krates_derive.specs.Giving.{document_in, facts_in, setting_in, ReferenceIn}
 use Rattle.krates_rules.proofs.Elements.{contains_read}
 use Rattle.krates_rules.proofs.Seen.{seen_more, each_seen}
 use Rattle.krates_rules.specs.Resolved.{id_of}

@@ -1,6 +1,5 @@
 use Rattle.krates_cm.specs.Document.{text_view}
-use Rattle.krates_derive.specs.ClosureCheck.{document_in, facts_in, setting_in}
-use Rattle.krates_derive.specs.Giving.{ReferenceIn}
+use Rattle.krates_derive.specs.Giving.{document_in, facts_in, setting_in, ReferenceIn}
 use Rattle.krates_rules.proofs.Seen.{SeenBelow}
 use Rattle.krates_rules.specs.Resolved.{id_of}
 use Rattle.krates_checkers.proofs.closed.are_references_in.Given as goal

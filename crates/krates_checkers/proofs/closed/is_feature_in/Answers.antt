@@ -1,7 +1,7 @@
 use Rattle.std.proofs.Common.{map}
 use Rattle.std.proofs.lemmas.Result.{IfOk-weaker}
 use Rattle.krates_cm.specs.Document.{text_view}
-use Rattle.krates_derive.specs.ClosureCheck.{document_in, facts_in, setting_in}
+use Rattle.krates_derive.specs.Giving.{document_in, facts_in, setting_in}
 use Rattle.krates_rules.specs.Resolved.{id_of}
 use Rattle.krates_checkers.proofs.ClosedLists.{references_among}
 use Rattle.krates_checkers.proofs.closed.is_feature_in.Goals as goal

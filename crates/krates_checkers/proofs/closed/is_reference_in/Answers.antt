@@ -1,6 +1,6 @@
 use Rattle.std.proofs.Common.{subst}
 use Rattle.std.proofs.lemmas.Result.{IfOk-weaker}
-use Rattle.krates_derive.specs.ClosureCheck.{document_in, facts_in, setting_in}
+use Rattle.krates_derive.specs.Giving.{document_in, facts_in, setting_in}
 use Rattle.krates_rules.specs.Resolved.{id_of}
 use Rattle.krates_text.specs.FeatureReference.{IsReference, krate, simple, strong, weak}
 use Rattle.krates_checkers.proofs.ClosedLists.{reference_told}

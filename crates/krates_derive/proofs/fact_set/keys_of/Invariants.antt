@@ -1,5 +1,5 @@
 use Rattle.std.proofs.Common.{take}
-use Rattle.krates_derive.specs.FactSet.{HasKeys}
+use Rattle.krates_derive.specs.FactRef.{HasKeys}
 use Rattle.krates_rules.specs.StepViews.{facts_view}
 use Rattle.krates_derive.proofs.fact_set.keys_of.Given as goal
 

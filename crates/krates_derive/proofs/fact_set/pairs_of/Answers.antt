@@ -1,7 +1,6 @@
 use Rattle.std.proofs.Common.{◌≡◌, ◌+◌, ◌∷◌, ◌++◌, [], take, arith, ap, ◌∙◌, refl, sym, subst}
 use Rattle.std.specs.BTreeSet.{BTreeSet}
-use Rattle.krates_derive.specs.FactRef.{edge_of_ref, fact_of_ref}
-use Rattle.krates_derive.specs.FactSet.{HasPairs}
+use Rattle.krates_derive.specs.FactRef.{edge_of_ref, fact_of_ref, HasPairs}
 use Rattle.krates_derive.specs.declared.fact_set.Pair.{Pair}
 use Rattle.krates_rules.specs.Facts.{Fact, Kept}
 use Rattle.krates_rules.specs.StepViews.{fact_view, facts_view}

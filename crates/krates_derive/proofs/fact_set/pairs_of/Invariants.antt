@@ -1,5 +1,5 @@
 use Rattle.std.proofs.Common.{take}
-use Rattle.krates_derive.specs.FactSet.{HasPairs}
+use Rattle.krates_derive.specs.FactRef.{HasPairs}
 use Rattle.krates_rules.specs.StepViews.{facts_view}
 use Rattle.krates_derive.proofs.fact_set.pairs_of.Given as goal
 

@@ -2,7 +2,7 @@ use Rattle.std.proofs.Common.{length, map, rules, ap, subst, sym, ◌∙◌}
 use Rattle.std.proofs.lemmas.Fn.{always_returns_same}
 use Rattle.std.proofs.lemmas.List.Elements.{All-filter}
 use Rattle.std.specs.Ordering.{is_eq, is_lt, nat_cmp}
-use Rattle.krates_selection.specs.CrateNumbers.{HasEnds}
+use Rattle.krates_selection.specs.Selection.{HasEnds}
 use Rattle.krates_drawing.specs.OutlineOrder.{HaveEnds}
 use Rattle.krates_drawing.specs.Views.{kids_in, edge_row_view}
 use Rattle.krates_drawing.specs.declared.outline.EdgeRow.{EdgeRow}

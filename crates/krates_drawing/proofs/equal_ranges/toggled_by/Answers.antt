@@ -3,7 +3,7 @@ use Rattle.std.proofs.lemmas.Fn.{always_returns_same}
 use Rattle.std.proofs.lemmas.List.Elements.{All-filter}
 use Rattle.std.specs.List.{All}
 use Rattle.std.specs.Ordering.{is_eq, is_lt, nat_cmp}
-use Rattle.krates_selection.specs.CrateNumbers.{HasCrates}
+use Rattle.krates_selection.specs.Selection.{HasCrates}
 use Rattle.krates_selection.specs.declared.selection.ToggledFeature.{ToggledFeature}
 use Rattle.krates_drawing.specs.Views.{kids_in, toggle_of}
 use Rattle.krates_drawing.proofs.CratePlaces.{seen_by}

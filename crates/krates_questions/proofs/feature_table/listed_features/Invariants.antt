@@ -1,7 +1,6 @@
 use Rattle.std.proofs.Common.{◌≡◌, ◌++◌, drop, map}
 use Rattle.krates_cm.specs.Document.{node_view}
-use Rattle.krates_questions.specs.FeatureTable.{listed_view}
-use Rattle.krates_questions.specs.ListedFeatures.{features_from}
+use Rattle.krates_questions.specs.FeatureTable.{listed_view, features_from}
 use Rattle.krates_questions.proofs.feature_table.listed_features.Given as goal
 
 -- the features listed so far, then those of the rest, are all

@@ -5,12 +5,10 @@ use Rattle.krates_cm.specs.Document.{node_view, package_view}
 use Rattle.krates_cm.specs.declared.package.Package.{Package}
 use Rattle.krates_cm.specs.declared.resolve.Node.{Node}
 use Rattle.krates_ids.specs.Identity.{Identity}
-use Rattle.krates_questions.specs.FeatureTable.{listed_in}
-use Rattle.krates_questions.specs.ListedFeatures.{features_from}
+use Rattle.krates_questions.specs.FeatureTable.{listed_in, features_from}
 use Rattle.krates_document.specs.declared.named_places.NamedPlace.{NamedPlace}
 use Rattle.krates_document.specs.CrateTable.{AreNumbersOf, numbers_in}
-use Rattle.krates_questions.specs.NameIndex.{IsNameIndex, lists_in}
-use Rattle.krates_questions.specs.Renamed.{AreRenamedIn}
+use Rattle.krates_questions.specs.NameIndex.{IsNameIndex, lists_in, AreRenamedIn}
 use Rattle.krates_document.specs.declared.crate_table.CrateTable.{CrateTable}
 use Rattle.krates_questions.specs.declared.name_index.NameIndex.{NameIndex}
 use Rattle.krates_questions.proofs.NodeParts.{long_zip}

@@ -5,7 +5,7 @@ use Rattle.krates_ids.specs.Identity.{Identity}
 use Rattle.krates_rules.specs.Facts.{Id}
 use Rattle.krates_rules.specs.Resolved.{NodeAt}
 use Rattle.krates_questions.specs.Lookup.{IsNumberIn, resolved_view}
-use Rattle.krates_questions.specs.declared.node_place.NodePlace.{NodePlace}
+use Rattle.krates_questions.specs.declared.lookup.NodePlace.{NodePlace}
 use Rattle.krates_resolve.proofs.KeptCrates.{no_places, node_there, number_low, put_place, some_number}
 use Rattle.krates_resolve.proofs.kept_crates.places_by_number.Goals.{in-Some, in_default}
 use Rattle.krates_resolve.specs.KeptCrates.{AreNodePlaces}

@@ -4,7 +4,7 @@ use Rattle.krates_text.specs.FeatureReference.{Reference, IsReference}
 use Rattle.krates_rules.specs.Facts.{Id, Crate, Feature}
 use Rattle.krates_search.specs.SearchState.{HasFollowed, HasFollowedReferences, IsValueOfEnabled}
 use Rattle.std.specs.List.{sum}
-use Rattle.krates_selection.specs.Work.{CountsText, HasReferences}
+use Rattle.krates_selection.specs.Selection.{CountsText, HasReferences}
 use Rattle.krates_rules.specs.Resolved.{id_of}
 use Rattle.krates_search.proofs.Growing.{advances_refl, advances_trans, followed_grows}
 use Rattle.krates_questions.proofs.FeatureNumbers.{listed_place}
@@ -13,7 +13,7 @@ use Rattle.krates_questions.proofs.FeatureValues.{value_at}
 use Rattle.krates_rules.proofs.Seen.{seen_more, each_seen}
 use Rattle.krates_rules.proofs.Zips.{zip_all}
 use Rattle.krates_questions.specs.Context.{document_of, IsFeatureAt}
-use Rattle.krates_search.specs.FollowedReferences.{IsValueStep}
+use Rattle.krates_search.specs.SearchContext.{IsValueStep}
 use Rattle.krates_resolve.proofs.references.follow_references.Goals as goal
 
 pub listed_feature-feature-requires : goal.listed_feature-feature-requires

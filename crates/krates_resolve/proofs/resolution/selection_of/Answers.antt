@@ -1,16 +1,14 @@
 use Rattle.std.proofs.Common.{◌<◌, ℕ, List, length, All, AllPairs, ◌≢◌, sym, ◌∙◌, subst}
 use Rattle.krates_ids.specs.Identity.{Identity, id_cmp}
 use Rattle.std.specs.List.Sorted.{IsStrictlySortedBy}
-use Rattle.krates_search.specs.declared.found_edge.FoundEdge.{FoundEdge}
-use Rattle.krates_search.specs.declared.found_toggle.FoundToggle.{FoundToggle}
+use Rattle.krates_search.specs.declared.found.FoundEdge.{FoundEdge}
+use Rattle.krates_search.specs.declared.found.FoundToggle.{FoundToggle}
 use Rattle.krates_selection.specs.declared.selection.Selection.{Selection}
 use Rattle.krates_resolve.proofs.KeptCrates.{kept_long}
 use Rattle.krates_resolve.proofs.CountedSelection.{IsCountedWhole, counts_each}
 use Rattle.krates_resolve.proofs.Selected.{IsInOrder, edges_kept, features_kept, selected, toggles_kept, whole_of}
-use Rattle.krates_search.specs.FoundEdge.{IsFoundEdge}
-use Rattle.krates_search.specs.KeptToggled.{AreToggled}
-use Rattle.krates_search.specs.KeptFeatures.{AreSorted}
-use Rattle.krates_search.specs.KeptEdges.{AreInOrder}
+use Rattle.krates_search.specs.Found.{IsFoundEdge}
+use Rattle.krates_search.specs.KeptLists.{AreToggled, AreSorted, AreInOrder}
 use Rattle.krates_resolve.specs.KeptCrates.{AreKept}
 use Rattle.krates_questions.specs.Context.{document_of}
 use Rattle.krates_resolve.proofs.resolution.selection_of.Goals as goal

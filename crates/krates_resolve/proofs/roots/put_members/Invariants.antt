@@ -2,7 +2,7 @@ use Rattle.krates_ids.specs.Identity.{Identity}
 use Rattle.krates_rules.specs.Resolved.{id_of}
 use Rattle.krates_rules.proofs.Seen.{SeenBelow}
 use Rattle.krates_search.specs.SearchState.{Advances, HasRooted}
-use Rattle.krates_resolve.specs.Rooted.{HasRootedEach}
+use Rattle.krates_resolve.specs.Saturation.{HasRootedEach}
 use Rattle.krates_questions.specs.Context.{HasRoot}
 use Rattle.krates_resolve.proofs.roots.put_members.Given as goal
 

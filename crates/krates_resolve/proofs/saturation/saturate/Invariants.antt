@@ -1,5 +1,4 @@
-use Rattle.krates_resolve.specs.Saturation.{left_in, HasDone}
-use Rattle.krates_resolve.specs.Counting.{HasCounted}
+use Rattle.krates_resolve.specs.Saturation.{left_in, HasDone, HasCounted}
 use Rattle.krates_resolve.proofs.saturation.saturate.Given as goal
 
 -- what was found is right and has the roots; what was taken has been expanded or followed, and counted

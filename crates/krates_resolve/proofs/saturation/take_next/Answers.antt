@@ -6,8 +6,7 @@ use Rattle.krates_search.specs.declared.search_state.SearchState.{SearchState}
 use Rattle.krates_resolve.proofs.TakenSteps.{taken_step, taken_within}
 use Rattle.krates_resolve.proofs.Taken.{sound_taken, taken_put, taken_below, has_room, unchanged, same_agendas, crate_done, feature_done, none_done}
 use Rattle.krates_resolve.proofs.Counted.{crate_counted, feature_counted}
-use Rattle.krates_resolve.specs.Counting.{HasCounted}
-use Rattle.krates_resolve.specs.Saturation.{HasDone}
+use Rattle.krates_resolve.specs.Saturation.{HasCounted, HasDone}
 use Rattle.krates_resolve.proofs.saturation.take_next.Goals as goal
 
 pub expand-requires-clause-sound : goal.expand-requires-clause-sound

@@ -2,9 +2,9 @@ use Rattle.std.proofs.Common.{sym, subst}
 use Rattle.krates_cm.specs.Document.{DependencyModel, dep_kind_info_view}
 use Rattle.krates_rules.specs.Facts.{Crate, Kept}
 use Rattle.krates_search.specs.SearchState.{HasFound, HasEnabledFor, MayEnableFor}
-use Rattle.krates_search.specs.Kinds.{IsFirstOf}
+use Rattle.krates_search.specs.Found.{IsFirstOf}
 use Rattle.krates_selection.specs.Trace.{HasSomeStep}
-use Rattle.krates_questions.specs.declared.node_place.NodePlace.{NodePlace}
+use Rattle.krates_questions.specs.declared.lookup.NodePlace.{NodePlace}
 use Rattle.krates_questions.specs.NodeEntry.{parent_of, child_of, declared_in, entry_of, edge_for}
 use Rattle.krates_document.proofs.DeclaredOnce.{declared_stands}
 use Rattle.krates_search.proofs.EdgeGrowth.{edge_advances, edge_kept, placed_here, declared_seen, declared_within, used_once, marked_once}

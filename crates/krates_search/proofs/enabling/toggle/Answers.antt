@@ -1,9 +1,9 @@
 use Rattle.std.proofs.Common.{◌∙◌, refl}
 use Rattle.krates_rules.specs.Facts.{Crate, Feature, Toggled}
 use Rattle.krates_rules.specs.Resolved.{id_of}
-use Rattle.krates_search.specs.FoundToggle.{found_toggled}
+use Rattle.krates_search.specs.Found.{found_toggled}
 use Rattle.krates_selection.specs.Trace.{HasSomeStep}
-use Rattle.krates_search.specs.declared.found_toggle.FoundToggle.{FoundToggle}
+use Rattle.krates_search.specs.declared.found.FoundToggle.{FoundToggle}
 use Rattle.krates_questions.proofs.FeatureNumbers.{listed_at}
 use Rattle.krates_search.proofs.Finding.{finds_toggled, for_reason}
 use Rattle.krates_search.proofs.Growing.{advances_trans}

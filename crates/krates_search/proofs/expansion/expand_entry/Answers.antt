@@ -13,7 +13,7 @@ use Rattle.krates_search.proofs.EntriesTried.{noted_tried}
 use Rattle.krates_rules.proofs.Elements.{both, contains_or}
 use Rattle.krates_search.proofs.Finding.{finds_grow}
 use Rattle.krates_search.proofs.TriedKinds.{kinds_in, kinds_more, kinds_whole}
-use Rattle.krates_search.specs.Kinds.{AreFirstKinds}
+use Rattle.krates_search.specs.Found.{AreFirstKinds}
 use Rattle.krates_search.proofs.expansion.expand_entry.Goals as goal
 
 pub loop-kind-init : goal.loop-kind-init

@@ -1,4 +1,4 @@
-use Rattle.krates_selection.specs.Chosen.{IsChosenIn}
+use Rattle.krates_selection.specs.KeptFacts.{IsChosenIn}
 use Rattle.krates_selection.proofs.PickedSteps.{EachSoFar}
 use Rattle.krates_selection.proofs.explaining.chosen.Given as goal
 

@@ -1,8 +1,7 @@
 use Rattle.std.proofs.Common.{refl, sym, subst}
 use Rattle.krates_cm.specs.Document.{DepKindInfoModel, dep_kind_info_view}
 use Rattle.krates_cm.specs.declared.resolve.DepKindInfo.{DepKindInfo}
-use Rattle.krates_derive.specs.Giving.{EdgeIn}
-use Rattle.krates_derive.specs.ClosureCheck.{document_in, facts_in, setting_in}
+use Rattle.krates_derive.specs.Giving.{EdgeIn, document_in, facts_in, setting_in}
 use Rattle.krates_rules.specs.Facts.{Edge}
 use Rattle.krates_rules.specs.Questions.{edge_between}
 use Rattle.krates_rules.specs.Resolved.{id_of}

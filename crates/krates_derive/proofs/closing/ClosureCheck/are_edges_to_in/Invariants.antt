@@ -1,7 +1,6 @@
 use Rattle.std.proofs.Common.{true}
-use Rattle.krates_derive.specs.Giving.{EdgesIn}
+use Rattle.krates_derive.specs.Giving.{EdgesIn, document_in, facts_in, setting_in}
 use Rattle.krates_rules.proofs.Seen.{SeenBelow}
-use Rattle.krates_derive.specs.ClosureCheck.{document_in, facts_in, setting_in}
 use Rattle.krates_questions.specs.ReferentPlace.{referent_id}
 use Rattle.krates_questions.specs.declared.referent.Referent.{Referent}
 use Rattle.krates_rules.specs.Resolved.{id_of}

@@ -1,7 +1,6 @@
 use Rattle.krates_cm.specs.Document.{text_view}
-use Rattle.krates_derive.specs.Giving.{NamedIn}
+use Rattle.krates_derive.specs.Giving.{NamedIn, document_in, facts_in}
 use Rattle.krates_rules.proofs.Seen.{SeenBelow}
-use Rattle.krates_derive.specs.ClosureCheck.{document_in, facts_in}
 use Rattle.krates_rules.specs.Resolved.{id_of}
 use Rattle.krates_derive.proofs.closing.ClosureCheck.are_names_in.Given as goal
 

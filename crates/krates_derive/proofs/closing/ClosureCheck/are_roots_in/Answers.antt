@@ -1,7 +1,6 @@
 use Rattle.std.proofs.Common.{Bor, refl}
 use Rattle.krates_ids.specs.Identity.{Identity}
-use Rattle.krates_derive.specs.Giving.{RootIn}
-use Rattle.krates_derive.specs.ClosureCheck.{document_in, facts_in, setting_in}
+use Rattle.krates_derive.specs.Giving.{RootIn, document_in, facts_in, setting_in}
 use Rattle.krates_rules.specs.Facts.{Id}
 use Rattle.krates_rules.specs.Resolved.{id_of}
 use Rattle.krates_rules.proofs.Elements.{contains_read}

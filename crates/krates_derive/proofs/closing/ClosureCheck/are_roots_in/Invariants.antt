@@ -1,6 +1,5 @@
-use Rattle.krates_derive.specs.Giving.{RootIn}
+use Rattle.krates_derive.specs.Giving.{RootIn, document_in, facts_in, setting_in}
 use Rattle.krates_rules.proofs.Seen.{SeenBelow}
-use Rattle.krates_derive.specs.ClosureCheck.{document_in, facts_in, setting_in}
 use Rattle.krates_rules.specs.Resolved.{id_of}
 use Rattle.krates_derive.proofs.closing.ClosureCheck.are_roots_in.Given as goal
 

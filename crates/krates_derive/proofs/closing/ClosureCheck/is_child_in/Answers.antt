@@ -1,6 +1,6 @@
 use Rattle.std.proofs.Common.{refl}
 use Rattle.krates_derive.specs.FactRef.{edge_of_ref}
-use Rattle.krates_derive.specs.ClosureCheck.{document_in, facts_in, setting_in}
+use Rattle.krates_derive.specs.Giving.{document_in, facts_in, setting_in}
 use Rattle.krates_derive.proofs.Givings.{child_here}
 use Rattle.krates_derive.proofs.closing.ClosureCheck.is_child_in.Goals as goal
 

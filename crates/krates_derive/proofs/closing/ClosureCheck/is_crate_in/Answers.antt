@@ -1,8 +1,7 @@
 use Rattle.std.proofs.Common.{false, refl}
 use Rattle.krates_cm.specs.Document.{DepKindInfoModel}
 use Rattle.krates_ids.specs.Identity.{Identity}
-use Rattle.krates_derive.specs.Giving.{EdgeIn}
-use Rattle.krates_derive.specs.ClosureCheck.{document_in, facts_in, setting_in}
+use Rattle.krates_derive.specs.Giving.{EdgeIn, document_in, facts_in, setting_in}
 use Rattle.krates_rules.specs.Facts.{Id}
 use Rattle.krates_rules.specs.Questions.{edge_between}
 use Rattle.krates_rules.specs.Resolved.{id_of}

@@ -1,9 +1,8 @@
 use Rattle.krates_cm.specs.Document.{DepKindInfoModel}
 use Rattle.krates_rules.specs.Questions.{edge_between}
-use Rattle.krates_derive.specs.Giving.{EdgeIn}
+use Rattle.krates_derive.specs.Giving.{EdgeIn, document_in, facts_in, setting_in}
 use Rattle.std.proofs.Common.{false}
 use Rattle.krates_rules.proofs.Seen.{SeenBelow}
-use Rattle.krates_derive.specs.ClosureCheck.{document_in, facts_in, setting_in}
 use Rattle.krates_rules.specs.Resolved.{id_of}
 use Rattle.krates_derive.proofs.closing.ClosureCheck.is_crate_in.Given as goal
 

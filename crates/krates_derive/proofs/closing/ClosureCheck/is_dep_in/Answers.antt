@@ -1,6 +1,5 @@
 use Rattle.std.proofs.Common.{List, refl, sym, map, subst}
-use Rattle.krates_derive.specs.ClosureCheck.{document_in, facts_in, setting_in}
-use Rattle.krates_derive.specs.Giving.{MeantIn}
+use Rattle.krates_derive.specs.Giving.{document_in, facts_in, setting_in, MeantIn}
 use Rattle.krates_questions.specs.ReferentPlace.{referent_id}
 use Rattle.krates_questions.specs.declared.referent.Referent.{Referent}
 use Rattle.krates_rules.specs.Facts.{Id}

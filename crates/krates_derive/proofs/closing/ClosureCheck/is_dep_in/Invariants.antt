@@ -1,6 +1,5 @@
-use Rattle.krates_derive.specs.Giving.{MeantIn}
+use Rattle.krates_derive.specs.Giving.{MeantIn, document_in, facts_in}
 use Rattle.krates_rules.proofs.Seen.{SeenBelow}
-use Rattle.krates_derive.specs.ClosureCheck.{document_in, facts_in}
 use Rattle.krates_questions.specs.ReferentPlace.{referent_id}
 use Rattle.krates_questions.specs.declared.referent.Referent.{Referent}
 use Rattle.krates_rules.specs.Resolved.{id_of}

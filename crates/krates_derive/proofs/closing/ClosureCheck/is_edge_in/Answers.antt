@@ -1,8 +1,8 @@
 use Rattle.std.proofs.Common.{refl, subst}
 use Rattle.krates_cm.specs.Document.{dependency_view}
 use Rattle.krates_derive.specs.FactRef.{edge_of_ref}
-use Rattle.krates_derive.specs.ClosureCheck.{document_in, facts_in, setting_in}
-use Rattle.krates_questions.specs.Need.{TellsNeed}
+use Rattle.krates_derive.specs.Giving.{document_in, facts_in, setting_in}
+use Rattle.krates_questions.specs.Availability.{TellsNeed}
 use Rattle.krates_derive.proofs.Givings.{edge_nothing, edge_undeclared, edge_taken, edge_left}
 use Rattle.krates_derive.proofs.closing.ClosureCheck.is_edge_in.Goals as goal
 

@@ -1,9 +1,8 @@
 use Rattle.std.proofs.Common.{refl, sym, subst}
 use Rattle.krates_cm.specs.Document.{DependencyModel, dependency_view}
-use Rattle.krates_derive.specs.ClosureCheck.{document_in, facts_in}
-use Rattle.krates_derive.specs.Giving.{UsedIn}
+use Rattle.krates_derive.specs.Giving.{document_in, facts_in, UsedIn}
 use Rattle.krates_derive.specs.FactRef.{edge_of_ref}
-use Rattle.krates_questions.specs.Need.{TellsDeclaration}
+use Rattle.krates_questions.specs.Availability.{TellsDeclaration}
 use Rattle.krates_derive.proofs.closing.ClosureCheck.is_kept_in.Goals as goal
 
 pub returns-in-Some : goal.returns-in-Some

@@ -1,8 +1,7 @@
 use Rattle.std.proofs.Common.{String, List, map, sym, subst}
 use Rattle.std.specs.Global.{Global}
 use Rattle.krates_cm.specs.Document.{text_view}
-use Rattle.krates_derive.specs.ClosureCheck.{document_in, facts_in}
-use Rattle.krates_derive.specs.Giving.{NamesIn}
+use Rattle.krates_derive.specs.Giving.{document_in, facts_in, NamesIn}
 use Rattle.krates_rules.specs.Resolved.{id_of}
 use Rattle.krates_derive.proofs.closing.ClosureCheck.is_used_in.Goals as goal
 

@@ -3,7 +3,7 @@ use Rattle.krates_cm.specs.Document.{DependencyModel}
 use Rattle.krates_derive.specs.Following.{AsksFeature}
 use Rattle.krates_derive.specs.FactRef.{edge_of_ref}
 use Rattle.krates_questions.specs.Lookup.{resolved_view}
-use Rattle.krates_questions.specs.Need.{TellsDeclaration}
+use Rattle.krates_questions.specs.Availability.{TellsDeclaration}
 use Rattle.krates_derive.proofs.fact_ref.EdgeRef.asks_for.Goals as goal
 
 pub returns-in-Some : goal.returns-in-Some

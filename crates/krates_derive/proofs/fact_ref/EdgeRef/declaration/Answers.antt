@@ -1,7 +1,7 @@
 use Rattle.std.proofs.Common.{subst}
 use Rattle.krates_cm.specs.Document.{DepKindInfoModel}
 use Rattle.krates_questions.specs.Lookup.{resolved_view}
-use Rattle.krates_questions.specs.Need.{TellsDeclaration}
+use Rattle.krates_questions.specs.Availability.{TellsDeclaration}
 use Rattle.krates_rules.specs.Questions.{edge_between}
 use Rattle.krates_rules.specs.Resolved.{id_of}
 use Rattle.krates_derive.proofs.fact_ref.EdgeRef.declaration.Goals as goal

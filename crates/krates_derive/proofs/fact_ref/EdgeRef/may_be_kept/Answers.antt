@@ -1,7 +1,7 @@
 use Rattle.std.proofs.Common.{subst}
 use Rattle.krates_cm.specs.Document.{DependencyModel}
 use Rattle.krates_questions.specs.Context.{document_of}
-use Rattle.krates_questions.specs.Need.{TellsNeed}
+use Rattle.krates_questions.specs.Availability.{TellsNeed}
 use Rattle.krates_derive.specs.FactRef.{edge_of_ref}
 use Rattle.krates_derive.specs.Giving.{IsTaken}
 use Rattle.krates_derive.proofs.fact_ref.EdgeRef.may_be_kept.Goals as goal

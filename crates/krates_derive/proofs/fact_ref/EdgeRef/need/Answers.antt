@@ -1,7 +1,7 @@
 use Rattle.std.proofs.Common.{subst, IfOk}
 use Rattle.krates_cm.specs.Document.{DepKindInfoModel}
 use Rattle.krates_questions.specs.Context.{document_of}
-use Rattle.krates_questions.specs.Need.{TellsNeed}
+use Rattle.krates_questions.specs.Availability.{TellsNeed}
 use Rattle.krates_rules.specs.Questions.{edge_between}
 use Rattle.krates_rules.specs.Resolved.{id_of}
 use Rattle.krates_derive.proofs.fact_ref.EdgeRef.need.Goals as goal

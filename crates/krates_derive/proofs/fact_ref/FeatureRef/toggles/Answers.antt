@@ -3,7 +3,7 @@ use Rattle.std.proofs.lemmas.Iterator.{cases_from_any, YieldsList-from_slice}
 use Rattle.krates_cm.specs.Document.{Text, text_view}
 use Rattle.krates_questions.specs.Context.{document_of}
 use Rattle.krates_rules.specs.Resolved.{id_of}
-use Rattle.krates_derive.specs.Referring.{TogglesBy, toggling}
+use Rattle.krates_derive.specs.Following.{TogglesBy, toggling}
 use Rattle.krates_derive.proofs.Answered.{any_told}
 use Rattle.krates_derive.proofs.fact_ref.FeatureRef.toggles.Goals as goal
 

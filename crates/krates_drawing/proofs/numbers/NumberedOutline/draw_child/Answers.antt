@@ -1,6 +1,6 @@
 use Rattle.std.proofs.Common.{◌++◌, List, not, get_or, take, map, ap, sym, ◌∙◌}
 use Rattle.std.specs.Prelude.{flat_map}
-use Rattle.krates_selection.specs.CrateNumbers.{id_at}
+use Rattle.krates_selection.specs.Selection.{id_at}
 use Rattle.krates_drawing.specs.Drawing.{PlannedEdge, pair_lines}
 use Rattle.krates_drawing.specs.Outline as model
 use Rattle.krates_drawing.specs.OutlineOrder.{children_of}

@@ -1,7 +1,7 @@
 use Rattle.std.proofs.Common.{◌++◌, List, map, ap, sym, arith, ◌∙◌}
 use Rattle.std.proofs.lemmas.List.{append-nil, take_all}
 use Rattle.std.specs.Prelude.{flat_map}
-use Rattle.krates_selection.specs.CrateNumbers.{id_at}
+use Rattle.krates_selection.specs.Selection.{id_at}
 use Rattle.krates_drawing.specs.Drawing.{PlannedEdge, pair_lines}
 use Rattle.krates_drawing.specs.Outline as model
 use Rattle.krates_drawing.specs.OutlineOrder.{children_of}

@@ -1,6 +1,6 @@
 use Rattle.std.proofs.Common.{◌≡◌, length, sym, subst, arith}
 use Rattle.std.proofs.lemmas.Grind.{common_steps}
-use Rattle.krates_selection.specs.CrateNumbers.{HasEnds, id_at}
+use Rattle.krates_selection.specs.Selection.{HasEnds, id_at}
 use Rattle.krates_drawing.specs.Drawing.{crate_number}
 use Rattle.krates_drawing.specs.Views.{kids_in, outline_view}
 use Rattle.krates_drawing.specs.declared.outline.EdgeRow.{EdgeRow}

@@ -1,6 +1,6 @@
 use Rattle.std.proofs.Common.{filter, map, ap, subst, sym, ◌∙◌}
 use Rattle.std.specs.Prelude.{OnOk}
-use Rattle.krates_selection.specs.CrateNumbers.{id_at}
+use Rattle.krates_selection.specs.Selection.{id_at}
 use Rattle.krates_rules.specs.Resolved.{id_of}
 use Rattle.krates_drawing.specs.Drawing.{AtFeature, leads_to}
 use Rattle.krates_drawing.specs.LinesFrom.{line_from, meant_from}

@@ -1,6 +1,6 @@
 use Rattle.std.proofs.Common.{◌≡◌, ◌++◌, map, drop}
 use Rattle.std.specs.Prelude.{flat_map}
-use Rattle.krates_selection.specs.CrateNumbers.{id_at}
+use Rattle.krates_selection.specs.Selection.{id_at}
 use Rattle.krates_drawing.specs.LinesFrom.{meant_from}
 use Rattle.krates_drawing.specs.Views.{kids_in, edge_row_view, meaning_view, outline_view, planned_edge_view}
 use Rattle.krates_drawing.proofs.numbers.NumberedOutline.draw_meanings.Given as goal

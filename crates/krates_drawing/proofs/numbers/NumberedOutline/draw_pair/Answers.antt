@@ -1,7 +1,7 @@
 use Rattle.std.proofs.Common.{filter, length, map, ap, sym, subst, ◌∙◌}
 use Rattle.std.proofs.lemmas.List.Elements.{All-filter}
 use Rattle.std.specs.Prelude.{flat_map}
-use Rattle.krates_selection.specs.CrateNumbers.{HasEnds, id_at}
+use Rattle.krates_selection.specs.Selection.{HasEnds, id_at}
 use Rattle.krates_drawing.specs.Drawing.{AtCrate, AtFeature, Feature, crate_number, is_between, is_to, line, pair_lines, uses}
 use Rattle.krates_drawing.specs.LinesFrom.{line_from}
 use Rattle.krates_drawing.specs.Outline.{Toggle}

@@ -1,5 +1,5 @@
 use Rattle.std.proofs.Common.{◌≡◌, ◌++◌, map, drop}
-use Rattle.krates_selection.specs.CrateNumbers.{id_at}
+use Rattle.krates_selection.specs.Selection.{id_at}
 use Rattle.krates_drawing.specs.Drawing.{AtFeature}
 use Rattle.krates_drawing.specs.LinesFrom.{line_from}
 use Rattle.krates_drawing.specs.Views.{kids_in, outline_view, planned_edge_view, toggle_of}

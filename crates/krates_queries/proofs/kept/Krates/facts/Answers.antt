@@ -5,8 +5,7 @@ use Rattle.krates_drawing.specs.Node.{crate_ids}
 use Rattle.krates_ids.specs.Identity.{Identity}
 use Rattle.krates_rules.specs.StepViews.{facts_view}
 use Rattle.krates_rules.specs.declared.derivation.Fact.{Fact}
-use Rattle.krates_selection.specs.Explanation.{HasTheseIds, explained_steps, kids_of}
-use Rattle.krates_selection.specs.KeptFacts.{facts_in}
+use Rattle.krates_selection.specs.KeptFacts.{HasTheseIds, explained_steps, kids_of, facts_in}
 use Rattle.krates_selection.specs.declared.kept.Explanation.{Explanation}
 use Rattle.krates_queries.proofs.WhyLemmas.{is_explanation, same_steps}
 use Rattle.krates_queries.specs.KeptSteps.{AreExplained, steps_of}

@@ -3,7 +3,7 @@ use Rattle.std.proofs.lemmas.Option.{slice_get_within}
 use Rattle.std.specs.List.{slice_get}
 use Rattle.krates_drawing.specs.Node.{crate_ids}
 use Rattle.krates_ids.specs.Identity.{Identity}
-use Rattle.krates_selection.specs.Explanation.{IsStepOf, kids_of}
+use Rattle.krates_selection.specs.KeptFacts.{IsStepOf, kids_of}
 use Rattle.krates_selection.specs.declared.kept.Explanation.{Explanation}
 use Rattle.krates_selection.specs.declared.kept.KeptStep.{KeptStep}
 use Rattle.krates_queries.proofs.WhyLemmas.{is_explanation, is_why}

@@ -1,7 +1,7 @@
 use Rattle.std.proofs.Common.{None}
 use Rattle.krates_cm.specs.Document.{DependencyModel, dep_kind_info_view, dependency_view}
 use Rattle.krates_questions.specs.Lookup.{resolved_view}
-use Rattle.krates_questions.specs.Need.{IsDeclaredOnly}
+use Rattle.krates_questions.specs.Availability.{IsDeclaredOnly}
 use Rattle.krates_rules.specs.Questions.{IsDeclaredAs}
 use Rattle.krates_rules.specs.Resolved.{id_of}
 use Rattle.krates_questions.proofs.Asked.{between, declared_told, undeclared_without}

@@ -1,8 +1,7 @@
 use Rattle.std.proofs.Common.{◌≡◌, ℕ, List, rules, sym, subst}
 use Rattle.std.specs.BTreeMap.{get}
 use Rattle.krates_cm.specs.Document.{Text}
-use Rattle.krates_questions.specs.FeatureOrder.{listed_cmp}
-use Rattle.krates_questions.specs.FeatureTable.{IsNumberOf}
+use Rattle.krates_questions.specs.FeatureTable.{listed_cmp, IsNumberOf}
 use Rattle.krates_questions.specs.Lookup.{resolved_view}
 use Rattle.krates_questions.specs.declared.feature_table.ListedFeature.{ListedFeature}
 use Rattle.krates_questions.proofs.FeatureNumbers.{number_answer, own_answer}

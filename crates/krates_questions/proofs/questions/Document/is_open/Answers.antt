@@ -1,7 +1,7 @@
 use Rattle.std.proofs.Common.{subst}
 use Rattle.krates_questions.specs.DocumentAnswers.{edge_asked}
 use Rattle.krates_questions.specs.Lookup.{resolved_view}
-use Rattle.krates_questions.specs.Need.{TellsNeed}
+use Rattle.krates_questions.specs.Availability.{TellsNeed}
 use Rattle.krates_rules.specs.Questions.{questions}
 use Rattle.krates_questions.proofs.questions.Document.is_open.Goals as goal
 

@@ -3,7 +3,7 @@ use Rattle.krates_cm.specs.Document.{dep_kind_info_view}
 use Rattle.krates_cm.specs.declared.resolve.DepKindInfo.{DepKindInfo}
 use Rattle.krates_rules.specs.Resolved.{id_of}
 use Rattle.krates_questions.specs.Lookup.{resolved_view}
-use Rattle.krates_questions.specs.Need.{ListsKind}
+use Rattle.krates_questions.specs.Availability.{ListsKind}
 use Rattle.krates_questions.proofs.Needs.{kinds_told}
 use Rattle.krates_questions.proofs.questions.Document.kinds.Goals as goal
 

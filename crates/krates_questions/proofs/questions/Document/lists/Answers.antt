@@ -3,7 +3,7 @@ use Rattle.std.specs.Prelude.{is_some}
 use Rattle.krates_cm.specs.Document.{Text}
 use Rattle.krates_questions.proofs.FeatureNumbers.{listed_at}
 use Rattle.krates_questions.specs.Lookup.{resolved_view}
-use Rattle.krates_questions.specs.Numbering.{FeatureAt}
+use Rattle.krates_questions.specs.FeatureTable.{FeatureAt}
 use Rattle.krates_rules.specs.Facts.{Id}
 use Rattle.krates_rules.specs.Features.{LacksFeature, ListsFeature}
 use Rattle.krates_rules.specs.Resolved.{Resolved, id_of}

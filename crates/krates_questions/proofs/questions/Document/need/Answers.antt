@@ -1,7 +1,7 @@
 use Rattle.std.proofs.lemmas.Result.{IfOk-weaker}
 use Rattle.krates_cm.specs.Document.{dep_kind_info_view}
 use Rattle.krates_questions.specs.Lookup.{resolved_view}
-use Rattle.krates_questions.specs.Need.{TellsNeed}
+use Rattle.krates_questions.specs.Availability.{TellsNeed}
 use Rattle.krates_rules.specs.Resolved.{id_of}
 use Rattle.krates_questions.proofs.Asked.{between}
 use Rattle.krates_questions.proofs.Needs.{absent_need}

@@ -9,7 +9,7 @@ use Rattle.krates_questions.proofs.Lookups.{node_answer}
 use Rattle.krates_document.proofs.NumberedPlaces.{index_answer, index_within}
 use Rattle.krates_questions.proofs.questions.Document.node_place_at.Goals as goal
 
--- what the table has at the number of a crate is where its node stands
+-- what the table has at the number of a crate is where its node is
 node_told : ReadsOnce → (d : Lookup) (i : Id) (number answer : Option ℕ) → IsLookup d → IsNumberIn d i number → answer ≡ at_number d.ids.now.table.nodes.items number → MatchOption answer (NoNode (resolved_view d) i) (NodeAt (resolved_view d) i)
 node_told once d i number answer h numbered is =
     let r = resolved_view d in

@@ -4,7 +4,7 @@ use Rattle.krates_cm.specs.Document.{Text, text_view}
 use Rattle.krates_ids.specs.Identity.{Identity}
 use Rattle.krates_rules.specs.Admission.{IsRootId}
 use Rattle.krates_questions.specs.Lookup.{resolved_view}
-use Rattle.krates_questions.specs.RootChoice.{AsksFor}
+use Rattle.krates_questions.specs.DocumentAnswers.{AsksFor}
 use Rattle.krates_rules.proofs.Elements.{has_element}
 use Rattle.krates_rules.specs.Resolved.{Resolved}
 use Rattle.krates_rules.specs.Roots.{AsksForWorkspace, IsWorkspaceManifest, by_manifest}

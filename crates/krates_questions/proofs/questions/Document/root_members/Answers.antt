@@ -3,7 +3,7 @@ use Rattle.std.proofs.lemmas.List.{take_all}
 use Rattle.krates_ids.specs.Identity.{Identity}
 use Rattle.krates_questions.specs.Lookup.{resolved_view}
 use Rattle.krates_rules.specs.Resolved.{id_of}
-use Rattle.krates_questions.specs.RootOrder.{ArePicked, nothing}
+use Rattle.krates_questions.specs.DocumentAnswers.{ArePicked, nothing}
 use Rattle.krates_rules.specs.Roots.{IsRoot}
 use Rattle.krates_questions.proofs.Asked.{HasThoseOf, ids_in, root_put, root_passed}
 use Rattle.krates_questions.proofs.questions.Document.root_members.Goals as goal

@@ -3,7 +3,7 @@ use Rattle.std.proofs.lemmas.Result.{IfOk-weaker}
 use Rattle.krates_ids.specs.Identity.{Identity}
 use Rattle.krates_questions.specs.Lookup.{resolved_view}
 use Rattle.krates_rules.specs.Resolved.{id_of, IsMember}
-use Rattle.krates_questions.specs.RootOrder.{ArePicked, alone}
+use Rattle.krates_questions.specs.DocumentAnswers.{ArePicked, alone}
 use Rattle.krates_rules.specs.Roots.{IsRoot}
 use Rattle.krates_questions.proofs.Asked.{ids_in, roots_told, members_in_order, one_root_told}
 use Rattle.krates_questions.proofs.RootLemmas.{are_members}

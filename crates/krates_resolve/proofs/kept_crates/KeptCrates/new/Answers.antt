@@ -2,7 +2,7 @@ use Rattle.std.proofs.Common.{◌<◌, List, Option, length, refl, sym, subst, a
 use Rattle.std.proofs.lemmas.List.{take_all}
 use Rattle.std.proofs.lemmas.Option.{slice_get_read}
 use Rattle.krates_ids.specs.Identity.{Identity}
-use Rattle.krates_questions.specs.declared.node_place.NodePlace.{NodePlace}
+use Rattle.krates_questions.specs.declared.lookup.NodePlace.{NodePlace}
 use Rattle.krates_resolve.proofs.KeptCrates.{AreRanked, kept_whole, place_low, ranked_none, ranked_some}
 use Rattle.krates_resolve.proofs.kept_crates.KeptCrates.new.Goals.{in-Some+in_ok-push-in-Some+in_ok-clone-in-Some+in_ok-push-in-Some-2, in-None+in_ok-push-in-None}
 use Rattle.krates_resolve.specs.KeptCrates.{AreNodePlaces}

@@ -2,11 +2,10 @@ use Rattle.std.proofs.Common.{◌≡◌, ◌<◌, All, List, length, sym, ap, �
 use Rattle.std.proofs.lemmas.List.{length-map}
 use Rattle.krates_rules.specs.StepViews.{step_view, steps_view}
 use Rattle.krates_selection.proofs.ToldParts.{chosen_low, use_these}
-use Rattle.krates_selection.specs.Explanation.{explained_steps, kids_of, uses_in}
+use Rattle.krates_selection.specs.KeptFacts.{explained_steps, kids_of, uses_in}
 use Rattle.krates_selection.specs.declared.kept.KeptStep.{KeptStep}
 use Rattle.krates_rules.specs.declared.uses.Uses.{Uses}
-use Rattle.krates_selection.specs.PartOfSteps.{AreBackward, SameNumber}
-use Rattle.krates_selection.specs.Picked.{UseThese}
+use Rattle.krates_selection.specs.PartOfSteps.{AreBackward, SameNumber, UseThese}
 use Rattle.krates_selection.proofs.kept.Explanation.derivation_of.Goals as goal
 
 pub part_for-requires-clause-backward : goal.part_for-requires-clause-backward

@@ -3,8 +3,7 @@ use Rattle.std.proofs.lemmas.List.{take_all}
 use Rattle.std.proofs.lemmas.List.Elements.{All-push}
 use Rattle.krates_rules.specs.StepViews.{facts_view}
 use Rattle.krates_selection.proofs.ToldParts.{facts_more}
-use Rattle.krates_selection.specs.Explanation.{HasTheseIds, kids_of}
-use Rattle.krates_selection.specs.KeptFacts.{facts_in, steps_in}
+use Rattle.krates_selection.specs.KeptFacts.{HasTheseIds, kids_of, facts_in, steps_in}
 use Rattle.krates_selection.proofs.kept.Explanation.facts.Goals as goal
 
 pub loop-step-preserved : goal.loop-step-preserved

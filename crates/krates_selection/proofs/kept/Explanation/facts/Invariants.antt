@@ -1,7 +1,6 @@
 use Rattle.std.proofs.Common.{◌≡◌, All, take}
 use Rattle.krates_rules.specs.StepViews.{facts_view}
-use Rattle.krates_selection.specs.Explanation.{HasTheseIds, kids_of}
-use Rattle.krates_selection.specs.KeptFacts.{facts_in, steps_in}
+use Rattle.krates_selection.specs.KeptFacts.{HasTheseIds, kids_of, facts_in, steps_in}
 use Rattle.krates_selection.proofs.kept.Explanation.facts.Given as goal
 
 -- the facts so far are those of the steps so far, and their crates have these ids

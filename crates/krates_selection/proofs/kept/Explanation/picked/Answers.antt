@@ -2,7 +2,7 @@ use Rattle.std.proofs.Common.{◌≡◌, ◌++◌, [], ◌∷◌, All, ap, get_o
 use Rattle.std.proofs.lemmas.List.Elements.{All-push}
 use Rattle.krates_rules.specs.declared.derivation.Step.{Step}
 use Rattle.krates_selection.specs.declared.kept.KeptStep.{KeptStep}
-use Rattle.krates_selection.specs.Explanation.{HasTheseIds, kids_of}
+use Rattle.krates_selection.specs.KeptFacts.{HasTheseIds, kids_of}
 use Rattle.krates_selection.proofs.PickedSteps.{EachSoFar, IsPickedStep, all_picked, none_yet, one_more, picked_here}
 use Rattle.krates_selection.proofs.kept.Explanation.picked.Goals as goal
 

@@ -1,6 +1,6 @@
 use Rattle.std.proofs.Common.{All}
 use Rattle.krates_rules.specs.declared.derivation.Step.{Step}
-use Rattle.krates_selection.specs.Explanation.{HasTheseIds, kids_of}
+use Rattle.krates_selection.specs.KeptFacts.{HasTheseIds, kids_of}
 use Rattle.krates_selection.proofs.PickedSteps.{EachSoFar, IsPickedStep}
 use Rattle.krates_selection.proofs.kept.Explanation.picked.Given as goal
 

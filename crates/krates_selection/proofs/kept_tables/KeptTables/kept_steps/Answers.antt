@@ -6,8 +6,7 @@ use Rattle.std.specs.List.{AllZip}
 use Rattle.krates_selection.proofs.FirstSteps.{follow_backward, homes_low, kept_facts, shown_uses, steps_are, uses_of}
 use Rattle.krates_selection.proofs.FactPlaces.{zip_long}
 use Rattle.krates_selection.proofs.ToldParts.{chosen_low}
-use Rattle.krates_selection.specs.Chosen.{AreChosen}
-use Rattle.krates_selection.specs.Keys.{AreFactNumbers, home, key_view}
+use Rattle.krates_selection.specs.KeptFacts.{AreChosen, AreFactNumbers, home, key_view}
 use Rattle.krates_selection.specs.KeptTables.{AreStepsOf, IsKeyOf, numbered_facts}
 use Rattle.krates_selection.specs.declared.kept.KeptStep.{KeptStep}
 use Rattle.krates_selection.specs.declared.key.KeptFactKey.{KeptFactKey}

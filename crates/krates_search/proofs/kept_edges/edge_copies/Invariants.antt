@@ -1,9 +1,0 @@
-use Rattle.std.proofs.Common.{take}
-use Rattle.std.specs.List.{AllZip}
-use Rattle.krates_selection.specs.KeptTables.{kids_in}
-use Rattle.krates_search.specs.KeptEdges.{IsCopyOf}
-use Rattle.krates_search.proofs.kept_edges.edge_copies.Given as goal
-
--- the edges so far have their edge_copies
-abbrev pub invariant-loop-edge : goal.invariant-loop-edge
-invariant-loop-edge l = AllZip (IsCopyOf (kids_in l.tables)) (take l.edge-index l.edges) l.kept.items
