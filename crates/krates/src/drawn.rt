@@ -28,7 +28,7 @@ use krates_drawing::krate::Krate;
 use krates_drawing::limits::{Limits, Plan, plan_within};
 use krates_drawing::node::Node;
 use krates_drawing::outline::Outline;
-use krates_drawing::store::{FromEdge, StoreError, store_edges};
+use krates_drawing::store::{FromEdge, store_edges};
 use krates_graph::graph::Graph;
 use krates_ids::Error;
 use krates_queries::from_package::FromPackage;
@@ -111,11 +111,8 @@ fn stored<N: FromPackage + Drop, E: FromEdge + Drop>(
         planned_edges.len(),
     )?;
     store_nodes(alloc, nodes, &mut graph)?;
-    match store_edges(alloc, planned_edges, &mut graph) {
-        Ok(()) => Ok(graph),
-        Err(StoreError::TooMany) => Err(Error::TooMany),
-        Err(StoreError::Memory) => Err(Error::Memory),
-    }
+    store_edges(alloc, planned_edges, &mut graph)?;
+    Ok(graph)
 }
 
 /// The graph of an outline, whose crates are these. It is refused as `TooMany` exactly where it has more nodes or more edges than

@@ -1,9 +1,9 @@
 -- A crate's mapping names exactly the crates to which its edges lead.
-use Rattle.std.proofs.Common.{◌≡◌, ◌⊎◌, inl, inr, ℕ, zero, suc, ◌+◌, ◌<◌, ◌≤◌, true, List, [], ◌∷◌, filter, length, Option, Some, None, option_map, Contains, slice_get, refl, sym, ap, ◌∙◌, subst, arith}
+use Rattle.std.proofs.Common.{◌&&◌, ◌==◌, ◌≡◌, ◌⊎◌, inl, inr, ℕ, zero, suc, ◌+◌, ◌<◌, ◌≤◌, true, List, [], ◌∷◌, filter, length, Option, Some, None, option_map, Contains, slice_get, refl, sym, ap, ◌∙◌, subst, arith}
 use Rattle.std.proofs.lemmas.Bool.{cases_lt, and_parts, and_from}
 use Rattle.std.proofs.lemmas.Bool.Decides.{Decides-eqb}
 use Rattle.std.proofs.lemmas.Option.{none-some, same_Some, slice_get_within}
-use Rattle.std.specs.List.{list_any, range_with_len}
+use Rattle.std.specs.List.{range_with_len}
 use Rattle.krates_cm.specs.Document.{Text, PackageModel}
 use Rattle.krates_rules.specs.Admission.{NoneDoubled}
 use Rattle.krates_rules.specs.Facts.{Id}
@@ -12,16 +12,16 @@ use Rattle.krates_rules.specs.Questions.{IsDeclaredAt, questions}
 use Rattle.krates_rules.specs.Resolved.{Resolved, HasPackage}
 use Rattle.krates_rules.specs.Setting.{SettingModel}
 use Rattle.krates_drawing.specs.Agreement.{KeptAt, OneEach, DependsOn, LeadsTo, DependenciesAgree}
-use Rattle.krates_drawing.specs.Drawing.{id_eq, Endpoint, AtCrate, AtFeature, EdgeModel, Dep, DepFeature, PlannedEdge, line, number, crate_number, from_crate, planned_edges, last_from, claims_at, claims, claimant, mapped, mapping, PlannedNode, PlannedCrate, PlannedFeature, planned_nodes}
+use Rattle.krates_drawing.specs.Drawing.{Endpoint, AtCrate, AtFeature, EdgeModel, Dep, DepFeature, PlannedEdge, line, number, crate_number, planned_edges, is_link, last_from, claims, mapped, mapping, PlannedNode, PlannedCrate, PlannedFeature, planned_nodes}
 use Rattle.krates_drawing.specs.Outline.{CrateRow, EdgeRow, Outline}
-use Rattle.krates_drawing.proofs.DrawnEdges.{IsDrawnEdge, dep, dep_feature, toggles, own, names, names_crate, names_feature, Between, from_of, in_from, edge_in, drawn_of}
+use Rattle.krates_drawing.proofs.DrawnEdges.{IsDrawnEdge, dep, dep_feature, toggles, own, names, names_crate, names_feature, Between, is_between_them, links_them, edge_in, drawn_of}
 use Rattle.krates_drawing.proofs.Closed.{keeps_ends, given_enabled, ends_stand}
 use Rattle.krates_drawing.proofs.Derivations.{crate_of_feature}
 use Rattle.krates_drawing.proofs.Holding.{Holds, holds}
 use Rattle.krates_rules.proofs.Members as members
 use Rattle.krates_rules.proofs.Members.{Member, member_of, contains_of, kept_of, member_filter, mapped_of, member_map, passing_of, member_any, Front, front_of}
 use Rattle.krates_drawing.proofs.Drawn.{has_drawn}
-use Rattle.krates_drawing.proofs.NodeNumbers.{id_is, id_same, HasCrate, Stands, crate_stands, feature_stands, crate_node, feature_node, one_number}
+use Rattle.krates_drawing.proofs.NodeNumbers.{HasCrate, Stands, crate_stands, feature_stands, crate_node, feature_node, one_number}
 use Rattle.krates_rules.proofs.OnlyOne.{one_package}
 
 -- ---- ends that belong to one crate
@@ -72,28 +72,31 @@ pub record Claim (t : Outline) (p q : Id) (k : ℕ) : Type 0 where
   pub between : Between t p q
   pub at : between.link.place ≡ k
 
-claim_of : (t : Outline) (p q : Id) (k : ℕ) → list_any (claims_at k q) (from_crate t p) ≡ true → Claim t p q k
-claim_of t p q k h =
-    let w = passing_of (claims_at k q) (from_crate t p) h in
-    let f = from_of t p w.from w.member in
+-- the last crate that claims it
+abbrev pub claimant : Outline → Id → ℕ → Option CrateRow
+claimant t p k = last_from None (filter (claims t p k) t.krates)
+
+claim_of : (t : Outline) (p : Id) (k : ℕ) (q : CrateRow) → claims t p k q ≡ true → Claim t p q.id k
+claim_of t p k q h =
+    let w = passing_of (λ (l : EdgeRow). is_link p q.id l && (l.place == k)) t.links h in
     let e = and_parts _ _ w.passes in
-    record { between = record { link = w.from; member = f.0; parent = f.1; child = id_is w.from.edge.child q e.0 }; at = (Decides-eqb w.from.place k).0 e.1 }
+    let is = is_between_them p q.id w.from e.0 in
+    record { between = record { link = w.from; member = w.member; parent = is.0; child = is.1 }; at = (Decides-eqb w.from.place k).0 e.1 }
 
-claim_by : (t : Outline) (p q : Id) (k : ℕ) → Claim t p q k → list_any (claims_at k q) (from_crate t p) ≡ true
-claim_by t p q k w =
+claim_by : (t : Outline) (p : Id) (k : ℕ) (q : CrateRow) → Claim t p q.id k → claims t p k q ≡ true
+claim_by t p k q w =
     let b = w.between in
-    member_any (claims_at k q) (from_crate t p) b.link (in_from t p b.link b.member b.parent)
-    (and_from _ _ (subst (λ i. id_eq b.link.edge.child i ≡ true) b.child (id_same b.link.edge.child)) ((Decides-eqb b.link.place k).1 w.at))
+    member_any (λ (l : EdgeRow). is_link p q.id l && (l.place == k)) t.links b.link b.member (and_from _ _ (links_them p q.id b.link b.parent b.child) ((Decides-eqb b.link.place k).1 w.at))
 
-pub claimant_of : (t : Outline) (p : Id) (k : ℕ) (q : CrateRow) → claimant t (from_crate t p) k ≡ Some q → Member t.krates q × Claim t p q.id k
-claimant_of t p k q e = elim (last_of None (filter (claims (from_crate t p) k) t.krates) q e) [
+pub claimant_of : (t : Outline) (p : Id) (k : ℕ) (q : CrateRow) → claimant t p k ≡ Some q → Member t.krates q × Claim t p q.id k
+claimant_of t p k q e = elim (last_of None (filter (claims t p k) t.krates) q e) [
   | inl none ↦ absurd (none-some q none)
-  | inr m ↦ (let w = kept_of (claims (from_crate t p) k) t.krates q m in (w.0, claim_of t p q.id k w.1))
+  | inr m ↦ (let w = kept_of (claims t p k) t.krates q m in (w.0, claim_of t p k q w.1))
 ]
 
 -- if any crate claims the place, one does so last
-some_claimant : (t : Outline) (p : Id) (k : ℕ) (q : CrateRow) → Member t.krates q → Claim t p q.id k → (z : CrateRow) × (claimant t (from_crate t p) k ≡ Some z)
-some_claimant t p k q m w = last_there None (filter (claims (from_crate t p) k) t.krates) q (member_filter (claims (from_crate t p) k) t.krates q (claim_by t p q.id k w) m)
+some_claimant : (t : Outline) (p : Id) (k : ℕ) (q : CrateRow) → Member t.krates q → Claim t p q.id k → (z : CrateRow) × (claimant t p k ≡ Some z)
+some_claimant t p k q m w = last_there None (filter (claims t p k) t.krates) q (member_filter (claims t p k) t.krates q (claim_by t p k q w) m)
 
 pub image_of : {A B : Type 0} (f : A → B) (o : Option A) (y : B) → option_map f o ≡ Some y → (x : A) × (o ≡ Some x) × (f x ≡ y)
 image_of f None y e = absurd (none-some y e)
@@ -134,9 +137,8 @@ leads r s t p d h at_p at_d w =
     let node = crate_node t p at_p in
     let here = same_Some _ _ (sym w.at ∙ node.at) in
     let same : w.mapping ≡ mapping t node.krate = mapping_of w.id w.mapping (PlannedCrate node.krate.id (mapping t node.krate)) (sym here) in
-    let mine = from_crate t node.krate.id in
-    let entry = mapped_of (mapped t mine) (range_with_len 0 node.krate.declared) (Some (crate_number t d)) (member_of (mapping t node.krate) (Some (crate_number t d)) (subst (λ m. Contains m (Some (crate_number t d))) same w.among)) in
-    let q = image_of (λ z. crate_number t z.id) (claimant t mine entry.from) (crate_number t d) entry.is in
+    let entry = mapped_of (mapped t node.krate.id) (range_with_len 0 node.krate.declared) (Some (crate_number t d)) (member_of (mapping t node.krate) (Some (crate_number t d)) (subst (λ m. Contains m (Some (crate_number t d))) same w.among)) in
+    let q = image_of (λ z. crate_number t z.id) (claimant t node.krate.id entry.from) (crate_number t d) entry.is in
     let claim = claimant_of t node.krate.id entry.from q.0 q.1 in
     let kept : HasCrate t (q.0).id = record { krate = q.0; member = claim.0; id = refl } in
     let is : (q.0).id ≡ d = one_crate t (q.0).id d kept at_d q.2 in
@@ -187,8 +189,8 @@ one_claims r s t p q z k h one a b =
     let same : a.between.link.edge.child ≡ b.between.link.edge.child = one k a.between.link.edge b.between.link.edge (kept_at r s t p q k h a) (kept_at r s t p z k h b) in
     subst (λ i. q ≡ i) b.between.child (subst (λ i. i ≡ b.between.link.edge.child) a.between.child same)
 
-mapped_is : (t : Outline) (mine : List EdgeRow) (k : ℕ) (q : CrateRow) (d : Id) → claimant t mine k ≡ Some q → q.id ≡ d → mapped t mine k ≡ Some (crate_number t d)
-mapped_is t mine k q d e is = ap (option_map (λ (z : CrateRow). crate_number t z.id)) e ∙ ap (λ i. Some (crate_number t i)) is
+mapped_is : (t : Outline) (p : Id) (k : ℕ) (q : CrateRow) (d : Id) → claimant t p k ≡ Some q → q.id ≡ d → mapped t p k ≡ Some (crate_number t d)
+mapped_is t p k q d e is = ap (option_map (λ (z : CrateRow). crate_number t z.id)) e ∙ ap (λ i. Some (crate_number t i)) is
 
 depends : (r : Resolved) (s : SettingModel) (t : Outline) (p d : Id) → NoneDoubled r.metadata r.graph → Holds r s t → HasCrate t p → HasCrate t d → OneEach r s p → LeadsBetween t p d
     → DependsOn (planned_nodes t) (crate_number t p) (crate_number t d)
@@ -203,9 +205,9 @@ depends r s t p d none h at_p at_d one w =
     let claim = claimant_of t parent k z.0 z.1 in
     let same = one_claims r s t parent (z.0).id at_d.krate.id k h (subst (OneEach r s) (sym node.id) one) claim.1 mine in
     let is : (z.0).id ≡ d = subst (λ i. (z.0).id ≡ i) at_d.id same in
-    let entry = mapped_is t (from_crate t parent) k z.0 d z.1 is in
+    let entry = mapped_is t parent k z.0 d z.1 is in
     let below = place_below r s t node.krate b.link none h node.member b.member b.parent in
-    let there = member_map (mapped t (from_crate t parent)) (range_with_len 0 node.krate.declared) k (in_range 0 node.krate.declared k (omega arith) (omega (arith, below))) in
+    let there = member_map (mapped t parent) (range_with_len 0 node.krate.declared) k (in_range 0 node.krate.declared k (omega arith) (omega (arith, below))) in
     record { id = parent; mapping = mapping t node.krate; at = node.at; among = contains_of (mapping t node.krate) (Some (crate_number t d)) (subst (Member (mapping t node.krate)) entry there) }
 
 -- ---- the law

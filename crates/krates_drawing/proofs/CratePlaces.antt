@@ -1,10 +1,11 @@
 -- Crates of an outline by number: the number is the place, and their ids compare as their numbers.
-use Rattle.std.proofs.Common.{◌≡◌, Bool, ℕ, zero, suc, ◌<◌, ◌==◌, List, [], ◌∷◌, Some, Ok, All, filter, get_or, length, map, option_map, refl, sym, ap, ◌∙◌}
+use Rattle.std.proofs.Common.{◌≡◌, Bool, ℕ, zero, suc, ◌+◌, ◌<◌, ◌==◌, ◌&&◌, List, [], ◌∷◌, Some, Ok, All, filter, get_or, length, map, option_map, refl, sym, ap, ◌∙◌, subst, arith}
 use Rattle.std.proofs.lemmas.Cmp.{tied_itself}
 use Rattle.std.proofs.lemmas.List.{length-map}
+use Rattle.std.proofs.lemmas.List.FromFn.{get_or-range_with_len, length-range_with_len}
 use Rattle.std.proofs.lemmas.Option.{slice_get-get_or, slice_get-map, get_or_from_slice_get}
 use Rattle.std.specs.Cmp.{unsigned_ties}
-use Rattle.std.specs.List.{list_any, slice_get}
+use Rattle.std.specs.List.{list_any, range_with_len, slice_get}
 use Rattle.std.specs.List.Sorted.{IsStrictlySortedBy}
 use Rattle.std.specs.Prelude.{⊤}
 use Rattle.std.specs.Ordering.{is_eq, nat_cmp}
@@ -13,17 +14,16 @@ use Rattle.krates_selection.proofs.ByNumber.{compared_by_place}
 use Rattle.krates_selection.proofs.CrateNumbers.{seen_id}
 use Rattle.krates_selection.specs.Selection.{HasCrates, HasEnds, id_at}
 use Rattle.krates_selection.specs.declared.selection.ToggledFeature.{ToggledFeature}
-use Rattle.krates_rules.specs.Facts.{Id}
 use Rattle.krates_rules.specs.Referent.{id_order}
 use Rattle.krates_rules.specs.Resolved.{id_of}
-use Rattle.krates_drawing.specs.Drawing.{id_eq, is_crate, is_from, is_to, place_of}
-use Rattle.krates_drawing.specs.Outline.{Toggle}
-use Rattle.krates_drawing.specs.OutlineOrder.{has_child, has_krate, is_by}
+use Rattle.krates_drawing.specs.Drawing.{id_eq, is_between, is_crate, is_link, place_of}
+use Rattle.krates_drawing.specs.Outline as model
+use Rattle.krates_drawing.specs.OutlineOrder.{has_by, has_ends, has_krate}
 use Rattle.krates_drawing.specs.Views.{kids_of, crate_row_view, edge_row_view, no_krate, toggle_of}
 use Rattle.krates_drawing.specs.declared.outline.CrateRow.{CrateRow}
 use Rattle.krates_drawing.specs.declared.outline.EdgeRow.{EdgeRow}
 use Rattle.krates_drawing.proofs.EqualRanges.{searched}
-use Rattle.krates_drawing.proofs.Tests.{any_seen, equal_ids, equal_order, filter_seen, has_by, has_parent, ids_total, place_seen}
+use Rattle.krates_drawing.proofs.Tests.{and_same, any_seen, equal_ids, equal_order, filter_seen, ids_total, maps_alike, place_seen}
 
 abbrev pub AreInOrder : List CrateRow → Type 0
 AreInOrder ks = IsStrictlySortedBy id_cmp (kids_of ks)
@@ -76,29 +76,54 @@ own_number ks n sorted lt =
     let at = slice_get-get_or ks n d lt in
     ap (λ i. place_of (is_crate i) (map crate_row_view ks)) (kid_here ks n k lt at) ∙ place_here ks n k sorted lt at
 
--- ---- edges and toggled features of a crate, by number
+-- ---- edges and toggled features between two crates, by number
 
-pub seen_from : (ks : List CrateRow) (p : ℕ) (xs : List EdgeRow) → AreInOrder ks → p < length ks → All (λ l. HasEnds (length ks) l.edge) xs
-    → filter (is_from (id_at (kids_of ks) p)) (map (edge_row_view (kids_of ks)) xs) ≡ map (edge_row_view (kids_of ks)) (filter (has_parent p) xs)
-seen_from ks p xs sorted lt ends = filter_seen (λ (l : EdgeRow). HasEnds (length ks) l.edge) (edge_row_view (kids_of ks)) (is_from (id_at (kids_of ks) p)) (has_parent p) xs ends (λ l e. same_ids ks l.edge.parent p sorted e.parent lt)
+module _ (ks : List CrateRow) (p q : ℕ) (sorted : AreInOrder ks) (from : p < length ks) (to : q < length ks) where
+  same_ends : (l : EdgeRow) → HasEnds (length ks) l.edge → has_ends p q l ≡ is_link (id_at (kids_of ks) p) (id_at (kids_of ks) q) (edge_row_view (kids_of ks) l)
+  same_ends l e = and_same _ _ _ _ (same_ids ks l.edge.parent p sorted e.parent from) (same_ids ks l.edge.child q sorted e.child to)
 
-pub seen_to : (ks : List CrateRow) (q : ℕ) (xs : List EdgeRow) → AreInOrder ks → q < length ks → All (λ l. HasEnds (length ks) l.edge) xs
-    → filter (is_to (id_at (kids_of ks) q)) (map (edge_row_view (kids_of ks)) xs) ≡ map (edge_row_view (kids_of ks)) (filter (has_child q) xs)
-seen_to ks q xs sorted lt ends = filter_seen (λ (l : EdgeRow). HasEnds (length ks) l.edge) (edge_row_view (kids_of ks)) (is_to (id_at (kids_of ks) q)) (has_child q) xs ends (λ l e. same_ids ks l.edge.child q sorted e.child lt)
+  pub links_between : (xs : List EdgeRow) → All (λ l. HasEnds (length ks) l.edge) xs
+      → filter (is_link (id_at (kids_of ks) p) (id_at (kids_of ks) q)) (map (edge_row_view (kids_of ks)) xs) ≡ map (edge_row_view (kids_of ks)) (filter (has_ends p q) xs)
+  links_between xs ends = filter_seen (λ (l : EdgeRow). HasEnds (length ks) l.edge) (edge_row_view (kids_of ks)) (is_link (id_at (kids_of ks) p) (id_at (kids_of ks) q)) (has_ends p q) xs ends same_ends
 
--- whether an edge leads to the crate
-pub led_to : (ks : List CrateRow) (q : ℕ) (xs : List EdgeRow) → AreInOrder ks → q < length ks → All (λ l. HasEnds (length ks) l.edge) xs
-    → list_any (is_to (id_at (kids_of ks) q)) (map (edge_row_view (kids_of ks)) xs) ≡ list_any (has_child q) xs
-led_to ks q xs sorted lt ends = any_seen (λ (l : EdgeRow). HasEnds (length ks) l.edge) (edge_row_view (kids_of ks)) (is_to (id_at (kids_of ks) q)) (has_child q) xs ends (λ l e. same_ids ks l.edge.child q sorted e.child lt)
+  -- whether there is one
+  pub linked : (xs : List EdgeRow) → All (λ l. HasEnds (length ks) l.edge) xs
+      → list_any (is_link (id_at (kids_of ks) p) (id_at (kids_of ks) q)) (map (edge_row_view (kids_of ks)) xs) ≡ list_any (has_ends p q) xs
+  linked xs ends = any_seen (λ (l : EdgeRow). HasEnds (length ks) l.edge) (edge_row_view (kids_of ks)) (is_link (id_at (kids_of ks) p) (id_at (kids_of ks) q)) (has_ends p q) xs ends same_ends
 
-pub seen_by : (ks : List CrateRow) (p : ℕ) (xs : List ToggledFeature) → AreInOrder ks → p < length ks → All (HasCrates (length ks)) xs
-    → filter (is_by (id_at (kids_of ks) p)) (map (toggle_of (kids_of ks)) xs) ≡ map (toggle_of (kids_of ks)) (filter (has_by p) xs)
-seen_by ks p xs sorted lt crates = filter_seen (HasCrates (length ks)) (toggle_of (kids_of ks)) (is_by (id_at (kids_of ks) p)) (has_by p) xs crates (λ t e. same_ids ks t.by p sorted e.by lt)
+  -- whether there is one with the declared dependency at a place as its own
+  pub claimed : (place : ℕ) (xs : List EdgeRow) → All (λ l. HasEnds (length ks) l.edge) xs
+      → list_any (λ l. is_link (id_at (kids_of ks) p) (id_at (kids_of ks) q) l && (l.place == place)) (map (edge_row_view (kids_of ks)) xs) ≡ list_any (λ l. has_ends p q l && (l.edge.declared == place)) xs
+  claimed place xs ends =
+      any_seen (λ (l : EdgeRow). HasEnds (length ks) l.edge) (edge_row_view (kids_of ks)) (λ l. is_link (id_at (kids_of ks) p) (id_at (kids_of ks) q) l && (l.place == place)) (λ l. has_ends p q l && (l.edge.declared == place)) xs ends
+      (λ l e. ap (λ b. b && (l.edge.declared == place)) (same_ends l e))
 
--- whether it is a feature of the crate
-abbrev pub is_in : Id → Toggle → Bool
-is_in q t = id_eq t.krate q
+  pub toggles_between : (xs : List ToggledFeature) → All (HasCrates (length ks)) xs
+      → filter (is_between (id_at (kids_of ks) p) (id_at (kids_of ks) q)) (map (toggle_of (kids_of ks)) xs) ≡ map (toggle_of (kids_of ks)) (filter (λ t. has_by p t && has_krate q t) xs)
+  toggles_between xs crates =
+      filter_seen (HasCrates (length ks)) (toggle_of (kids_of ks)) (is_between (id_at (kids_of ks) p) (id_at (kids_of ks) q)) (λ t. has_by p t && has_krate q t) xs crates
+      (λ t e. and_same _ _ _ _ (same_ids ks t.by p sorted e.by from) (same_ids ks t.krate q sorted e.krate to))
 
-pub seen_in : (ks : List CrateRow) (q : ℕ) (xs : List ToggledFeature) → AreInOrder ks → q < length ks → All (HasCrates (length ks)) xs
-    → filter (is_in (id_at (kids_of ks) q)) (map (toggle_of (kids_of ks)) xs) ≡ map (toggle_of (kids_of ks)) (filter (has_krate q) xs)
-seen_in ks q xs sorted lt crates = filter_seen (HasCrates (length ks)) (toggle_of (kids_of ks)) (is_in (id_at (kids_of ks) q)) (has_krate q) xs crates (λ t e. same_ids ks t.krate q sorted e.krate lt)
+-- ---- all crates, by number
+
+shifted : {A : Type 0} (f : ℕ → A) (a n : ℕ) → map f (range_with_len (a + 1) n) ≡ map (λ k. f (k + 1)) (range_with_len a n)
+shifted f a zero = refl
+shifted f a (suc n) = ap (λ ys. f (a + 1) ∷ ys) (shifted f (a + 1) n)
+
+-- a list is that of its elements, place by place
+by_place : {A : Type 0} (xs : List A) (d : A) → map (λ n. get_or xs n d) (range_with_len 0 (length xs)) ≡ xs
+by_place [] d = refl
+by_place {A} (x ∷ xs) d = ap (λ (ys : List A). x ∷ ys) (shifted (λ n. get_or (x ∷ xs) n d) 0 (length xs) ∙ maps_alike (λ k. get_or (x ∷ xs) (k + 1) d) (λ k. get_or xs k d) (λ k. (let e : k + 1 ≡ suc k = omega arith in ap (λ n. get_or (x ∷ xs) n d) e)) (range_with_len 0 (length xs)) ∙ by_place xs d)
+
+pub all_below : (n : ℕ) → All (λ k. k < n) (range_with_len 0 n)
+all_below n i d lt =
+    let within : i < n = omega (arith, lt, length-range_with_len 0 n) in
+    omega (arith, get_or-range_with_len 0 n i d within, within)
+
+-- the crates that pass a test have the numbers that pass it
+pub crates_seen : (ks : List CrateRow) (p : model.CrateRow → Bool) (q : ℕ → Bool) → ((n : ℕ) → n < length ks → q n ≡ p (get_or (map crate_row_view ks) n no_krate))
+    → filter p (map crate_row_view ks) ≡ map (λ n. get_or (map crate_row_view ks) n no_krate) (filter q (range_with_len 0 (length ks)))
+crates_seen ks p q same =
+    let qs = map crate_row_view ks in
+    let all : map (λ n. get_or qs n no_krate) (range_with_len 0 (length ks)) ≡ qs = subst (λ n. map (λ k. get_or qs k no_krate) (range_with_len 0 n) ≡ qs) (length-map ks crate_row_view) (by_place qs no_krate) in
+    ap (filter p) (sym all) ∙ filter_seen (λ n. n < length ks) (λ n. get_or qs n no_krate) p q (range_with_len 0 (length ks)) (all_below (length ks)) same

@@ -2,11 +2,13 @@
 use Rattle.std.proofs.Common.{◌≡◌, ℕ, zero, suc, ◌+◌, ◌<◌, ◌≤◌, Bool, true, false, List, [], ◌∷◌, length, get_or, take, drop, map, filter, cond, Result, Ok, Err, Ordering, Less, Equal, Greater, refl, sym, ap, ◌∙◌, subst, inl, inr, arith}
 use Rattle.std.proofs.lemmas.Bool.{cases_lt}
 use Rattle.std.proofs.lemmas.Map.Keys.{Less-from_sorted}
-use Rattle.std.proofs.lemmas.List.{get_or-drop, get_or-map, get_or-take, length-drop, length-map, length-take}
+use Rattle.std.proofs.lemmas.List.Folds.{list_any-from_Any, list_any_none}
+use Rattle.std.proofs.lemmas.List.{get_or_default, get_or-drop, get_or-map, get_or-take, length-drop, length-map, length-take}
 use Rattle.std.specs.Cmp.{IsTotalOrder}
 use Rattle.std.specs.List.Sorted.{IsBinarySearchResult, IsNonDecreasingBy, IsPartitionedBy, IsPartitionPoint, IsSearchInRange, IsStrictlySortedBy}
 use Rattle.std.specs.Ordering.{is_eq, is_lt, ordering_index, ordering_reverse}
-use Rattle.std.specs.Result.{result_unwrap_or}
+use Rattle.std.specs.List.{list_any}
+use Rattle.std.specs.Result.{is_ok, result_unwrap_or}
 use Rattle.krates_drawing.specs.Drawing.{place_of}
 use Rattle.krates_rules.proofs.BinarySearch.{step}
 
@@ -137,7 +139,7 @@ cut ord xs one two rest mine n m first second back front rises low high =
 pub cut_is : {A : Type 0} (ord : A → Ordering) (xs mine : List A) → IsCut ord xs mine → mine ≡ filter (λ y. is_eq (ord y)) xs
 cut_is ord xs mine w = w.is ∙ sym (stretch ord xs w.n w.m w.low w.high)
 
--- where an element of the run stands
+-- where an element of the run is
 pub record StandsIn {A : Type 0} (ord : A → Ordering) (xs mine : List A) (from k : ℕ) (d : A) : Type 0 where
   pub within : from + k < length xs
   pub same : get_or mine k d ≡ get_or xs (from + k) d
@@ -170,9 +172,19 @@ unequal Less h = refl
 unequal Equal h = absurd (h refl)
 unequal Greater h = refl
 
-head_of : {A : Type 0} (xs : List A) (n : ℕ) → n < length xs → A
+pub head_of : {A : Type 0} (xs : List A) (n : ℕ) → n < length xs → A
 head_of [] n lt = absurd (omega (arith, lt))
 head_of (x ∷ xs) n lt = x
+
+-- a search among elements that rise finds one where one is equal
+pub some_found : {A : Type 0} (ord : A → Ordering) (xs : List A) (r : Result ℕ ℕ) → IsNonDecreasingBy (λ y. ordering_index (ord y)) xs → IsSearchInRange r (length xs) → IsBinarySearchResult ord xs r → is_ok r ≡ list_any (λ y. is_eq (ord y)) xs
+some_found ord xs (Ok n) rises lt h = let d = head_of xs n lt in sym (list_any-from_Any (λ y. is_eq (ord y)) xs (n, get_or xs n d, lt, sym (get_or_default xs n d (get_or xs n d) lt), ap is_eq (h d)))
+some_found ord xs (Err n) rises le h =
+    let parted = h rises in
+    sym (list_any_none (λ y. is_eq (ord y)) xs (λ k d lt. unequal _ (λ same. elim (cases_lt k n) [
+      | inl l ↦ (let less = parted.0 k d (omega arith) l in cc (less, same))
+      | inr g ↦ (let greater = parted.1 k d g lt in cc (greater, same))
+    ])))
 
 module _ {K : Type 0} {R : K → K → Ordering} (o : IsTotalOrder R) where
   earlier : {A : Type 0} (key : A → K) (xs : List A) (q : K) (n k : ℕ) (d : A) → IsStrictlySortedBy R (map key xs) → n < length xs → R (key (get_or xs n d)) q ≡ Equal → k < n → is_eq (R (key (get_or xs k d)) q) ≡ false

@@ -1,4 +1,4 @@
--- A feature of an outline stands where a search finds it.
+-- A feature of an outline is where a search finds it.
 use Rattle.std.proofs.Common.{◌≡◌, ◌<◌, ℕ, List, Some, Ok, All, Result, length, map, ◌&&◌, sym, ap, ◌∙◌, subst}
 use Rattle.std.proofs.lemmas.Cmp.{tied_itself}
 use Rattle.std.proofs.lemmas.Option.{get_or_from_slice_get, slice_get_within}
@@ -24,7 +24,7 @@ feature_seen ks xs q f sorted lt homes =
     place_seen (λ (n : FeatureRow). HasHome (length ks) n.feature) (feature_row_view (kids_of ks)) (is_feature (id_at (kids_of ks) q) f) (λ (n : FeatureRow). is_eq (named_cmp (feature_key n) (q, f))) xs homes
     (λ n h. equal_named n.feature.krate q (text_view n.feature.name) f ∙ ap (λ b. b && bytes_eq (text_view n.feature.name) f) (same_ids ks n.feature.krate q sorted h lt))
 
--- and stands at the place that a search returns
+-- and is at the place that a search returns
 pub place_found : (ks : List CrateRow) (xs ys : List FeatureRow) (q : ℕ) (f : Text) (r : Result ℕ ℕ) → AreInOrder ks → q < length ks → All (λ n. HasHome (length ks) n.feature) xs → IsStrictlySortedBy feature_cmp (map (λ (m : FeatureRow). m.feature) xs)
     → ys ≡ xs → IsSearchInRange r (length ys) → IsBinarySearchResult (λ (n : FeatureRow). named_cmp (feature_key n) (q, f)) ys r → result_unwrap_or r (length xs) ≡ place_of (is_feature (id_at (kids_of ks) q) f) (map (feature_row_view (kids_of ks)) xs)
 place_found ks xs ys q f r sorted lt homes in_order same bound at =
@@ -32,7 +32,7 @@ place_found ks xs ys q f r sorted lt homes in_order same bound at =
     let found = subst (λ (l : List FeatureRow). IsBinarySearchResult (λ (n : FeatureRow). named_cmp (feature_key n) (q, f)) l r) same at in
     sym (feature_seen ks xs q f sorted lt homes ∙ searched named_total feature_key xs (q, f) r (features_in_order xs in_order) range found)
 
--- the place of a feature is where it stands
+-- a feature that is at a place is found there
 pub own_place : (ks : List CrateRow) (xs : List FeatureRow) (place : ℕ) (n : FeatureRow) → AreInOrder ks → All (λ n. HasHome (length ks) n.feature) xs → IsStrictlySortedBy feature_cmp (map (λ (m : FeatureRow). m.feature) xs)
     → slice_get xs place ≡ Some n → place_of (is_feature (id_at (kids_of ks) n.feature.krate) (text_view n.feature.name)) (map (feature_row_view (kids_of ks)) xs) ≡ place
 own_place ks xs place n sorted homes in_order at =

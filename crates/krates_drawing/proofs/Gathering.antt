@@ -93,7 +93,7 @@ krate_recorded r i t some w =
     let p = some_package r (id_of i) (package_in t) w.pkg some in
     record { pkg = p.0; has_package = subst (λ (k : Identity). HasPackage r (id_of k) p.0) (sym w.krate) p.2; declared = ap declared_in p.1 }
 
--- the declared dependency of an edge stands at its place in the list of the parent's package
+-- the declared dependency of an edge is at its place in the list of the parent's package
 at_place : (r : Resolved) (s : SettingModel) (kids : List Identity) (e : KeptEdge) (w : IsPlaced r s kids e) (p : PackageModel) → NoneDoubled r.metadata r.graph → HasPackage r (id_at kids e.parent) p
     → slice_get p.dependencies e.declared ≡ Some w.dependency
 at_place r s kids e w p none h =

@@ -16,7 +16,6 @@ pub mod Gathering
 pub mod HeldTexts
 pub mod Holding
 pub mod Ignoring
-pub mod Joined
 pub mod Mapped
 pub mod NarrowerOutline
 pub mod NodeNumbers
@@ -28,7 +27,6 @@ pub mod Placed
 pub mod Rebuilt
 pub mod SaidAlike
 pub mod SearchedKrates
-pub mod Sources
 pub mod Standing
 pub mod StoredEdges
 pub mod Storing

@@ -1,126 +1,144 @@
--- Which crate a declared dependency is mapped to, edge by edge.
-use Rattle.std.proofs.Common.{◌≡◌, ℕ, ◌+◌, ◌<◌, ◌≤◌, ◌==◌, Bool, true, false, ◌||◌, ◌&&◌, List, [], ◌∷◌, length, get_or, take, map, filter, arith, cond, Option, Some, None, option_map, slice_get, replicate, set, Greater, refl, sym, ap, ◌∙◌}
-use Rattle.std.proofs.lemmas.Bool.{and_parts, ne_eqb}
+-- Which crate a declared dependency is mapped to, edge by edge and by number.
+use Rattle.std.proofs.Common.{◌≡◌, ℕ, zero, suc, ◌+◌, ◌<◌, ◌≤◌, ◌==◌, Bool, true, false, ◌||◌, ◌&&◌, List, [], ◌∷◌, All, length, get_or, take, map, filter, arith, cond, inl, inr, Option, Some, None, option_map, slice_get, replicate, set, refl, sym, ap, ◌∙◌, subst}
+use Rattle.std.proofs.Math.Bool.{and_assoc}
+use Rattle.std.proofs.lemmas.Bool.{and_parts, cases_lt, ne_eqb}
 use Rattle.std.proofs.lemmas.List.{get_or-map}
-use Rattle.std.proofs.lemmas.List.Elements.{filter_agree}
-use Rattle.std.specs.List.{range_with_len}
-use Rattle.std.specs.Ordering.{is_eq}
+use Rattle.std.proofs.lemmas.List.Elements.{All-filter, All-head, All-tail, filter_agree}
+use Rattle.std.proofs.lemmas.List.Folds.{list_any_more}
+use Rattle.std.specs.List.{list_any, range_with_len}
 use Rattle.krates_selection.specs.Selection.{id_at}
-use Rattle.krates_rules.specs.Referent.{id_order}
-use Rattle.krates_drawing.specs.Drawing.{claims, claims_at, crate_number, is_crate, is_to, from_crate, last_from, mapped, mapping}
+use Rattle.krates_drawing.specs.Drawing.{claims, crate_number, last_from, mapped, mapping}
 use Rattle.krates_drawing.specs.Outline as model
-use Rattle.krates_drawing.specs.OutlineOrder.{AreByChild, IsClaimed, claimed_of, number_of}
-use Rattle.krates_drawing.specs.Views.{kids_in, krate_at, crate_row_view, edge_row_view, no_krate, outline_view}
+use Rattle.krates_drawing.specs.OutlineOrder.{AreByChild, IsClaimed, claimed_of, claims_at, has_child, has_parent, mapped_over}
+use Rattle.krates_drawing.specs.Views.{kids_in, krate_at, crate_row_view, no_krate, outline_view}
 use Rattle.krates_drawing.specs.declared.outline.CrateRow.{CrateRow}
 use Rattle.krates_drawing.specs.declared.outline.EdgeRow.{EdgeRow}
 use Rattle.krates_drawing.specs.declared.outline.Outline.{Outline}
-use Rattle.krates_drawing.proofs.Children.{AreWithin, crates_in_order, not_above, number_found, seen_as, seen_more, these, to_next}
-use Rattle.krates_drawing.proofs.CratePlaces.{AreInOrder, id_of_krate}
+use Rattle.krates_drawing.proofs.Children.{none_behind, none_from, not_above, this_passes}
+use Rattle.krates_drawing.proofs.CratePlaces.{all_below, claimed, crates_seen, id_of_krate, own_number}
 use Rattle.krates_rules.proofs.ListEntries.{all_alike, entries_changed, entries_kept, entry_changed, same_entries}
-use Rattle.krates_drawing.proofs.Joined.{either, last_joined}
-use Rattle.krates_drawing.proofs.Tests.{equal_self, order_total}
+use Rattle.krates_drawing.proofs.Tests.{any_alike, any_within, equal_self, maps_alike}
 
-seen_last : {A B : Type 0} (f : A → B) (o : Option A) (xs : List A) → option_map f (last_from o xs) ≡ last_from (option_map f o) (map f xs)
-seen_last f o [] = refl
-seen_last f o (x ∷ xs) = seen_last f (Some x) xs
+-- ---- the last number that passes a test
+
+-- one number more passes, and no other is above it: then it is the last
+last_more : (p q : ℕ → Bool) (c : ℕ) → ((n : ℕ) → q n ≡ (p n || (c == n))) → ((n : ℕ) → p n ≡ true → n ≤ c) → (a len : ℕ) (o : Option ℕ) → a ≤ c → c < a + len → last_from o (filter q (range_with_len a len)) ≡ Some c
+last_more p q c same low a zero o le lt = absurd (omega (arith, le, lt))
+last_more p q c same low a (suc len) o le lt =
+    let rest = range_with_len (a + 1) len in
+    elim (cases_lt a c) [
+      | inl l ↦ step (q a) a (filter q rest) (λ m. last_more p q c same low (a + 1) len m (omega (arith, l)) (omega (arith, lt)))
+      | inr g ↦ (
+          let e : c ≡ a = omega (arith, g, le) in
+          let here : q a ≡ true = subst (λ n. q n ≡ true) e (this_passes p q c same) in
+          let none : filter q rest ≡ [] = none_from q (a + 1) len (λ n l. none_behind p q c same low n (omega (arith, l, e))) in
+          ap (λ b. last_from o (cond b (a ∷ filter q rest) (filter q rest))) here ∙ ap (last_from (Some a)) none ∙ ap Some (sym e))
+    ]
+  where
+    step : (b : Bool) (a : ℕ) (xs : List ℕ) → ((m : Option ℕ) → last_from m xs ≡ Some c) → last_from o (cond b (a ∷ xs) xs) ≡ Some c
+    step true a xs more = more (Some a)
+    step false a xs more = more o
+
+-- ---- one more edge
 
 -- what the edges so far map to, and what one more changes
-more_step : (s : Outline) (mine : List EdgeRow) (i : ℕ) (x : EdgeRow) (place : ℕ) (b : Bool) → (x.edge.declared == place) ≡ b → AreInOrder s.krates.items → AreWithin s.krates.items mine → AreByChild mine → i < length mine → x ≡ get_or mine i x
-    → mapped (outline_view s) (map (edge_row_view (kids_in s)) (take (i + 1) mine)) place
-    ≡ cond b (number_of (outline_view s) (id_at (kids_in s) x.edge.child) (mapped (outline_view s) (map (edge_row_view (kids_in s)) (take i mine)) place)) (mapped (outline_view s) (map (edge_row_view (kids_in s)) (take i mine)) place)
-more_step s mine i x place false e sorted within by lt is =
-    let t = outline_view s in
-    let v = edge_row_view (kids_in s) in
-    let now : model.CrateRow → Bool = claims (map v (take i mine)) place in
-    let next : model.CrateRow → Bool = claims (map v (take (i + 1) mine)) place in
-    ap (λ l. option_map (λ (q : model.CrateRow). crate_number t q.id) (last_from None l)) (filter_agree next now (λ q.
-    seen_more v (claims_at place q.id) mine i x lt is ∙ ap (λ b. now q || (is_to q.id (v x) && b)) e ∙ never (now q) (is_to q.id (v x))) t.krates)
+more_step : (count : ℕ) (mine : List EdgeRow) (i : ℕ) (x : EdgeRow) (place : ℕ) (b : Bool) → (x.edge.declared == place) ≡ b → x.edge.child < count → AreByChild mine → i < length mine → x ≡ get_or mine i x
+    → mapped_over count (take (i + 1) mine) place ≡ cond b (Some x.edge.child) (mapped_over count (take i mine) place)
+more_step count mine i x place b e within by lt is = by_case b e
   where
-    never : (a b : Bool) → (a || (b && false)) ≡ a
-    never true b = refl
+    now : ℕ → Bool
+    now n = list_any (claims_at place n) (take i mine)
+
+    next : ℕ → Bool
+    next n = list_any (claims_at place n) (take (i + 1) mine)
+
+    seen : (n : ℕ) → next n ≡ (now n || ((x.edge.child == n) && (x.edge.declared == place)))
+    seen n = list_any_more (claims_at place n) mine i x lt ∙ ap (λ (l : EdgeRow). now n || claims_at place n l) (sym is)
+
+    never : (a c : Bool) → (a || (c && false)) ≡ a
+    never true c = refl
     never false true = refl
     never false false = refl
-more_step s mine i x place true e sorted within by lt is =
-    let t = outline_view s in
-    let v = edge_row_view (kids_in s) in
-    let c = id_at (kids_in s) x.edge.child in
-    let now : model.CrateRow → Bool = claims (map v (take i mine)) place in
-    let next : model.CrateRow → Bool = claims (map v (take (i + 1) mine)) place in
-    let equal : model.CrateRow → Bool = λ q. is_eq (id_order q.id c) in
-    let low : (q : model.CrateRow) → now q ≡ true → id_order q.id c ≡ Greater → ⊥ = λ q h.
-    not_above s.krates.items (claims_at place q.id) mine i x q.id sorted within by lt is (seen_as v (claims_at place q.id) mine i h) (λ l t. (and_parts _ _ t).0) in
-    let filtered : filter next t.krates ≡ filter (either now equal) t.krates = filter_agree next (either now equal) (λ q.
-    seen_more v (claims_at place q.id) mine i x lt is ∙ ap (λ b. now q || (is_to q.id (v x) && b)) e ∙ always (now q) (is_to q.id (v x)) ∙ ap (λ b. now q || b) (to_next c q)) t.krates in
-    let last = last_joined order_total (λ (q : model.CrateRow). q.id) now c t.krates None (crates_in_order s.krates.items sorted) low in
-    ap (λ l. option_map (λ (q : model.CrateRow). crate_number t q.id) (last_from None l)) filtered
-    ∙ ap (option_map (λ (q : model.CrateRow). crate_number t q.id)) (last ∙ ap (last_from (last_from None (filter now t.krates))) (filter_agree equal (is_crate c) (these c) t.krates))
-    ∙ seen_last (λ (q : model.CrateRow). crate_number t q.id) (last_from None (filter now t.krates)) (filter (is_crate c) t.krates)
-  where
-    always : (a b : Bool) → (a || (b && true)) ≡ (a || b)
-    always true b = refl
+
+    always : (a c : Bool) → (a || (c && true)) ≡ (a || c)
+    always true c = refl
     always false true = refl
     always false false = refl
 
-mapped_more : (s : Outline) (mine : List EdgeRow) (i : ℕ) (x : EdgeRow) (place : ℕ) → AreInOrder s.krates.items → AreWithin s.krates.items mine → AreByChild mine → i < length mine → x ≡ get_or mine i x
-    → mapped (outline_view s) (map (edge_row_view (kids_in s)) (take (i + 1) mine)) place ≡ claimed_of (outline_view s) (edge_row_view (kids_in s) x) place (mapped (outline_view s) (map (edge_row_view (kids_in s)) (take i mine)) place)
-mapped_more s mine i x place sorted within by lt is = more_step s mine i x place (x.edge.declared == place) refl sorted within by lt is
-
--- without edges nothing is mapped
-mapped_none : (t : model.Outline) (place : ℕ) → mapped t [] place ≡ None
-mapped_none t place = ap (λ l. option_map (λ (q : model.CrateRow). crate_number t q.id) (last_from None l)) (none t.krates)
-  where
-    none : (ks : List model.CrateRow) → filter (claims [] place) ks ≡ []
-    none [] = refl
-    none (k ∷ ks) = none ks
+    by_case : (b : Bool) → (x.edge.declared == place) ≡ b → last_from None (filter next (range_with_len 0 count)) ≡ cond b (Some x.edge.child) (last_from None (filter now (range_with_len 0 count)))
+    by_case false e = ap (last_from None) (filter_agree next now (λ n. seen n ∙ ap (λ d. now n || ((x.edge.child == n) && d)) e ∙ never (now n) (x.edge.child == n)) (range_with_len 0 count))
+    by_case true e =
+        last_more now next x.edge.child (λ n. seen n ∙ ap (λ d. now n || ((x.edge.child == n) && d)) e ∙ always (now n) (x.edge.child == n))
+        (λ n t. (let le = not_above (claims_at place n) mine i x n by lt (λ l h. (and_parts _ _ h).0) t in subst (λ (l : EdgeRow). n ≤ l.edge.child) (sym is) le)) 0 count None (omega arith) (omega (arith, within))
 
 -- ---- the whole mapping
 
 -- before the first edge
-pub mapping_none : (t : model.Outline) (count : ℕ) → replicate count None ≡ map (mapped t []) (range_with_len 0 count)
-mapping_none t count = all_alike (mapped t []) None (mapped_none t) 0 count
+pub mapping_none : (count size : ℕ) → replicate size None ≡ map (mapped_over count []) (range_with_len 0 size)
+mapping_none count size = all_alike (mapped_over count []) None (λ place. ap (last_from None) (none_from (λ n. list_any (claims_at place n) []) 0 count (λ n le. refl))) 0 size
 
 -- the mapping after one more edge
-pub mapping_more : (s : Outline) (mine : List EdgeRow) (i : ℕ) (x : EdgeRow) (count : ℕ) (old new : List (Option ℕ)) → AreInOrder s.krates.items → AreWithin s.krates.items mine → AreByChild mine → i < length mine → x ≡ get_or mine i x
-    → old ≡ map (mapped (outline_view s) (map (edge_row_view (kids_in s)) (take i mine))) (range_with_len 0 count) → IsClaimed (outline_view s) (edge_row_view (kids_in s) x) old new
-    → new ≡ map (mapped (outline_view s) (map (edge_row_view (kids_in s)) (take (i + 1) mine))) (range_with_len 0 count)
-mapping_more s mine i x count old new sorted within by lt is before claimed =
-    let t = outline_view s in
-    let v = edge_row_view (kids_in s) in
-    let f = mapped t (map v (take i mine)) in
-    let g = mapped t (map v (take (i + 1) mine)) in
-    same_entries new (map g (range_with_len 0 count)) (λ k.
+pub mapping_more : (count : ℕ) (mine : List EdgeRow) (i : ℕ) (x : EdgeRow) (size : ℕ) (old new : List (Option ℕ)) → x.edge.child < count → AreByChild mine → i < length mine → x ≡ get_or mine i x
+    → old ≡ map (mapped_over count (take i mine)) (range_with_len 0 size) → IsClaimed x old new → new ≡ map (mapped_over count (take (i + 1) mine)) (range_with_len 0 size)
+mapping_more count mine i x size old new within by lt is before claimed =
+    let f = mapped_over count (take i mine) in
+    let g = mapped_over count (take (i + 1) mine) in
+    same_entries new (map g (range_with_len 0 size)) (λ k.
     let e : 0 + k ≡ k = omega arith in
-    claimed k ∙ ap (λ l. option_map (claimed_of t (v x) k) (slice_get l k)) before
-    ∙ ap (λ j. option_map (claimed_of t (v x) j) (slice_get (map f (range_with_len 0 count)) k)) (sym e)
-    ∙ sym (entries_changed f g (claimed_of t (v x)) (λ place. mapped_more s mine i x place sorted within by lt is) 0 count k))
+    claimed k ∙ ap (λ l. option_map (claimed_of x k) (slice_get l k)) before
+    ∙ ap (λ j. option_map (claimed_of x j) (slice_get (map f (range_with_len 0 size)) k)) (sym e)
+    ∙ sym (entries_changed f g (claimed_of x) (λ place. more_step count mine i x place (x.edge.declared == place) refl within by lt is) 0 size k))
 
 -- ---- one edge
 
-claimed_here : (t : model.Outline) (l : model.EdgeRow) (found : Option ℕ) → claimed_of t l l.place found ≡ number_of t l.edge.child found
-claimed_here t l found = ap (λ b. cond b (number_of t l.edge.child found) found) (equal_self l.place)
+claimed_elsewhere : (l : EdgeRow) (place : ℕ) (found : Option ℕ) → (place ≡ l.edge.declared → ⊥) → claimed_of l place found ≡ found
+claimed_elsewhere l place found apart = ap (λ b. cond b (Some l.edge.child) found) (ne_eqb l.edge.declared place (λ e. apart (sym e)))
 
-claimed_elsewhere : (t : model.Outline) (l : model.EdgeRow) (place : ℕ) (found : Option ℕ) → (place ≡ l.place → ⊥) → claimed_of t l place found ≡ found
-claimed_elsewhere t l place found apart = ap (λ b. cond b (number_of t l.edge.child found) found) (ne_eqb l.place place (λ e. apart (sym e)))
-
--- its number is written
-pub claimed_by : (s : Outline) (l : EdgeRow) (old : List (Option ℕ)) (n : ℕ) → AreInOrder s.krates.items → l.edge.child < length s.krates.items → n ≡ crate_number (outline_view s) (id_at (kids_in s) l.edge.child) → l.edge.declared < length old
-    → IsClaimed (outline_view s) (edge_row_view (kids_in s) l) old (set old l.edge.declared (Some n))
-claimed_by s l old n sorted within is lt =
-    let t = outline_view s in
-    let v = edge_row_view (kids_in s) l in
-    entry_changed (claimed_of t v) old l.edge.declared (Some n) lt (λ x. claimed_here t v x ∙ sym (number_found s l.edge.child x sorted within) ∙ ap Some (sym is)) (λ j apart x. claimed_elsewhere t v j x apart)
+-- its child is written
+pub claimed_by : (l : EdgeRow) (old : List (Option ℕ)) (n : ℕ) → n ≡ l.edge.child → l.edge.declared < length old → IsClaimed l old (set old l.edge.declared (Some n))
+claimed_by l old n is lt =
+    entry_changed (claimed_of l) old l.edge.declared (Some n) lt (λ x. ap (λ b. cond b (Some l.edge.child) x) (equal_self l.edge.declared) ∙ ap Some (sym is)) (λ j apart x. claimed_elsewhere l j x apart)
 
 -- or nothing
-pub none_claimed : (s : Outline) (l : EdgeRow) (old : List (Option ℕ)) → length old ≤ l.edge.declared → IsClaimed (outline_view s) (edge_row_view (kids_in s) l) old old
-none_claimed s l old past = let v = edge_row_view (kids_in s) l in entries_kept (claimed_of (outline_view s) v) old l.edge.declared past (λ j apart x. claimed_elsewhere (outline_view s) v j x apart)
+pub none_claimed : (l : EdgeRow) (old : List (Option ℕ)) → length old ≤ l.edge.declared → IsClaimed l old old
+none_claimed l old past = entries_kept (claimed_of l) old l.edge.declared past (λ j apart x. claimed_elsewhere l j x apart)
 
 -- ---- the mapping of the crate of a number
 
-pub mapping_is : (s : Outline) (n : ℕ) (x : CrateRow) (mine : List EdgeRow) → n < length s.krates.items → x ≡ get_or s.krates.items n x → map (edge_row_view (kids_in s)) mine ≡ from_crate (outline_view s) (id_at (kids_in s) n)
-    → map (mapped (outline_view s) (map (edge_row_view (kids_in s)) mine)) (range_with_len 0 x.declared) ≡ mapping (outline_view s) (krate_at s n)
+last_seen : {A B : Type 0} (f : A → B) (o : Option A) (xs : List A) → option_map f (last_from o xs) ≡ last_from (option_map f o) (map f xs)
+last_seen f o [] = refl
+last_seen f o (x ∷ xs) = last_seen f (Some x) xs
+
+maps_back : {A B : Type 0} (f : B → A) (g : A → B) (xs : List A) → All (λ x. f (g x) ≡ x) xs → map f (map g xs) ≡ xs
+maps_back f g [] h = refl
+maps_back f g (x ∷ xs) h = ap (λ y. y ∷ map f (map g xs)) (All-head (λ y. f (g y) ≡ y) x xs h) ∙ ap (λ ys. x ∷ ys) (maps_back f g xs (All-tail (λ y. f (g y) ≡ y) x xs h))
+
+mapped_is : (t : Outline) (p place : ℕ) → p < length t.krates.items → mapped_over (length t.krates.items) (filter (has_parent p) t.links.items) place ≡ mapped (outline_view t) (krate_at t p).id place
+mapped_is t p place within =
+    let s = outline_view t in
+    let ks = t.krates.items in
+    let count = length ks in
+    let i = (krate_at t p).id in
+    let test : ℕ → Bool = λ n. list_any (claims_at place n) (filter (has_parent p) t.links.items) in
+    let numbers = filter test (range_with_len 0 count) in
+    let number : model.CrateRow → ℕ = λ q. crate_number s q.id in
+    let same : (n : ℕ) → n < count → test n ≡ claims s i place (krate_at t n) = λ n lt.
+    any_within (has_parent p) (claims_at place n) t.links.items
+    ∙ any_alike _ _ (λ (l : EdgeRow). sym (and_assoc (has_parent p l) (has_child n l) (l.edge.declared == place))) t.links.items
+    ∙ sym (claimed ks p n t.ordered.krates within lt place t.links.items t.ordered.ends)
+    ∙ ap (λ j. claims s j place (record { id = id_at (kids_in t) n; declared = 0 })) (sym (id_of_krate ks p))
+    ∙ ap (λ j. claims s i place (record { id = j; declared = 0 })) (sym (id_of_krate ks n)) in
+    let back : map number (map (krate_at t) numbers) ≡ numbers = maps_back number (krate_at t) numbers (All-filter test (λ n. number (krate_at t n) ≡ n) (range_with_len 0 count) (λ k d lt.
+    let n = get_or (range_with_len 0 count) k d in
+    ap (crate_number s) (id_of_krate ks n) ∙ own_number ks n t.ordered.krates (all_below count k d lt))) in
+    sym (ap (λ l. option_map number (last_from None l)) (crates_seen ks (claims s i place) test same) ∙ last_seen number None (map (krate_at t) numbers) ∙ ap (last_from None) back)
+
+pub mapping_is : (t : Outline) (n : ℕ) (x : CrateRow) (mine : List EdgeRow) → n < length t.krates.items → x ≡ get_or t.krates.items n x → mine ≡ filter (has_parent n) t.links.items
+    → map (mapped_over (length t.krates.items) mine) (range_with_len 0 x.declared) ≡ mapping (outline_view t) (krate_at t n)
 unfolding mapping
-mapping_is s n x mine lt is links =
-    let t = outline_view s in
-    let krate : crate_row_view x ≡ krate_at s n = ap crate_row_view is ∙ sym (get_or-map crate_row_view s.krates.items n x no_krate lt) in
-    ap (λ ls. map (mapped t ls) (range_with_len 0 x.declared)) (links ∙ ap (from_crate t) (sym (id_of_krate s.krates.items n)))
-    ∙ ap (λ (k : model.CrateRow). map (mapped t (from_crate t (krate_at s n).id)) (range_with_len 0 k.declared)) krate
+mapping_is t n x mine lt is links =
+    let count = length t.krates.items in
+    let krate : crate_row_view x ≡ krate_at t n = ap crate_row_view is ∙ sym (get_or-map crate_row_view t.krates.items n x no_krate lt) in
+    ap (λ ls. map (mapped_over count ls) (range_with_len 0 x.declared)) links
+    ∙ ap (λ (k : model.CrateRow). map (mapped_over count (filter (has_parent n) t.links.items)) (range_with_len 0 k.declared)) krate
+    ∙ maps_alike (mapped_over count (filter (has_parent n) t.links.items)) (mapped (outline_view t) (krate_at t n).id) (λ place. mapped_is t n place lt) (range_with_len 0 (krate_at t n).declared)

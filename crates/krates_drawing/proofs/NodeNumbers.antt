@@ -100,7 +100,7 @@ crate_end k = AtCrate k.id
 abbrev pub feature_end : FeatureRow → Endpoint
 feature_end n = AtFeature n.krate n.name
 
--- what is drawn for each crate and for each feature stands under its number
+-- what is drawn for each crate and for each feature is at its number
 crate_at : {A : Type 0} (t : Outline) (of_crate : CrateRow → A) (of_feature : FeatureRow → A) (p : Id) → HasCrate t p → (k : CrateRow) × (k.id ≡ p) × Member t.krates k × (slice_get (map of_crate t.krates ++ map of_feature t.features) (crate_number t p) ≡ Some (of_crate k))
 crate_at t of_crate of_feature p h =
     let w = at_place (is_crate p) t.krates h.krate h.member (crate_passes t p h) in

@@ -26,7 +26,7 @@ use Rattle.krates_drawing.proofs.SaidAlike.{SaidAlike, said_alike, dependencies_
 use Rattle.krates_drawing.proofs.Standing.{each}
 use Rattle.krates_rules.proofs.Zips.{zip_there}
 
--- ---- what stands in the first document stands in the second
+-- ---- what is in the first document is in the second
 
 kept_there : (u : Resolved) (s : SettingModel) (i : Id) → Derivable (questions u s) (Crate i) → Stands u s i
 unfolding questions

@@ -1,4 +1,4 @@
--- Crates and features of an outline stand under their numbers: what their mappings name and where their edges lead.
+-- Crates and features of an outline are at their numbers: what their mappings name and where their edges lead.
 use Rattle.std.proofs.Common.{◌≡◌, ◌⊎◌, inl, inr, ℕ, zero, suc, ◌+◌, true, false, cond, List, [], ◌∷◌, ◌++◌, map, length, Option, Some, Contains, slice_get, Ordering, Less, Equal, Greater, refl, sym, ap, ◌∙◌, subst, arith, nat_cmp}
 use Rattle.std.proofs.lemmas.Bool.{and_parts, and_from, false_from_ne_true}
 use Rattle.std.proofs.lemmas.Cmp.{nat_list_cmp_total}
@@ -15,9 +15,9 @@ use Rattle.krates_rules.specs.Setting.{SettingModel}
 use Rattle.krates_rules.proofs.SeenInOrder.{equal_self}
 use Rattle.krates_drawing.specs.Agreement.{DependsOn, LeadsTo}
 use Rattle.krates_drawing.specs.Connected.{IsLedInto, LeadsHome, AreConnected}
-use Rattle.krates_drawing.specs.Drawing.{AtCrate, AtFeature, Feature, line, place_of, is_crate, is_feature, id_eq, crate_number, from_crate, planned_edges, claimant, mapped, mapping, PlannedNode, PlannedCrate, PlannedFeature, planned_crate, planned_feature, planned_nodes}
+use Rattle.krates_drawing.specs.Drawing.{AtCrate, AtFeature, Feature, line, place_of, is_crate, is_feature, id_eq, crate_number, planned_edges, mapped, mapping, PlannedNode, PlannedCrate, PlannedFeature, planned_crate, planned_feature, planned_nodes}
 use Rattle.krates_drawing.specs.Outline.{CrateRow, FeatureRow, Outline, IsOutline, crate_order, enabled_order}
-use Rattle.krates_drawing.proofs.Agreed.{claimant_of, image_of, between_leads}
+use Rattle.krates_drawing.proofs.Agreed.{claimant, claimant_of, image_of, between_leads}
 use Rattle.krates_drawing.proofs.DrawnEdges.{own, edge_in}
 use Rattle.krates_drawing.proofs.ById.{id_order_total}
 use Rattle.krates_drawing.proofs.Closed.{keeps_ends}
@@ -156,9 +156,8 @@ led_into : (r : Resolved) (s : SettingModel) (t : Outline) → IsOutline r s t �
 unfolding mapping
 led_into r s t outline p d w =
     let here = crate_of_node r s t outline p w.id w.mapping (node_at t p (PlannedCrate w.id w.mapping) w.at) in
-    let mine = from_crate t here.krate.id in
-    let entry = mapped_of (mapped t mine) (range_with_len 0 here.krate.declared) (Some d) (member_of (mapping t here.krate) (Some d) (subst (λ m. Contains m (Some d)) (sym here.mapping_is) w.among)) in
-    let q = image_of (λ z. crate_number t z.id) (claimant t mine entry.from) d entry.is in
+    let entry = mapped_of (mapped t here.krate.id) (range_with_len 0 here.krate.declared) (Some d) (member_of (mapping t here.krate) (Some d) (subst (λ m. Contains m (Some d)) (sym here.mapping_is) w.among)) in
+    let q = image_of (λ z. crate_number t z.id) (claimant t here.krate.id entry.from) d entry.is in
     let claim = claimant_of t here.krate.id entry.from q.0 q.1 in
     let kept : HasCrate t (q.0).id = record { krate = q.0; member = claim.0; id = refl } in
     let node = crate_node t (q.0).id kept in

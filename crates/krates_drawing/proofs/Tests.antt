@@ -1,5 +1,5 @@
 -- Tests and orders of ids and features.
-use Rattle.std.proofs.Common.{◌≡◌, ◌&&◌, ◌||◌, ◌==◌, Bool, true, false, not, ℕ, suc, ◌+◌, ◌≤◌, List, [], ◌∷◌, All, get_or, length, map, filter, cond, Ordering, Less, Equal, Greater, rules, refl, sym, ap, ◌∙◌, subst, arith}
+use Rattle.std.proofs.Common.{◌≡◌, ◌&&◌, ◌||◌, ◌==◌, Bool, true, false, ℕ, suc, ◌+◌, ◌≤◌, List, [], ◌∷◌, ◌++◌, All, get_or, map, filter, cond, Ordering, Less, Equal, Greater, rules, refl, sym, ap, ◌∙◌, subst, arith}
 use Rattle.std.proofs.lemmas.Cmp.{nat_cmp_total, ranked}
 use Rattle.std.proofs.lemmas.List.Elements.{All-head, All-tail, filter_agree}
 use Rattle.std.proofs.lemmas.Map.Text.{is_eq-slice_cmp}
@@ -7,7 +7,7 @@ use Rattle.std.specs.Cmp.{IsTotalOrder, unsigned_ties}
 use Rattle.std.specs.Cmp.Lexicographic.{slice_cmp}
 use Rattle.std.specs.Cmp.Rules.{comparing}
 use Rattle.std.specs.Ordering.{is_eq, nat_cmp, ordering_index, ordering_reverse, ordering_then}
-use Rattle.std.specs.List.{AllByRecursion, list_any}
+use Rattle.std.specs.List.{AllByRecursion, flat_map, list_any}
 use Rattle.std.specs.List.Sorted.{IsNonDecreasingBy, IsStrictlySortedBy}
 use Rattle.std.specs.Str.{bytes_eq}
 use mathlib.Core.List.{map-id}
@@ -19,7 +19,7 @@ use Rattle.krates_rules.specs.Facts.{Id}
 use Rattle.krates_rules.specs.Referent.{id_order}
 use Rattle.krates_rules.specs.Resolved.{id_of}
 use Rattle.krates_drawing.specs.Drawing.{id_eq, place_of}
-use Rattle.krates_drawing.specs.OutlineOrder.{AreByChild, AreByKrate, has_child, has_krate}
+use Rattle.krates_drawing.specs.OutlineOrder.{AreByChild, AreByKrate, has_by, has_child, has_krate, has_parent}
 use Rattle.krates_drawing.specs.declared.outline.EdgeRow.{EdgeRow}
 use Rattle.krates_drawing.specs.declared.outline.FeatureRow.{FeatureRow}
 use Rattle.krates_drawing.proofs.EqualRanges.{IsCut, below_later, cut_is, rises_weakly, stands_in}
@@ -31,7 +31,7 @@ then_eq Less b = refl
 then_eq Equal b = refl
 then_eq Greater b = refl
 
-and_same : (a b c d : Bool) → a ≡ c → b ≡ d → (a && b) ≡ (c && d)
+pub and_same : (a b c d : Bool) → a ≡ c → b ≡ d → (a && b) ≡ (c && d)
 and_same a b c d e f = ap (λ x. x && b) e ∙ ap (λ x. c && x) f
 
 -- ids are equal by test where they compare so
@@ -47,6 +47,10 @@ equal_ids a b =
 -- and so are numbers with names
 pub equal_named : (m n : ℕ) (f g : Text) → is_eq (ordering_then (nat_cmp m n) (slice_cmp nat_cmp f g)) ≡ ((m == n) && bytes_eq f g)
 equal_named m n f g = then_eq (nat_cmp m n) (slice_cmp nat_cmp f g) ∙ and_same _ _ _ _ (sym (unsigned_ties m n)) (is_eq-slice_cmp f g)
+
+-- and so are two numbers
+pub equal_ends : (a b : ℕ × ℕ) → is_eq (ordering_then (nat_cmp a.0 b.0) (nat_cmp a.1 b.1)) ≡ ((a.0 == b.0) && (a.1 == b.1))
+equal_ends a b = then_eq (nat_cmp a.0 b.0) (nat_cmp a.1 b.1) ∙ and_same _ _ _ _ (sym (unsigned_ties a.0 b.0)) (sym (unsigned_ties a.1 b.1))
 
 pub equal_self : (n : ℕ) → (n == n) ≡ true
 equal_self n = search rules
@@ -87,9 +91,6 @@ any_seen P v p q (x ∷ xs) all same = any_step (p (v x)) (q x) (list_any p (map
 
 -- ---- orders
 
-pub order_total : IsTotalOrder id_order
-order_total = search (comparing, rules) depth 9
-
 pub equal_order : (a b : Id) → is_eq (id_order a b) ≡ id_eq a b
 equal_order a b =
     let x : Identity = record { text = []; name = a.name; version = a.version; source = a.source; is_opaque = false } in
@@ -115,6 +116,15 @@ pub sorted_as : {A B C : Type 0} (R : B → B → Ordering) (S : C → C → Ord
 unfolding IsStrictlySortedBy
 sorted_as R S f g same [] h = tt
 sorted_as R S f g same (x ∷ xs) h = (all_as R S f g same x xs h.0, sorted_as R S f g same xs h.1)
+
+abbrev pub ends_cmp : ℕ × ℕ → ℕ × ℕ → Ordering
+ends_cmp a b = ordering_then (nat_cmp a.0 b.0) (nat_cmp a.1 b.1)
+
+pub ends_total : IsTotalOrder ends_cmp
+ends_total = search (comparing, rules) depth 9
+
+abbrev pub ends_of : EdgeRow → ℕ × ℕ
+ends_of l = (l.edge.parent, l.edge.child)
 
 abbrev pub feature_key : FeatureRow → ℕ × Text
 feature_key n = (n.feature.krate, text_view n.feature.name)
@@ -149,6 +159,18 @@ not_high m n le Greater e g = let gt = ranked m n Greater e in omega (arith, le,
 pub links_by_parent : (xs : List EdgeRow) (p : ℕ) → IsStrictlySortedBy place_cmp (map (λ l. l.edge) xs) → IsNonDecreasingBy (λ (l : EdgeRow). ordering_index (nat_cmp l.edge.parent p)) xs
 links_by_parent xs p sorted = rises_weakly nat_cmp_total (λ (l : EdgeRow). l.edge.parent) xs p (λ i j d l lt. first_low _ _ (below_later place_cmp (λ (l : EdgeRow). l.edge) xs i j d sorted l lt))
 
+pub both_low : (a b c : Ordering) → ordering_then a (ordering_then b c) ≡ Less → ordering_then a b ≡ Greater → ⊥
+both_low Less b c e g = cc g
+both_low Equal b c e g = first_low b c e g
+both_low Greater b c e g = cc e
+
+-- and by both ends
+pub links_by_ends : (xs : List EdgeRow) (q : ℕ × ℕ) → IsStrictlySortedBy place_cmp (map (λ l. l.edge) xs) → IsNonDecreasingBy (λ (l : EdgeRow). ordering_index (ends_cmp (ends_of l) q)) xs
+links_by_ends xs q sorted = rises_weakly ends_total ends_of xs q (λ i j d l lt.
+    let a = (get_or xs i d).edge in
+    let b = (get_or xs j d).edge in
+    both_low (nat_cmp a.parent b.parent) (nat_cmp a.child b.child) (nat_cmp a.place b.place) (below_later place_cmp (λ (l : EdgeRow). l.edge) xs i j d sorted l lt))
+
 -- edges from a crate in order rise by child
 pub links_by_child : (mine : List EdgeRow) (q : ℕ) → AreByChild mine → IsNonDecreasingBy (λ (l : EdgeRow). ordering_index (nat_cmp l.edge.child q)) mine
 links_by_child mine q by = rises_weakly nat_cmp_total (λ (l : EdgeRow). l.edge.child) mine q (λ i j d l lt. not_high _ _ (by i j d l lt) _ refl)
@@ -158,7 +180,7 @@ pub toggled_by_crate : (xs : List ToggledFeature) (p : ℕ) → IsStrictlySorted
 toggled_by_crate xs p sorted =
     rises_weakly nat_cmp_total (λ (t : ToggledFeature). t.by) xs p (λ i j d l lt. first_low _ _ (below_later toggled_cmp (λ (t : ToggledFeature). t) xs i j d (subst (IsStrictlySortedBy toggled_cmp) (sym (map-id xs)) sorted) l lt))
 
--- those of one crate rise by the crate whose they are
+-- those of one crate rise by the crate that they belong to
 pub toggled_by_krate : (mine : List ToggledFeature) (q : ℕ) → AreByKrate mine → IsNonDecreasingBy (λ (t : ToggledFeature). ordering_index (nat_cmp t.krate q)) mine
 toggled_by_krate mine q by = rises_weakly nat_cmp_total (λ (t : ToggledFeature). t.krate) mine q (λ i j d l lt. not_high _ _ (by i j d l lt) _ refl)
 
@@ -173,7 +195,7 @@ equal_both m n p a b =
     is_equal Equal e = refl
     is_equal Greater e = cc e
 
--- the features that a crate toggles are in order by the crate whose they are
+-- the features that a crate toggles are in order by the crate that they belong to
 pub cut_by_krate : (xs mine : List ToggledFeature) (p : ℕ) → IsStrictlySortedBy toggled_cmp xs → IsCut (λ (t : ToggledFeature). nat_cmp t.by p) xs mine → AreByKrate mine
 cut_by_krate xs mine p sorted w i j d l lt =
     let ord : ToggledFeature → Ordering = λ t. nat_cmp t.by p in
@@ -201,14 +223,6 @@ cut_by_child xs mine p sorted w i j d l lt =
 
 -- ---- runs, by number
 
--- whether the crate of this number has the edge
-abbrev pub has_parent : ℕ → EdgeRow → Bool
-has_parent parent l = l.edge.parent == parent
-
--- whether it toggles the feature
-abbrev pub has_by : ℕ → ToggledFeature → Bool
-has_by by t = t.by == by
-
 pub cut_parent : (xs mine : List EdgeRow) (p : ℕ) → IsCut (λ (l : EdgeRow). nat_cmp l.edge.parent p) xs mine → mine ≡ filter (has_parent p) xs
 cut_parent xs mine p w = cut_is (λ (l : EdgeRow). nat_cmp l.edge.parent p) xs mine w ∙ filter_agree (λ (l : EdgeRow). is_eq (nat_cmp l.edge.parent p)) (has_parent p) (λ l. sym (unsigned_ties l.edge.parent p)) xs
 
@@ -232,16 +246,25 @@ pub filter_twice : {A : Type 0} (p q : A → Bool) (xs : List A) → filter q (f
 filter_twice p q [] = refl
 filter_twice p q (x ∷ xs) = step_twice (p x) (q x) q x (filter p xs) (filter (λ y. p y && q y) xs) refl (filter_twice p q xs)
 
--- ---- a filter that leaves nothing
+any_kept : {A : Type 0} (b : Bool) (q : A → Bool) (x : A) (ys : List A) → list_any q (cond b (x ∷ ys) ys) ≡ ((b && q x) || list_any q ys)
+any_kept true q x ys = refl
+any_kept false q x ys = refl
 
-not_none : (n : ℕ) → (suc n == 0) ≡ false
-not_none n = search rules
+-- some element that passes one test passes another where one passes both
+pub any_within : {A : Type 0} (p q : A → Bool) (xs : List A) → list_any q (filter p xs) ≡ list_any (λ x. p x && q x) xs
+any_within p q [] = refl
+any_within p q (x ∷ xs) = any_kept (p x) q x (filter p xs) ∙ ap (λ b. (p x && q x) || b) (any_within p q xs)
 
-step_any : {A : Type 0} (b : Bool) (x : A) (xs : List A) (rest : Bool) → rest ≡ not (length xs == 0) → (b || rest) ≡ not (length (cond b (x ∷ xs) xs) == 0)
-step_any true x xs rest e = sym (ap not (not_none (length xs)))
-step_any false x xs rest e = e
+-- ---- tests and functions that are alike
 
--- some element passes where those that pass aren't none
-pub any_filter : {A : Type 0} (p : A → Bool) (xs : List A) → list_any p xs ≡ not (length (filter p xs) == 0)
-any_filter p [] = refl
-any_filter p (x ∷ xs) = step_any (p x) x (filter p xs) (list_any p xs) (any_filter p xs)
+pub any_alike : {A : Type 0} (p q : A → Bool) → ((x : A) → p x ≡ q x) → (xs : List A) → list_any p xs ≡ list_any q xs
+any_alike p q same [] = refl
+any_alike p q same (x ∷ xs) = any_step (p x) (q x) (list_any p xs) (list_any q xs) (same x) (any_alike p q same xs)
+
+pub maps_alike : {A B : Type 0} (f g : A → B) → ((x : A) → f x ≡ g x) → (xs : List A) → map f xs ≡ map g xs
+maps_alike f g same [] = refl
+maps_alike f g same (x ∷ xs) = ap (λ y. y ∷ map f xs) (same x) ∙ ap (λ ys. g x ∷ ys) (maps_alike f g same xs)
+
+pub flat_maps_alike : {A B : Type 0} (f g : A → List B) → ((x : A) → f x ≡ g x) → (xs : List A) → flat_map f xs ≡ flat_map g xs
+flat_maps_alike f g same [] = refl
+flat_maps_alike f g same (x ∷ xs) = ap (λ ys. ys ++ flat_map f xs) (same x) ∙ ap (λ ys. g x ++ ys) (flat_maps_alike f g same xs)

@@ -71,57 +71,39 @@ unfoldable pub uses : Outline → EdgeRow → List Text → List PlannedEdge
 uses t l [] = line t (AtCrate l.edge.parent) (AtCrate l.edge.child) (Dep (kind_of l.edge.kind) l.edge.cfg) ∷ []
 uses t l (f ∷ fs) = map (λ g. line t (AtCrate l.edge.parent) (AtFeature l.edge.child g) (DepFeature (kind_of l.edge.kind) l.edge.cfg)) (f ∷ fs)
 
--- whether the edge leaves the crate
-abbrev pub is_from : Id → EdgeRow → Bool
-is_from p l = id_eq l.edge.parent p
+-- whether the edge leads from p to q
+abbrev pub is_link : Id → Id → EdgeRow → Bool
+is_link p q l = id_eq l.edge.parent p && id_eq l.edge.child q
 
--- whether the edge leads to the crate
-abbrev pub is_to : Id → EdgeRow → Bool
-is_to q l = id_eq l.edge.child q
-
--- whether the one crate toggles a feature of the other
+-- whether p toggles the feature, which is one of q's
 abbrev pub is_between : Id → Id → Toggle → Bool
 is_between p q t = id_eq t.by p && id_eq t.krate q
 
--- the kept edges from p
-abbrev pub from_crate : Outline → Id → List EdgeRow
-from_crate t p = filter (is_from p) t.links
+-- a kept edge leads from p to q
+abbrev pub leads : Outline → Id → Id → Bool
+leads t p q = list_any (is_link p q) t.links
 
--- of the kept edges `mine` from p those to q, then the features of q that p toggles
-unfoldable pub pair_lines : Outline → Id → List EdgeRow → CrateRow → List PlannedEdge
-pair_lines t p mine q =
-    flat_map (λ l. uses t l l.given) (filter (is_to q.id) mine)
-    ++ map (λ g. line t (AtCrate p) (AtFeature q.id g.name) Feature) (filter (is_between p q.id) t.toggled)
-
--- an edge leads to q
-abbrev pub leads_to : List EdgeRow → Id → Bool
-leads_to mine q = list_any (is_to q) mine
+-- the kept edges from p to q, then the features of q that p toggles
+unfoldable pub pair_lines : Outline → Id → Id → List PlannedEdge
+pair_lines t p q =
+    flat_map (λ l. uses t l l.given) (filter (is_link p q) t.links)
+    ++ map (λ g. line t (AtCrate p) (AtFeature q g.name) Feature) (filter (is_between p q) t.toggled)
 
 -- to each crate with a kept edge from p, in id order
-unfoldable pub children_lines : Outline → Id → List EdgeRow → List PlannedEdge
-children_lines t p mine = flat_map (pair_lines t p mine) (filter (λ q. leads_to mine q.id) t.krates)
-
--- the edges that a crate has
 unfoldable pub crate_lines : Outline → CrateRow → List PlannedEdge
-crate_lines t p = children_lines t p.id (from_crate t p.id)
+crate_lines t p = flat_map (λ q. pair_lines t p.id q.id) (filter (λ q. leads t p.id q.id) t.krates)
 
 -- ---- second part: what each feature leads to
 
--- what a reference of a feature of p names, over the kept edges `mine` from p
-abbrev pub targets : List EdgeRow → Id → Meaning → List Endpoint
-targets mine p (OwnFeature g) = AtFeature p g ∷ []
-targets mine p (Crates ids) = map AtCrate (filter (leads_to mine) ids)
-targets mine p (FeatureOf ids g) = map (λ q. AtFeature q g) (filter (leads_to mine) ids)
-
--- from a feature to what a reference of it names
-unfoldable pub meaning_lines : Outline → FeatureRow → List EdgeRow → Meaning → List PlannedEdge
-meaning_lines t n mine m = map (λ e. line t (AtFeature n.krate n.name) e Feature) (targets mine n.krate m)
+-- what a reference of a feature of p names
+abbrev pub targets : Outline → Id → Meaning → List Endpoint
+targets t p (OwnFeature g) = AtFeature p g ∷ []
+targets t p (Crates ids) = map AtCrate (filter (leads t p) ids)
+targets t p (FeatureOf ids g) = map (λ q. AtFeature q g) (filter (leads t p) ids)
 
 -- to its crate, then to what its references name
 unfoldable pub feature_lines : Outline → FeatureRow → List PlannedEdge
-feature_lines t n =
-    line t (AtFeature n.krate n.name) (AtCrate n.krate) Feature
-    ∷ flat_map (meaning_lines t n (from_crate t n.krate)) n.meanings
+feature_lines t n = map (λ e. line t (AtFeature n.krate n.name) e Feature) (AtCrate n.krate ∷ flat_map (targets t n.krate) n.meanings)
 
 -- ---- all edges
 
@@ -136,25 +118,17 @@ abbrev pub last_from : {A : Type 0} → Option A → List A → Option A
 last_from o [] = o
 last_from o (x ∷ xs) = last_from (Some x) xs
 
--- the edge leads to q, and has the declared dependency at k as its own
-abbrev pub claims_at : ℕ → Id → EdgeRow → Bool
-claims_at k q l = is_to q l && (l.place == k)
+-- a kept edge from p to q has the declared dependency at k as its own
+abbrev pub claims : Outline → Id → ℕ → CrateRow → Bool
+claims t p k q = list_any (λ l. is_link p q.id l && (l.place == k)) t.links
 
--- one of the edges leads to q and has the declared dependency at k as its own
-abbrev pub claims : List EdgeRow → ℕ → CrateRow → Bool
-claims mine k q = list_any (claims_at k q.id) mine
-
--- the greatest crate that claims the declared dependency at k: the last one in id order
-abbrev pub claimant : Outline → List EdgeRow → ℕ → Option CrateRow
-claimant t mine k = last_from None (filter (claims mine k) t.krates)
-
--- the number of that crate
-abbrev pub mapped : Outline → List EdgeRow → ℕ → Option ℕ
-mapped t mine k = option_map (λ q. crate_number t q.id) (claimant t mine k)
+-- the number of the greatest crate that claims p's declared dependency at k: the last one in id order
+abbrev pub mapped : Outline → Id → ℕ → Option ℕ
+mapped t p k = option_map (λ q. crate_number t q.id) (last_from None (filter (claims t p k) t.krates))
 
 -- one entry for each declared dependency of the package
 unfoldable pub mapping : Outline → CrateRow → List (Option ℕ)
-mapping t p = map (mapped t (from_crate t p.id)) (range_with_len 0 p.declared)
+mapping t p = map (mapped t p.id) (range_with_len 0 p.declared)
 
 -- ---- nodes with what they hold
 

@@ -1,5 +1,5 @@
 -- How many nodes and edges are drawn of an outline, beside how many there may be.
-use Rattle.std.specs.Prelude.{◌≡◌, ◌⊎◌, ◌<◌, ◌≤◌, length, ⊤}
+use Rattle.std.specs.Prelude.{◌≡◌, ℕ, ◌⊎◌, ◌<◌, ◌≤◌, length, ⊤}
 use Rattle.krates_graph.specs.Graph.{StoredGraph}
 use Rattle.krates_ids.specs.declared.error.Error.{Error}
 use Rattle.krates_ids.specs.declared.error.Error.TheVariants as errors
@@ -20,6 +20,12 @@ pub record HasLimits {N E : Type 0} (limits : Limits) (g : StoredGraph N E) : Ty
 -- more nodes are drawn than there may be, or more edges
 abbrev pub IsBeyond : Limits → Outline → Type 0
 IsBeyond limits t = (limits.nodes < length (planned_nodes t)) ⊎ (limits.edges < length (planned_edges t))
+
+-- why so many edges aren't stored in a graph with this limit; memory may always run out
+abbrev pub StoringRefusal : ℕ → ℕ → Error → Type 0
+StoringRefusal limit count errors.TooMany = limit < count
+StoringRefusal limit count errors.Memory = ⊤
+StoringRefusal limit count _ = ⊥
 
 -- why the outline isn't drawn within the limits; memory may always run out
 abbrev pub DrawingRefusal : Limits → Outline → Error → Type 0

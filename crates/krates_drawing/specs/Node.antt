@@ -26,7 +26,7 @@ crate_ids [] = []
 crate_ids (Krate id krate features mapping ∷ nodes) = id ∷ crate_ids nodes
 crate_ids (Feature krate_index name ∷ nodes) = crate_ids nodes
 
--- what stands in the place of their packages
+-- what they hold in place of their packages
 abbrev pub crate_values : {N : Type 0} → List (Node N) → List N
 crate_values [] = []
 crate_values (Krate id krate features mapping ∷ nodes) = krate ∷ crate_values nodes
@@ -62,7 +62,7 @@ abbrev pub IsFeature : {N : Type 0} → ℕ → Text → Node N → Type 0
 IsFeature number name (Krate id krate features mapping) = ⊥
 IsFeature number name (Feature krate_index text) = (krate_index ≡ number) × (text_view text ≡ name)
 
--- such a node stands at `n`
+-- there is such a node at `n`
 pub record IsFeatureAt {N : Type 0} (nodes : List (Node N)) (n number : ℕ) (name : Text) : Type 0 where
   pub node : Node N
   pub at : slice_get nodes n ≡ Some node

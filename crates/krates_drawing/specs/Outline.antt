@@ -61,7 +61,7 @@ pub record Outline : Type 0 where
 
 -- ---- what the document says
 
--- beside the crate stands the number of dependencies that its package declares
+-- the row has the number of dependencies that the crate's package declares
 pub record IsCrateRow (r : Resolved) (k : CrateRow) : Type 0 where
   pub pkg : PackageModel
   pub has_package : HasPackage r k.id pkg
@@ -92,7 +92,7 @@ pub record IsMeaning (r : Resolved) (all : Bool) (i : Id) (text : Text) (m : Mea
   pub is : IsReference text reference
   pub names : Names r all i reference m
 
--- beside the feature stands what each of its references names, in the package's order
+-- the row has what each reference of the feature names, in the package's order
 pub record IsFeatureRow (r : Resolved) (all : Bool) (n : FeatureRow) : Type 0 where
   pub pkg : PackageModel
   pub has_package : HasPackage r n.krate pkg

@@ -1,17 +1,14 @@
--- What stands where in the lists of an outline.
-use Rattle.std.specs.Prelude.{◌≡◌, ℕ, ◌<◌, ◌≤◌, ◌==◌, Bool, List, Option, Some, All, AllPairs, if◌then◌else◌, filter, length, map, not, option_map, slice_get, take, slice_index_or}
-use Rattle.std.specs.List.{list_any}
+-- Where things are in the lists of an outline.
+use Rattle.std.specs.Prelude.{◌≡◌, ℕ, ◌<◌, ◌≤◌, ◌==◌, ◌&&◌, Bool, List, Option, Some, None, All, AllPairs, if◌then◌else◌, filter, length, not, option_map, slice_get, take, slice_index_or}
+use Rattle.std.specs.List.{list_any, range_with_len}
 use Rattle.krates_selection.specs.Selection.{HasEnds}
 use Rattle.krates_selection.specs.declared.selection.ToggledFeature.{ToggledFeature}
-use Rattle.krates_rules.specs.Facts.{Id}
-use Rattle.krates_drawing.specs.Drawing.{crate_number, id_eq, is_crate, last_from, leads_to}
-use Rattle.krates_drawing.specs.Outline as model
-use Rattle.krates_drawing.specs.Views.{kids_in, crate_row_view, edge_row_view}
+use Rattle.krates_drawing.specs.Drawing.{last_from}
 use Rattle.krates_drawing.specs.declared.outline.EdgeRow.{EdgeRow}
 use Rattle.krates_drawing.specs.declared.outline.FeatureRow.{FeatureRow}
 use Rattle.krates_drawing.specs.declared.outline.Outline.{Outline}
 
--- the feature stands at the place
+-- the feature is at the place
 pub record IsPlaceOfFeature (t : Outline) (place : ℕ) (n : FeatureRow) : Type 0 where
   pub within : place < length t.features.items
   pub at : slice_get t.features.items place ≡ Some n
@@ -24,13 +21,25 @@ AreByChild links = AllPairs (λ a b. a.edge.child ≤ b.edge.child) links
 abbrev pub HaveEnds : Outline → List EdgeRow → Type 0
 HaveEnds t links = All (λ l. HasEnds (length t.krates.items) l.edge) links
 
--- whether the edge leads to the crate of this number
+-- whether the edge leaves the crate of this number
+abbrev pub has_parent : ℕ → EdgeRow → Bool
+has_parent parent l = l.edge.parent == parent
+
+-- whether it leads to the crate of this number
 abbrev pub has_child : ℕ → EdgeRow → Bool
 has_child child l = l.edge.child == child
 
--- whether the crate toggles the feature
-abbrev pub is_by : Id → model.Toggle → Bool
-is_by p t = id_eq t.by p
+-- whether it leads from the one to the other
+abbrev pub has_ends : ℕ → ℕ → EdgeRow → Bool
+has_ends parent child l = has_parent parent l && has_child child l
+
+-- whether it leads to the crate of this number, and has the declared dependency at the place as its own
+abbrev pub claims_at : ℕ → ℕ → EdgeRow → Bool
+claims_at place child l = has_child child l && (l.edge.declared == place)
+
+-- whether the crate of this number toggles the feature
+abbrev pub has_by : ℕ → ToggledFeature → Bool
+has_by by t = t.by == by
 
 -- whether it is a feature of the crate of this number
 abbrev pub has_krate : ℕ → ToggledFeature → Bool
@@ -44,18 +53,18 @@ AreByKrate toggled = AllPairs (λ a b. a.krate ≤ b.krate) toggled
 abbrev pub IsFirstTo : List EdgeRow → ℕ → Bool → Type 0
 IsFirstTo links place answer = (d : EdgeRow) → list_any (has_child (slice_index_or links place d).edge.child) (take place links) ≡ not answer
 
--- the crates of the outline to which the edges lead, in their order
-abbrev pub children_of : Outline → List EdgeRow → List model.CrateRow
-children_of t links = filter (λ q. leads_to (map (edge_row_view (kids_in t)) links) q.id) (map crate_row_view t.krates.items)
+-- the crates below this number to which the edges lead, in order
+abbrev pub children_of : ℕ → List EdgeRow → List ℕ
+children_of count links = filter (λ n. list_any (has_child n) links) (range_with_len 0 count)
 
--- the number of the crate where it is kept, else what was found before
-abbrev pub number_of : model.Outline → Id → Option ℕ → Option ℕ
-number_of t c found = last_from found (map (λ k. crate_number t k.id) (filter (is_crate c) t.krates))
+-- the last of them to which an edge leads that has the declared dependency at the place as its own
+abbrev pub mapped_over : ℕ → List EdgeRow → ℕ → Option ℕ
+mapped_over count links place = last_from None (filter (λ n. list_any (claims_at place n) links) (range_with_len 0 count))
 
--- the same, where the edge has this declared dependency as its own
-abbrev pub claimed_of : model.Outline → model.EdgeRow → ℕ → Option ℕ → Option ℕ
-claimed_of t l place found = if l.place == place then number_of t l.edge.child found else found
+-- the number of the child, where the edge has this declared dependency as its own; else what was found before
+abbrev pub claimed_of : EdgeRow → ℕ → Option ℕ → Option ℕ
+claimed_of l place found = if l.edge.declared == place then Some l.edge.child else found
 
--- at each place stands what the edge makes of what stood there
-abbrev pub IsClaimed : model.Outline → model.EdgeRow → List (Option ℕ) → List (Option ℕ) → Type 0
-IsClaimed t l old new = (place : ℕ) → slice_get new place ≡ option_map (claimed_of t l place) (slice_get old place)
+-- each place has what the edge makes of what was there
+abbrev pub IsClaimed : EdgeRow → List (Option ℕ) → List (Option ℕ) → Type 0
+IsClaimed l old new = (place : ℕ) → slice_get new place ≡ option_map (claimed_of l place) (slice_get old place)

@@ -38,7 +38,7 @@ pub record IsMemberNumber (r : Resolved) (t : Outline) (n : ℕ) : Type 0 where
   pub is_member : IsMember r member
   pub number : n ≡ crate_number t member
 
--- the kept crate stands at the end of a path from a kept member over edges without this kind
+-- the kept crate is at the end of a path from a kept member over edges without this kind
 pub record IsFiltered (r : Resolved) (t : Outline) (k : DepKind) (p : Id) : Type 0 where
   pub kept : IsDrawn t p
   pub reached : Reaches (LeadsWithout k (planned_edges t)) (IsMemberNumber r t) (crate_number t p)

@@ -50,9 +50,6 @@ meaning_view (meaning.OwnFeature name) = OwnFeature (text_view name)
 meaning_view (meaning.Crates krates) = Crates (map id_of krates.items)
 meaning_view (meaning.FeatureOf krates name) = FeatureOf (map id_of krates.items) (text_view name)
 
-abbrev pub meanings_view : Vec Meaning → List model.Meaning
-meanings_view v = map meaning_view v.items
-
 -- a feature of one of these crates
 abbrev pub feature_row_view : List Identity → FeatureRow → model.FeatureRow
 feature_row_view kids n = record { krate = id_at kids n.feature.krate; name = text_view n.feature.name; meanings = map meaning_view n.meanings.items }

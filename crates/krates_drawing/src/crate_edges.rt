@@ -1,39 +1,51 @@
 //! The edges from crates.
-ghost use Rattle.std.specs.Prelude.{All, ◌≡◌, ◌+◌, ◌<◌, List, map, length, take, flat_map, OnOk};
+ghost use Rattle.std.specs.Prelude.{◌≡◌, ◌+◌, ◌<◌, List, map, length, take, flat_map, OnOk};
 ghost use Rattle.krates_selection.specs.Selection.{HasEnds, id_at};
-ghost use Rattle.krates_drawing.specs.Drawing.{AtFeature, PlannedEdge as DrawnEdge, crate_lines, crate_number as number_of_crate, pair_lines, uses};
-ghost use Rattle.krates_drawing.specs.EdgeSource.{IsDrawnTo, IsCrateSource, AreToggledBy};
+ghost use Rattle.krates_drawing.specs.Drawing.{AtFeature, PlannedEdge as DrawnEdge, crate_lines, uses};
+ghost use Rattle.krates_drawing.specs.EdgeSource.{IsDrawnTo, IsCrateSource, AreToggledBy, lines_between};
 ghost use Rattle.krates_drawing.specs.LinesFrom.{line_from};
 ghost use Rattle.krates_drawing.specs.OutlineOrder.{AreByChild, HaveEnds, IsFirstTo};
 ghost use Rattle.krates_drawing.specs.Views.{kids_in, krate_at, edge_row_view, outline_view, Draws, toggle_of};
 
 use crate::edge::{Edge, PlannedEdge};
-use crate::edge_source::{CrateSource, source_at};
-use crate::equal_ranges::{links_to, toggled_by, toggled_in};
+use crate::equal_ranges::{links_from, links_to, toggled_by, toggled_in};
 use crate::numbers::NumberedOutline;
-use crate::outline::EdgeRow;
+use crate::outline::{EdgeRow, Outline};
 use krates_graph::graph::NodeId;
 use krates_rules::DepKind;
 use krates_selection::ToggledFeature;
 use std::alloc::AllocError;
 
+/// A crate, with the kept edges from it, by child.
+#[derive(Clone, Copy)]
+pub(crate) struct CrateSource<'a> {
+    pub krate: usize,
+    pub mine: &'a [EdgeRow],
+}
+
+/// The crate of this number.
+fn source_at(outline: &Outline, krate: usize) -> CrateSource<'_>
+    requires within { krate < length outline.now.krates.items }
+    ensures home { IsCrateSource outline.now result }
+    ensures krate { result.krate ≡ krate }
+{
+    CrateSource {
+        krate,
+        mine: links_from(outline, krate),
+    }
+}
+
 impl NumberedOutline<'_> {
     /// Draws what the kept edge gives, from the node of its parent.
     #[tactic(auto, unfolding(crate::specs::Drawing::uses))]
-    fn draw_uses(
-        &self,
-        source: NodeId,
-        link: &EdgeRow,
-        out: &mut Vec<PlannedEdge>,
-    ) -> Result<(), AllocError>
-        requires ends { HasEnds (length self.now.outline.now.krates.items) link.now.edge }
-        requires source { let outline = self.now.outline.now in
-            source ≡ number_of_crate (outline_view outline) (id_at (kids_in outline) link.now.edge.parent) }
+    fn draw_uses(&self, link: &EdgeRow, out: &mut Vec<PlannedEdge>) -> Result<(), AllocError>
+        requires { HasEnds (length self.now.outline.now.krates.items) link.now.edge }
         ensures { let outline = self.now.outline.now in
             OnOk result (Draws out.old out.new (uses (outline_view outline)
             (edge_row_view (kids_in outline) link.now) (edge_row_view (kids_in outline) link.now).given)) }
     {
         let edge = &link.edge;
+        let source = self.crate_number(edge.parent);
         if link.given.is_empty() {
             let target = self.crate_number(edge.child);
             let kind = DepKind::from(edge.kind);
@@ -62,23 +74,15 @@ impl NumberedOutline<'_> {
         Ok(())
     }
 
-    /// Draws kept edges of one crate, from its node.
-    fn draw_kept(
-        &self,
-        source: NodeId,
-        links: &[EdgeRow],
-        out: &mut Vec<PlannedEdge>,
-    ) -> Result<(), AllocError>
-        requires ends { HaveEnds self.now.outline.now links.now }
-        requires source { let outline = self.now.outline.now in
-            All (λ l. source ≡ number_of_crate (outline_view outline)
-            (id_at (kids_in outline) l.edge.parent)) links.now }
+    /// Draws what kept edges give.
+    fn draw_kept(&self, links: &[EdgeRow], out: &mut Vec<PlannedEdge>) -> Result<(), AllocError>
+        requires { HaveEnds self.now.outline.now links.now }
         ensures { let outline = self.now.outline.now in
             OnOk result (Draws out.old out.new (flat_map (λ l. uses (outline_view outline) l l.given)
             (map (edge_row_view (kids_in outline)) links.now))) }
     {
         for x in links {
-            self.draw_uses(source, x, out)?;
+            self.draw_uses(x, out)?;
         }
         Ok(())
     }
@@ -121,12 +125,10 @@ impl NumberedOutline<'_> {
         requires toggled { AreToggledBy self.now.outline.now from.now.krate toggled.now }
         requires within { child < length self.now.outline.now.krates.items }
         ensures { let outline = self.now.outline.now in
-            OnOk result (Draws out.old out.new (pair_lines (outline_view outline)
-            (id_at (kids_in outline) from.now.krate) (map (edge_row_view (kids_in outline)) from.now.mine.now)
-            (krate_at outline child))) }
+            OnOk result (Draws out.old out.new (lines_between outline from.now.krate child)) }
     {
+        self.draw_kept(links_to(from.mine, child), out)?;
         let source = self.crate_number(from.krate);
-        self.draw_kept(source, links_to(from.mine, child), out)?;
         self.draw_toggled(source, child, toggled_in(toggled, child), out)?;
         Ok(())
     }
@@ -155,7 +157,7 @@ impl NumberedOutline<'_> {
     }
 
     /// Draws the edges from a crate.
-    #[tactic(auto, unfolding(crate::specs::Drawing::crate_lines, crate::specs::Drawing::children_lines))]
+    #[tactic(auto, unfolding(crate::specs::Drawing::crate_lines))]
     fn draw_crate(&self, krate: usize, out: &mut Vec<PlannedEdge>) -> Result<(), AllocError>
         requires { krate < length self.now.outline.now.krates.items }
         ensures { let outline = self.now.outline.now in

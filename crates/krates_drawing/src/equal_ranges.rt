@@ -1,6 +1,5 @@
 //! Ranges of equal elements in the lists of an outline, found by binary search.
 ghost use Rattle.std.specs.Prelude.{◌≡◌, ◌<◌, filter, length};
-ghost use Rattle.std.specs.List.{list_any};
 ghost use Rattle.krates_drawing.specs.EdgeSource.{AreLinksFrom, AreToggledBy};
 ghost use Rattle.krates_drawing.specs.OutlineOrder.{AreByChild, AreByKrate, has_child, has_krate};
 
@@ -31,14 +30,6 @@ pub(crate) fn links_to(mine: &[EdgeRow], child: usize) -> &[EdgeRow]
     let count = rest.partition_point(|link| link.edge.child.cmp(&child).is_eq());
     let (there, _) = rest.split_at(count);
     there
-}
-
-/// Whether one of the edges from a crate leads to another.
-pub(crate) fn leads_to(mine: &[EdgeRow], child: usize) -> bool
-    requires { AreByChild mine.now }
-    ensures { result ≡ list_any (has_child child) mine.now }
-{
-    !links_to(mine, child).is_empty()
 }
 
 /// The features that a crate toggles, grouped by the crate that they belong to.

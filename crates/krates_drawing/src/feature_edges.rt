@@ -1,82 +1,95 @@
 //! The edges from features.
-ghost use Rattle.std.specs.Prelude.{◌≡◌, MatchOption, false, map, filter, flat_map, OnOk};
+ghost use Rattle.std.specs.Prelude.{◌≡◌, ◌<◌, MatchOption, false, filter, flat_map, length, map, OnOk};
+ghost use Rattle.std.specs.List.{list_any};
+ghost use Rattle.std.specs.Ordering.{nat_cmp, ordering_then};
 ghost use Rattle.krates_selection.specs.Selection.{id_at};
 ghost use Rattle.krates_rules.specs.Resolved.{id_of};
-ghost use Rattle.krates_drawing.specs.Drawing.{AtCrate, AtFeature, leads_to as leads, feature_lines};
-ghost use Rattle.krates_drawing.specs.EdgeSource.{IsCrateSource, IsNumberOfChild};
-ghost use Rattle.krates_drawing.specs.LinesFrom.{line_from, meant_from};
-ghost use Rattle.krates_drawing.specs.OutlineOrder.{AreByChild, HaveEnds, IsPlaceOfFeature};
-ghost use Rattle.krates_drawing.specs.Views.{kids_in, edge_row_view, meaning_view, feature_row_view, outline_view, Draws};
+ghost use Rattle.krates_drawing.specs.Drawing.{feature_lines, leads, number, targets};
+ghost use Rattle.krates_drawing.specs.EdgeSource.{IsNumberOfChild};
+ghost use Rattle.krates_drawing.specs.LinesFrom.{end_of, line_from};
+ghost use Rattle.krates_drawing.specs.OutlineOrder.{IsPlaceOfFeature, has_ends};
+ghost use Rattle.krates_drawing.specs.Views.{kids_in, meaning_view, feature_row_view, outline_view, Draws};
 
 use crate::edge::{Edge, PlannedEdge};
-use crate::edge_source::{CrateSource, FeatureSource, first_source, source_of};
-use crate::equal_ranges::leads_to;
 use crate::numbers::{NumberedOutline, place_of_crate};
 use crate::outline::{EdgeRow, FeatureRow, Meaning, Outline};
+use krates_graph::graph::NodeId;
 use krates_ids::Kid;
 use std::alloc::AllocError;
+use std::cmp::Ordering;
 
-/// The number of the crate with this id, where one of the edges leads to it.
-fn number_of_child(outline: &Outline, mine: &[EdgeRow], id: &Kid) -> Option<usize>
-    requires by_child { AreByChild mine.now }
-    requires ends { HaveEnds outline.now mine.now }
-    ensures { MatchOption result
-        (leads (map (edge_row_view (kids_in outline.now)) mine.now) (id_of id.now) ≡ false)
-        (IsNumberOfChild outline.now mine.now (id_of id.now)) }
+/// A feature's node from which edges are drawn, and the number of its crate.
+#[derive(Clone, Copy)]
+struct FeatureSource {
+    number: NodeId,
+    krate: usize,
+}
+
+/// How the ends of a kept edge compare with these two crates.
+fn link_against(link: &EdgeRow, parent: usize, child: usize) -> Ordering
+    ensures { result ≡ ordering_then (nat_cmp link.now.edge.parent parent) (nat_cmp link.now.edge.child child) }
 {
-    let place = place_of_crate(&outline.krates, id);
-    if place < outline.krates.len() && leads_to(mine, place) {
-        Some(place)
+    match link.edge.parent.cmp(&parent) {
+        Ordering::Equal => link.edge.child.cmp(&child),
+        unequal => unequal,
+    }
+}
+
+/// Whether a kept edge leads from the one crate to the other.
+fn has_link(outline: &Outline, parent: usize, child: usize) -> bool
+    ensures { result ≡ list_any (has_ends parent child) outline.now.links.items }
+{
+    outline
+        .links
+        .binary_search_by(|link| link_against(link, parent, child))
+        .is_ok()
+}
+
+/// The number of the crate with this id, where a kept edge leads to it from the parent.
+fn number_of_child(outline: &Outline, parent: usize, id: &Kid) -> Option<usize>
+    requires { parent < length outline.now.krates.items }
+    ensures { MatchOption result
+        (leads (outline_view outline.now) (id_at (kids_in outline.now) parent) (id_of id.now) ≡ false)
+        (IsNumberOfChild outline.now parent (id_of id.now)) }
+{
+    let child = place_of_crate(&outline.krates, id);
+    if child < outline.krates.len() && has_link(outline, parent, child) {
+        Some(child)
     } else {
         None
     }
 }
 
 impl NumberedOutline<'_> {
-    /// Draws to the crates that have an edge.
-    fn draw_to_crates(
-        &self,
-        from: &FeatureSource<'_>,
-        krates: &[Kid],
-        out: &mut Vec<PlannedEdge>,
-    ) -> Result<(), AllocError>
-        requires { IsCrateSource self.now.outline.now from.now.home }
+    /// The number of the crate's node, or that of the feature of it which the reference names.
+    fn end_number(&self, krate: usize, meaning: &Meaning) -> NodeId
+        requires { krate < length self.now.outline.now.krates.items }
         ensures { let outline = self.now.outline.now in
-            OnOk result (Draws out.old out.new (map (line_from (outline_view outline) from.now.number)
-            (map AtCrate (filter (leads (map (edge_row_view (kids_in outline)) from.now.home.mine.now))
-            (map id_of krates.now))))) }
+            result ≡ number (outline_view outline) (end_of (meaning_view meaning.now) (id_at (kids_in outline) krate)) }
     {
-        for x in krates {
-            if let Some(child) = number_of_child(self.outline, from.home.mine, x) {
-                let target = self.crate_number(child);
-                out.push(PlannedEdge {
-                    source: from.number,
-                    target,
-                    edge: Edge::Feature,
-                })?;
-            }
+        match meaning {
+            Meaning::FeatureOf { name, .. } => self.feature_number(krate, name.as_str()),
+            _ => self.crate_number(krate),
         }
-        Ok(())
     }
 
-    /// Draws to a feature of the crates that have an edge.
-    fn draw_to_features(
+    /// Draws to what a reference names of those of the crates to which an edge leads from the feature's own.
+    fn draw_to(
         &self,
-        from: &FeatureSource<'_>,
+        from: &FeatureSource,
         krates: &[Kid],
-        name: &str,
+        meaning: &Meaning,
         out: &mut Vec<PlannedEdge>,
     ) -> Result<(), AllocError>
-        requires { IsCrateSource self.now.outline.now from.now.home }
+        requires { from.now.krate < length self.now.outline.now.krates.items }
         ensures { let outline = self.now.outline.now in
             OnOk result (Draws out.old out.new (map (line_from (outline_view outline) from.now.number)
-            (map (λ q. AtFeature q name.now)
-            (filter (leads (map (edge_row_view (kids_in outline)) from.now.home.mine.now))
-            (map id_of krates.now))))) }
+            (map (end_of (meaning_view meaning.now)) (filter (leads (outline_view outline)
+            (id_at (kids_in outline) from.now.krate)) (map id_of krates.now))))) }
     {
         for x in krates {
-            if let Some(child) = number_of_child(self.outline, from.home.mine, x) {
-                let target = self.feature_number(child, name);
+            if let Some(child) = number_of_child(self.outline, from.krate, x) {
+                let target = self.end_number(child, meaning);
                 out.push(PlannedEdge {
                     source: from.number,
                     target,
@@ -90,19 +103,18 @@ impl NumberedOutline<'_> {
     /// Draws to what a reference names.
     fn draw_meaning(
         &self,
-        from: &FeatureSource<'_>,
+        from: &FeatureSource,
         meaning: &Meaning,
         out: &mut Vec<PlannedEdge>,
     ) -> Result<(), AllocError>
-        requires { IsCrateSource self.now.outline.now from.now.home }
+        requires { from.now.krate < length self.now.outline.now.krates.items }
         ensures { let outline = self.now.outline.now in
-            OnOk result (Draws out.old out.new (meant_from (outline_view outline) from.now.number
-            (map (edge_row_view (kids_in outline)) from.now.home.mine.now)
-            (id_at (kids_in outline) from.now.home.krate) (meaning_view meaning.now))) }
+            OnOk result (Draws out.old out.new (map (line_from (outline_view outline) from.now.number)
+            (targets (outline_view outline) (id_at (kids_in outline) from.now.krate) (meaning_view meaning.now)))) }
     {
         match meaning {
             Meaning::OwnFeature(name) => {
-                let target = self.feature_number(from.home.krate, name.as_str());
+                let target = self.feature_number(from.krate, name.as_str());
                 out.push(PlannedEdge {
                     source: from.number,
                     target,
@@ -110,25 +122,23 @@ impl NumberedOutline<'_> {
                 })?;
                 Ok(())
             }
-            Meaning::Crates(krates) => self.draw_to_crates(from, krates, out),
-            Meaning::FeatureOf { krates, name } => {
-                self.draw_to_features(from, krates, name.as_str(), out)
-            }
+            Meaning::Crates(krates) => self.draw_to(from, krates, meaning, out),
+            Meaning::FeatureOf { krates, .. } => self.draw_to(from, krates, meaning, out),
         }
     }
 
     /// Draws to what all references of a feature name.
     fn draw_meanings(
         &self,
-        from: &FeatureSource<'_>,
+        from: &FeatureSource,
         meanings: &[Meaning],
         out: &mut Vec<PlannedEdge>,
     ) -> Result<(), AllocError>
-        requires { IsCrateSource self.now.outline.now from.now.home }
+        requires { from.now.krate < length self.now.outline.now.krates.items }
         ensures { let outline = self.now.outline.now in
-            OnOk result (Draws out.old out.new (flat_map (meant_from (outline_view outline)
-            from.now.number (map (edge_row_view (kids_in outline)) from.now.home.mine.now)
-            (id_at (kids_in outline) from.now.home.krate)) (map meaning_view meanings.now))) }
+            OnOk result (Draws out.old out.new (map (line_from (outline_view outline) from.now.number)
+            (flat_map (targets (outline_view outline) (id_at (kids_in outline) from.now.krate))
+            (map meaning_view meanings.now)))) }
     {
         for x in meanings {
             self.draw_meaning(from, x, out)?;
@@ -136,17 +146,15 @@ impl NumberedOutline<'_> {
         Ok(())
     }
 
-    /// Draws the edges from the feature node at a place among the features, whose crate is this one.
-    #[tactic(auto, unfolding(crate::specs::Drawing::feature_lines, crate::specs::Drawing::meaning_lines))]
+    /// Draws the edges from the feature node at a place among the features.
+    #[tactic(auto, unfolding(crate::specs::Drawing::feature_lines))]
     fn draw_feature(
         &self,
-        home: &CrateSource<'_>,
         place: usize,
         named: &FeatureRow,
         out: &mut Vec<PlannedEdge>,
     ) -> Result<(), AllocError>
-        requires home { IsCrateSource self.now.outline.now home.now }
-        requires krate { home.now.krate ≡ named.now.feature.krate }
+        requires krate { named.now.feature.krate < length self.now.outline.now.krates.items }
         requires place { IsPlaceOfFeature self.now.outline.now place named.now }
         ensures { let outline = self.now.outline.now in
             OnOk result (Draws out.old out.new (feature_lines (outline_view outline)
@@ -154,11 +162,11 @@ impl NumberedOutline<'_> {
     {
         let from = FeatureSource {
             number: self.feature_node_at(place, named),
-            home: *home,
+            krate: named.feature.krate,
         };
         out.push(PlannedEdge {
             source: from.number,
-            target: self.crate_number(home.krate),
+            target: self.crate_number(from.krate),
             edge: Edge::Feature,
         })?;
         self.draw_meanings(&from, &named.meanings, out)
@@ -170,12 +178,8 @@ impl NumberedOutline<'_> {
             OnOk result (Draws out.old out.new (flat_map (feature_lines (outline_view outline))
             (outline_view outline).features)) }
     {
-        let Some(mut home) = first_source(self.outline) else {
-            return Ok(());
-        };
         for (place, x) in self.outline.features.iter().enumerate() {
-            home = source_of(self.outline, x.feature.krate, &home);
-            self.draw_feature(&home, place, x, out)?;
+            self.draw_feature(place, x, out)?;
         }
         Ok(())
     }

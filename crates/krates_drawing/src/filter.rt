@@ -15,7 +15,7 @@ pub trait OnFilter {
     /// Whether the filter may be called in this state.
     ghost can_filter: { Self → Type 0 } = { λ _. Unit {0} };
 
-    /// How the state before and the package stand to the state after.
+    /// How the state before and the package relate to the state after.
     ghost filters: { Self → Package → Self → Type 0 };
 
     /// Takes a package that isn't kept, and may be called again.

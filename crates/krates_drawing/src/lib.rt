@@ -7,8 +7,6 @@ mod crate_edges;
 pub mod crate_record;
 pub mod division;
 pub mod edge;
-mod edge_count;
-mod edge_source;
 mod equal_ranges;
 mod feature_edges;
 pub mod filter;
@@ -21,7 +19,6 @@ pub mod node;
 pub mod nodes;
 pub mod numbers;
 pub mod outline;
-pub mod plan;
 pub mod store;
 mod text_set;
 

@@ -2,9 +2,9 @@
 ghost use Rattle.std.specs.Prelude.{◌≡◌, ◌<◌, length, map, IfOk};
 ghost use Rattle.std.specs.List.{range_with_len};
 ghost use Rattle.krates_selection.specs.Selection.{HasEnds};
-ghost use Rattle.krates_drawing.specs.Drawing.{planned_feature, mapped, mapping as mapping_of};
-ghost use Rattle.krates_drawing.specs.OutlineOrder.{AreByChild, HaveEnds, IsClaimed};
-ghost use Rattle.krates_drawing.specs.Views.{ArePlannedNodes, kids_in, krate_at, edge_row_view, planned_feature_view, outline_view};
+ghost use Rattle.krates_drawing.specs.Drawing.{planned_feature, mapping as mapping_of};
+ghost use Rattle.krates_drawing.specs.OutlineOrder.{AreByChild, HaveEnds, IsClaimed, mapped_over};
+ghost use Rattle.krates_drawing.specs.Views.{ArePlannedNodes, krate_at, planned_feature_view, outline_view};
 
 use crate::equal_ranges::links_from;
 use crate::numbers::NumberedOutline;
@@ -34,9 +34,7 @@ impl NumberedOutline<'_> {
     /// Writes the number of the crate to which the edge leads at the place of its declared dependency.
     fn claim(&self, link: &EdgeRow, mapping: &mut [Option<NodeId>])
         requires { HasEnds (length self.now.outline.now.krates.items) link.now.edge }
-        ensures { let outline = self.now.outline.now in
-            IsClaimed (outline_view outline) (edge_row_view (kids_in outline) link.now)
-            mapping.old mapping.new }
+        ensures { IsClaimed link.now mapping.old mapping.new }
     {
         let place = link.edge.declared;
         if place < mapping.len() {
@@ -53,9 +51,8 @@ impl NumberedOutline<'_> {
     ) -> Result<Vec<Option<NodeId>>, AllocError>
         requires by_child { AreByChild mine.now }
         requires ends { HaveEnds self.now.outline.now mine.now }
-        ensures { let outline = self.now.outline.now in
-            IfOk result (λ v. v.items ≡ map (mapped (outline_view outline)
-            (map (edge_row_view (kids_in outline)) mine.now)) (range_with_len 0 count)) }
+        ensures { let krates = length self.now.outline.now.krates.items in
+            IfOk result (λ v. v.items ≡ map (mapped_over krates mine.now) (range_with_len 0 count)) }
     {
         let mut mapping = vec![in alloc; None; count]?;
         for link in mine {

@@ -59,7 +59,7 @@ impl<'a> NumberedOutline<'a> {
         NodeId::new((self.outline.krates.len() + place) as u32)
     }
 
-    /// The number of the node of the feature that stands at this place among those of the outline.
+    /// The number of the node of the feature at this place among those of the outline.
     pub(crate) fn feature_node_at(&self, place: usize, named: &FeatureRow) -> NodeId
         requires { IsPlaceOfFeature self.now.outline.now place named.now }
         ensures { let outline = self.now.outline.now in

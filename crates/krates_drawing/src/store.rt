@@ -1,21 +1,22 @@
 //! The planned edges, put into a graph.
-ghost use Rattle.std.specs.Prelude.{◌≡◌, ◌<◌, ◌≤◌, ◌^◌, [], map, length, All, IfOk, OnOk, IfErr};
+ghost use Rattle.std.specs.Prelude.{◌≡◌, ◌<◌, ◌+◌, ◌^◌, [], map, length, All, IfOk, OnOk, IfErr};
 ghost use Rattle.std.specs.List.{AllZip};
 ghost use Rattle.krates_drawing.specs.Ends.{HasEnds};
 ghost use Rattle.krates_drawing.specs.Stored.{IsStoredAs, Appends};
 ghost use Rattle.krates_drawing.specs.Views.{planned_edge_view, tie_view};
 ghost use Rattle.krates_drawing.specs.declared.edge.Edge.{Edge};
-ghost use Rattle.krates_drawing.specs.declared.store.StoreError.TheVariants.{TooMany};
+ghost use Rattle.krates_drawing.specs.Limits.{StoringRefusal};
 
 use crate::edge::{Edge, PlannedEdge};
 use krates_graph::graph::{Graph, GraphError};
+use krates_ids::Error;
 use std::alloc::{AllocError, Global};
 
 /// A value that is made of an edge, and is held in its place.
 ///
 /// An edge is held as it is.
 pub trait FromEdge {
-    /// How an edge stands to the value that is made of it.
+    /// How an edge relates to the value that is made of it.
     ghost made_from_edge: { Edge → Self → Type 0 };
 
     /// Makes the value. The only error is running out of memory.
@@ -23,15 +24,6 @@ pub trait FromEdge {
     where
         Self: Sized,
         ensures { IfOk result (made_from_edge edge) };
-}
-
-/// Why the edges aren't stored.
-#[derive(Debug, PartialEq, Eq, Drop)]
-pub enum StoreError {
-    /// There are more of them than the graph's limit of edges.
-    TooMany,
-    /// Memory ran out.
-    Memory,
 }
 
 impl FromEdge for Edge {
@@ -43,38 +35,30 @@ impl FromEdge for Edge {
 }
 
 /// What is made of a copy of the edge.
-fn weight_of<E: FromEdge>(alloc: Global, edge: &Edge) -> Result<E, StoreError>
-    ensures made { IfOk result (λ w. (e : Edge) × (tie_view e ≡ tie_view edge.now) × E.made_from_edge e w) }
-    ensures refused { IfErr result (λ e. e ≡ TooMany → ⊥) }
+fn weight_of<E: FromEdge>(alloc: Global, edge: &Edge) -> Result<E, AllocError>
+    ensures { IfOk result (λ w. (e : Edge) × (tie_view e ≡ tie_view edge.now) × E.made_from_edge e w) }
 {
-    match edge.clone() {
-        Ok(edge) => match E::from_edge(alloc, edge) {
-            Ok(weight) => Ok(weight),
-            Err(_) => Err(StoreError::Memory),
-        },
-        Err(_) => Err(StoreError::Memory),
-    }
+    E::from_edge(alloc, edge.clone()?)
 }
 
+/// Puts a planned edge behind those of the graph.
 fn store_edge<N, E: FromEdge + Drop>(
     alloc: Global,
     planned: &PlannedEdge,
     graph: &mut Graph<N, E>,
-) -> Result<(), StoreError>
+) -> Result<(), Error>
     requires stands { HasEnds (length graph.old.nodes) (planned_edge_view planned.now) }
     requires few { length graph.old.nodes < 2 ^ 32 }
     ensures drawn { OnOk result (Appends E.made_from_edge graph.old.edges graph.new.edges
         (planned_edge_view planned.now)) }
     ensures rest { graph.new ≡ record graph.old { edges = graph.new.edges } }
-    ensures refused { IfErr result (λ e. e ≡ TooMany → graph.old.edge_limit ≤ length graph.old.edges) }
+    ensures refused { IfErr result (StoringRefusal graph.old.edge_limit (length graph.old.edges + 1)) }
 {
-    match weight_of(alloc, &planned.edge) {
-        Ok(weight) => match graph.add_edge(planned.source, planned.target, weight) {
-            Ok(_) => Ok(()),
-            Err(GraphError::Full(_)) => Err(StoreError::TooMany),
-            Err(GraphError::Memory(_)) => Err(StoreError::Memory),
-        },
-        Err(error) => Err(error),
+    let weight = weight_of(alloc, &planned.edge)?;
+    match graph.add_edge(planned.source, planned.target, weight) {
+        Ok(_) => Ok(()),
+        Err(GraphError::Full(_)) => Err(Error::TooMany),
+        Err(GraphError::Memory(_)) => Err(Error::Memory),
     }
 }
 
@@ -84,14 +68,14 @@ pub fn store_edges<N, E: FromEdge + Drop>(
     alloc: Global,
     planned_edges: &[PlannedEdge],
     graph: &mut Graph<N, E>,
-) -> Result<(), StoreError>
+) -> Result<(), Error>
     requires stand { All (HasEnds (length graph.old.nodes)) (map planned_edge_view planned_edges.now) }
     requires few { length graph.old.nodes < 2 ^ 32 }
     requires empty { graph.old.edges ≡ [] }
     ensures drawn { OnOk result (AllZip (IsStoredAs E.made_from_edge)
         (map planned_edge_view planned_edges.now) graph.new.edges) }
     ensures rest { graph.new ≡ record graph.old { edges = graph.new.edges } }
-    ensures refused { IfErr result (λ e. e ≡ TooMany → graph.old.edge_limit < length planned_edges.now) }
+    ensures refused { IfErr result (StoringRefusal graph.old.edge_limit (length planned_edges.now)) }
 {
     for x in planned_edges {
         store_edge(alloc, x, graph)?;

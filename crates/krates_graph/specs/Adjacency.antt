@@ -1,4 +1,4 @@
--- How the lists of edge numbers that are kept for each node are related to the edges.
+-- How the lists of edge numbers, which are kept for each node, relate to the edges.
 use Rattle.std.specs.Prelude.{◌≡◌, ℕ, ◌<◌, ◌≤◌, List, [], All, length, map, slice_index_or, vec_len, vec_capacity}
 use Rattle.std.specs.List.{HoldsAt}
 use Rattle.krates_graph.specs.declared.graph.edge.GraphEdge.{GraphEdge}

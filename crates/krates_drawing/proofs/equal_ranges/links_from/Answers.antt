@@ -1,14 +1,12 @@
-use Rattle.std.proofs.Common.{length, map, rules, ap, subst, sym, ◌∙◌}
+use Rattle.std.proofs.Common.{length, rules, subst, sym}
 use Rattle.std.proofs.lemmas.Fn.{always_returns_same}
 use Rattle.std.proofs.lemmas.List.Elements.{All-filter}
 use Rattle.std.specs.Ordering.{is_eq, is_lt, nat_cmp}
 use Rattle.krates_selection.specs.Selection.{HasEnds}
-use Rattle.krates_drawing.specs.OutlineOrder.{HaveEnds}
-use Rattle.krates_drawing.specs.Views.{kids_in, edge_row_view}
+use Rattle.krates_drawing.specs.OutlineOrder.{HaveEnds, has_parent}
 use Rattle.krates_drawing.specs.declared.outline.EdgeRow.{EdgeRow}
-use Rattle.krates_drawing.proofs.CratePlaces.{seen_from}
 use Rattle.krates_drawing.proofs.EqualRanges.{cut}
-use Rattle.krates_drawing.proofs.Tests.{cut_by_child, cut_parent, has_parent, links_by_parent}
+use Rattle.krates_drawing.proofs.Tests.{cut_by_child, cut_parent, links_by_parent}
 use Rattle.krates_drawing.proofs.equal_ranges.links_from.Goals as goal
 
 pub returns : goal.returns
@@ -23,7 +21,7 @@ returns c =
     c.deref.ensures.value c.deref-2.ensures.value c.split_at.ensures.back c.split_at-2.ensures.front (links_by_parent xs p o.links) low high in
     let is = cut_parent xs c.split_at-2.result.0.now p found in
     record {
-      links = ap (map (edge_row_view (kids_in t))) is ∙ sym (seen_from t.krates.items p xs o.krates c.requires.within o.ends);
+      links = is;
       by_child = cut_by_child xs c.split_at-2.result.0.now p o.links found;
       ends = subst (HaveEnds t) (sym is) (All-filter (has_parent p) (λ (l : EdgeRow). HasEnds (length t.krates.items) l.edge) xs o.ends);
     }

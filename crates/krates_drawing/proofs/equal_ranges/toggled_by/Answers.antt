@@ -1,14 +1,9 @@
-use Rattle.std.proofs.Common.{length, map, rules, ap, subst, sym, ◌∙◌}
+use Rattle.std.proofs.Common.{rules}
 use Rattle.std.proofs.lemmas.Fn.{always_returns_same}
-use Rattle.std.proofs.lemmas.List.Elements.{All-filter}
-use Rattle.std.specs.List.{All}
 use Rattle.std.specs.Ordering.{is_eq, is_lt, nat_cmp}
-use Rattle.krates_selection.specs.Selection.{HasCrates}
 use Rattle.krates_selection.specs.declared.selection.ToggledFeature.{ToggledFeature}
-use Rattle.krates_drawing.specs.Views.{kids_in, toggle_of}
-use Rattle.krates_drawing.proofs.CratePlaces.{seen_by}
 use Rattle.krates_drawing.proofs.EqualRanges.{cut}
-use Rattle.krates_drawing.proofs.Tests.{cut_by, cut_by_krate, has_by, toggled_by_crate}
+use Rattle.krates_drawing.proofs.Tests.{cut_by, cut_by_krate, toggled_by_crate}
 use Rattle.krates_drawing.proofs.equal_ranges.toggled_by.Goals as goal
 
 pub returns : goal.returns
@@ -23,7 +18,6 @@ returns c =
     c.deref.ensures.value c.deref-2.ensures.value c.split_at.ensures.back c.split_at-2.ensures.front (toggled_by_crate xs p o.toggled) low high in
     let is = cut_by xs c.split_at-2.result.0.now p found in
     record {
-      toggled = ap (map (toggle_of (kids_in t))) is ∙ sym (seen_by t.krates.items p xs o.krates c.requires.within o.toggled_crates);
+      toggled = is;
       by_krate = cut_by_krate xs c.split_at-2.result.0.now p o.toggled found;
-      crates = subst (All (HasCrates (length t.krates.items))) (sym is) (All-filter (has_by p) (HasCrates (length t.krates.items)) xs o.toggled_crates);
     }

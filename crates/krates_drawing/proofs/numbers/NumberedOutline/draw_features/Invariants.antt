@@ -1,13 +1,10 @@
 use Rattle.std.proofs.Common.{◌≡◌, ◌++◌, map, drop}
 use Rattle.std.specs.Prelude.{flat_map}
 use Rattle.krates_drawing.specs.Drawing.{feature_lines}
-use Rattle.krates_drawing.specs.EdgeSource.{IsCrateSource}
 use Rattle.krates_drawing.specs.Views.{kids_in, feature_row_view, outline_view, planned_edge_view}
 use Rattle.krates_drawing.proofs.numbers.NumberedOutline.draw_features.Given as goal
 
--- what is left is drawn behind what is drawn, and the crate is one of the outline's
 abbrev pub invariant-loop-place : goal.invariant-loop-place
 invariant-loop-place l =
-    (map planned_edge_view l.out.items ++ flat_map (feature_lines (outline_view l.self.outline.now)) (map (feature_row_view (kids_in l.self.outline.now)) (drop l.place l.self.outline.now.features.items))
-    ≡ map planned_edge_view l.fn.out.items ++ flat_map (feature_lines (outline_view l.self.outline.now)) (map (feature_row_view (kids_in l.self.outline.now)) l.self.outline.now.features.items))
-    × IsCrateSource l.self.outline.now l.home
+    map planned_edge_view l.out.items ++ flat_map (feature_lines (outline_view l.self.outline.now)) (map (feature_row_view (kids_in l.self.outline.now)) (drop l.place l.self.outline.now.features.items))
+    ≡ map planned_edge_view l.fn.out.items ++ flat_map (feature_lines (outline_view l.self.outline.now)) (map (feature_row_view (kids_in l.self.outline.now)) l.self.outline.now.features.items)

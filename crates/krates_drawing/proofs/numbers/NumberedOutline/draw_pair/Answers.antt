@@ -2,50 +2,39 @@ use Rattle.std.proofs.Common.{filter, length, map, ap, sym, subst, ◌∙◌}
 use Rattle.std.proofs.lemmas.List.Elements.{All-filter}
 use Rattle.std.specs.Prelude.{flat_map}
 use Rattle.krates_selection.specs.Selection.{HasEnds, id_at}
-use Rattle.krates_drawing.specs.Drawing.{AtCrate, AtFeature, Feature, crate_number, is_between, is_to, line, pair_lines, uses}
+use Rattle.krates_drawing.specs.Drawing.{AtFeature, crate_number, pair_lines, uses}
 use Rattle.krates_drawing.specs.LinesFrom.{line_from}
 use Rattle.krates_drawing.specs.Outline.{Toggle}
-use Rattle.krates_drawing.specs.OutlineOrder.{HaveEnds, has_child, is_by}
+use Rattle.krates_drawing.specs.OutlineOrder.{HaveEnds, has_by, has_child, has_krate, has_parent}
 use Rattle.krates_drawing.specs.Views.{planned_edge_view, kids_in, edge_row_view, outline_view, toggle_of}
 use Rattle.krates_drawing.specs.declared.outline.EdgeRow.{EdgeRow}
 use Rattle.krates_drawing.proofs.Children.{two_parts}
-use Rattle.krates_drawing.proofs.CratePlaces.{id_of_krate, is_in, seen_in, seen_to}
-use Rattle.krates_drawing.proofs.Sources.{sources_are}
+use Rattle.krates_drawing.proofs.CratePlaces.{links_between, toggles_between}
 use Rattle.krates_drawing.proofs.Tests.{filter_twice}
 use Rattle.krates_drawing.proofs.numbers.NumberedOutline.draw_pair.Goals as goal
 
-pub draw_kept-requires-clause-ends : goal.draw_kept-requires-clause-ends
-draw_kept-requires-clause-ends c =
+pub draw_kept-requires : goal.draw_kept-requires
+draw_kept-requires c =
     let t = c.args.self.now.outline.now in
     let from = c.args.from.now in
     subst (HaveEnds t) (sym c.links_to.ensures) (All-filter (has_child c.args.child) (λ (l : EdgeRow). HasEnds (length t.krates.items) l.edge) from.mine.now c.requires.home.mine.ends)
 
-pub draw_kept-requires-clause-source : goal.draw_kept-requires-clause-source
-draw_kept-requires-clause-source c =
-    let t = c.args.self.now.outline.now in
-    let from = c.args.from.now in
-    sources_are (outline_view t) (edge_row_view (kids_in t)) (id_at (kids_in t) from.krate) (has_child c.args.child) c.crate_number-source.result from.mine.now c.links_to.result.now c.requires.home.mine.links c.links_to.ensures c.crate_number-source.ensures
-
 pub returns : goal.returns
 unfolding pair_lines
 returns c =
-    let outline = c.args.self.now.outline.now in
-    let ks = outline.krates.items in
-    let kids = kids_in outline in
-    let t = outline_view outline in
-    let from = c.args.from.now in
-    let mine = from.mine.now in
-    let home = c.requires.home in
-    let here = c.requires.toggled in
-    let sorted = c.args.self.now.outline.now.ordered.krates in
-    let p = id_at kids from.krate in
-    let q = id_at kids c.args.child in
-    let id = id_of_krate ks c.args.child in
+    let t = c.args.self.now.outline.now in
+    let o = t.ordered in
+    let s = outline_view t in
+    let ks = t.krates.items in
+    let kids = kids_in t in
+    let p = c.args.from.now.krate in
+    let q = c.args.child in
+    let links = c.links_to.ensures ∙ ap (filter (has_child q)) c.requires.home.mine.links ∙ filter_twice (has_parent p) (has_child q) t.links.items in
+    let toggled = c.toggled_in.ensures ∙ ap (filter (has_krate q)) c.requires.toggled.toggled ∙ filter_twice (has_by p) (has_krate q) t.toggled.items in
     two_parts (map planned_edge_view c.args.out.now.items) (map planned_edge_view c.draw_kept.new.out.items) (map planned_edge_view c.draw_toggled.new.out.items) _ _ _ _
     c.in_ok-draw_kept.ensures c.in_ok-draw_toggled.ensures
-    (ap (λ ls. flat_map (λ l. uses t l l.given) (map (edge_row_view kids) ls)) c.links_to.ensures
-    ∙ ap (flat_map (λ l. uses t l l.given)) (sym (seen_to ks c.args.child mine sorted c.requires.within home.mine.ends) ∙ ap (λ i. filter (is_to i) (map (edge_row_view kids) mine)) (sym id)))
-    (ap (λ n. map (λ (g : Toggle). line_from t n (AtFeature q g.name)) (map (toggle_of kids) c.toggled_in.result.now)) c.crate_number-source.ensures
-    ∙ ap (map (λ (g : Toggle). line_from t (crate_number t p) (AtFeature q g.name)))
-    (ap (map (toggle_of kids)) c.toggled_in.ensures ∙ sym (seen_in ks c.args.child c.args.toggled.now sorted c.requires.within here.crates) ∙ ap (filter (is_in q)) here.toggled ∙ filter_twice (is_by p) (is_in q) t.toggled)
-    ∙ ap (λ i. map (λ (g : Toggle). line t (AtCrate p) (AtFeature i g.name) Feature) (filter (is_between p i) t.toggled)) (sym id))
+    (ap (λ ls. flat_map (λ l. uses s l l.given) (map (edge_row_view kids) ls)) links
+    ∙ ap (flat_map (λ l. uses s l l.given)) (sym (links_between ks p q o.krates c.requires.home.within c.requires.within t.links.items o.ends)))
+    (ap (λ n. map (λ (g : Toggle). line_from s n (AtFeature (id_at kids q) g.name)) (map (toggle_of kids) c.toggled_in.result.now)) c.crate_number-source.ensures
+    ∙ ap (λ ts. map (λ (g : Toggle). line_from s (crate_number s (id_at kids p)) (AtFeature (id_at kids q) g.name)) (map (toggle_of kids) ts)) toggled
+    ∙ ap (map (λ (g : Toggle). line_from s (crate_number s (id_at kids p)) (AtFeature (id_at kids q) g.name))) (sym (toggles_between ks p q o.krates c.requires.home.within c.requires.within t.toggled.items o.toggled_crates)))

@@ -1,6 +1,6 @@
 use Rattle.std.proofs.Common.{arith}
 use Rattle.std.proofs.lemmas.Grind.{common_steps}
-use Rattle.krates_drawing.proofs.numbers.NumberedOutline.draw_to_crates.Goals as goal
+use Rattle.krates_drawing.proofs.numbers.NumberedOutline.draw_to.Goals as goal
 
 pub loop-x-preserved : goal.loop-x-preserved
 loop-x-preserved c = grind (arith, common_steps)

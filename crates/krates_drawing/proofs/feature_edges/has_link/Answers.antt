@@ -1,0 +1,22 @@
+use Rattle.std.proofs.Common.{ℕ, List, Ordering, length, rules, subst, ◌∙◌}
+use Rattle.std.proofs.lemmas.Fn.{always_returns_same}
+use Rattle.std.specs.List.Sorted.{IsBinarySearchResult, IsSearchInRange}
+use Rattle.std.specs.Ordering.{is_eq}
+use Rattle.krates_drawing.specs.OutlineOrder.{has_ends}
+use Rattle.krates_drawing.specs.declared.outline.EdgeRow.{EdgeRow}
+use Rattle.krates_drawing.proofs.EqualRanges.{some_found}
+use Rattle.krates_drawing.proofs.Tests.{any_alike, ends_cmp, ends_of, equal_ends, links_by_ends}
+use Rattle.krates_drawing.proofs.feature_edges.has_link.Goals as goal
+
+pub returns : goal.returns
+returns c =
+    let t = c.args.outline.now in
+    let q : ℕ × ℕ = (c.args.parent, c.args.child) in
+    let ord : EdgeRow → Ordering = λ l. ends_cmp (ends_of l) q in
+    let found = c.binary_search_by.ensures in
+    let r = c.binary_search_by.result in
+    let same = c.deref.ensures.value in
+    let range = subst (λ (l : List EdgeRow). IsSearchInRange r (length l)) same found.bound in
+    let at = subst (λ (l : List EdgeRow). IsBinarySearchResult ord l r) same (found.position ord (always_returns_same _ _ _ (λ a r k called. search rules))) in
+    c.is_ok.ensures.value ∙ some_found ord t.links.items r (links_by_ends t.links.items q t.ordered.links) range at
+    ∙ any_alike (λ l. is_eq (ord l)) (has_ends c.args.parent c.args.child) (λ l. equal_ends (ends_of l) q) t.links.items
