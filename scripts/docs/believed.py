@@ -58,7 +58,8 @@ has to be believed but its own statement, which fits a screen.
 
 IMPORT = re.compile(r"^\s*(?:ghost )?use Rattle\.(\w+)\.specs\.([\w.]+?)(?:\.\{(.*?)\})?(?: as (\w+))?;?$", re.M | re.S)
 DEFINITION = re.compile(r"^(?:abbrev |unfoldable )?pub (?:(data|record) )?([\w']+)")
-WORD = re.compile(r"[\w']+")
+# a word, or by the name of a file or a type one of its own: `facts.Lost`
+WORD = re.compile(r"[\w']+(?:\.[\w']+)?")
 
 
 class Definition:
@@ -98,7 +99,7 @@ def without_blocks(text):
 
 
 def imports_of(text):
-    """Which definition of which file each imported word names; `None` stands for the whole file."""
+    """Which definition of which file each imported word names; `None` stands for whichever one is named behind it."""
     found = {}
     for crate, path, names, alias in IMPORT.findall(text):
         file = ROOT / "crates" / crate / "specs" / (path.split(".")[0] + ".antt")
@@ -115,7 +116,7 @@ def imports_of(text):
 
 def definitions_of(file, paragraph):
     """The definitions of a paragraph; the constructors of a `data` lead to it too."""
-    lines = paragraph.split("\n")
+    lines = [line for line in paragraph.split("\n") if line.strip()]
     remark = " ".join(line.lstrip("- ") for line in lines if line.startswith("-- ") and not line.startswith("-- ----"))
     body = "\n".join(line for line in lines if not line.startswith("--"))
     for line in lines:
@@ -153,15 +154,13 @@ def contract():
 def used(words, imports, own):
     """The definitions that these words name, by the imports and the definitions of the file in which they stand."""
     for word in sorted(words):
-        if word in own:
-            yield own[word]
-        elif word in imports:
-            path, name = imports[word]
-            file = read(path)
-            if name is None:
-                yield from file.definitions.values()
-            elif name in file.definitions:
-                yield file.definitions[name]
+        first, _, second = word.partition(".")
+        path, name = imports.get(first, (None, None))
+        name = name or second
+        if first in own:
+            yield own[first]
+        elif path and name in read(path).definitions:
+            yield read(path).definitions[name]
 
 
 def reached():
