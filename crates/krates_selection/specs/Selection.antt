@@ -3,7 +3,6 @@ use Rattle.std.specs.Prelude.{◌≡◌, ℕ, ◌↔◌, ◌++◌, List, All, Co
 use Rattle.std.specs.List.Sorted.{IsStrictlySortedBy}
 use Rattle.krates_cm.specs.Document.{DependencyModel, MetadataModel, text_view}
 use Rattle.krates_ids.specs.Identity.{Identity, id_cmp}
-use Rattle.krates_ids.specs.declared.error.Error.{Error}
 use Rattle.krates_rules.specs.DeclaredDependency.{FirstAt}
 use Rattle.krates_rules.specs.Derivation.{Derivable}
 use Rattle.krates_rules.specs.Facts.{Id, Edge, Fact, Crate, Kept, Feature, Toggled}
@@ -15,7 +14,6 @@ use Rattle.krates_selection.specs.declared.selection.EnabledFeature.{EnabledFeat
 use Rattle.krates_selection.specs.declared.selection.KeptEdge.{KeptEdge}
 use Rattle.krates_selection.specs.declared.selection.Selection.{Selection}
 use Rattle.krates_selection.specs.declared.selection.ToggledFeature.{ToggledFeature}
-use Rattle.krates_rules.specs.SelectionRefusals.{SelectionRefusal}
 use Rattle.krates_rules.specs.Setting.{SettingModel}
 use Rattle.krates_selection.specs.Work.{CountsEach}
 
@@ -77,7 +75,3 @@ pub record IsSelection (r : Resolved) (s : SettingModel) (x : Selection) : Type 
 -- it is that of the document under the setting
 abbrev pub IsSelectionOf : MetadataModel → SettingModel → Selection → Type 0
 IsSelectionOf m s x = HasGraphWith m (λ g. IsSelection (resolved m g) s x)
-
--- why nothing is selected of the document under the setting
-abbrev pub RefusesSelection : MetadataModel → SettingModel → Error → Type 0
-RefusesSelection m s e = HasGraphWith m (λ g. SelectionRefusal (questions (resolved m g) s) e)
