@@ -15,7 +15,7 @@ use Rattle.krates_graph.specs.Graph.{StoredGraph}
 use Rattle.krates_ids.specs.Identity.{Identity}
 use Rattle.krates_rules.specs.Admission.{NoneDoubled}
 use Rattle.krates_rules.specs.Facts.{Id}
-use Rattle.krates_rules.specs.Resolved.{StandsAt, id_of, resolved}
+use Rattle.krates_rules.specs.Resolved.{id_of, resolved}
 use Rattle.krates_rules.specs.Setting.{SettingModel}
 use Rattle.krates.specs.BuildLaws.{IsBuildAgreeing}
 use Rattle.krates_queries.specs.Direct.{AreConnected, value_at, value_in}

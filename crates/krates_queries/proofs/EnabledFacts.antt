@@ -1,8 +1,8 @@
 -- The enabled features of the crates among the nodes, as facts: a feature is among them exactly if it is among those of a crate.
-use Rattle.std.proofs.Common.{◌≡◌, ◌↔◌, ℕ, zero, suc, List, [], ◌∷◌, ◌⊎◌, Option, Some, slice_get, map, Contains, refl, sym, ap, ◌∙◌, subst, inl, inr}
+use Rattle.std.proofs.Common.{◌≡◌, ◌↔◌, ℕ, zero, suc, List, [], ◌∷◌, Some, slice_get, map, Contains, refl, sym, ap, ◌∙◌, subst, inl, inr}
 use Rattle.krates_cm.specs.Document.{Text}
 use Rattle.krates_ids.specs.Identity.{Identity}
-use Rattle.krates_rules.specs.Facts.{Id, Fact}
+use Rattle.krates_rules.specs.Facts.{Id}
 use Rattle.krates_rules.specs.Facts as facts
 use Rattle.krates_rules.specs.Resolved.{id_of}
 use Rattle.krates_drawing.specs.Node.{crate_features, crate_ids, names_in}
