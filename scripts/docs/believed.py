@@ -19,11 +19,11 @@ Written by `scripts/docs.py believed` from the contract of `Builder::build_with_
 What has to be read, to know what is proved, are the contract and the {count} definitions that it reaches: {lines} lines in {files} files.
 
 - {meaning} lines say what a document, its ids, its references and a setting mean, and what is kept, reported and refused. The mark
-  that this page keeps to is 900; what is more came with a caller's own types, whose values are made of the kept packages.
-- {drawn} lines are beyond that mark, since the headline speaks of the drawn graph too: which nodes, mappings and edges there are, by
-  number, how much work it was, and by which steps all of it is kept.
-- {fields} lines are beyond it, and say nothing new: they list the fields of a document, of what an index answers, of a setting and of
-  a document's ids, as clauses see them. Every other definition names such fields, so they stand here too.
+  that this page keeps to is 900 of these, and 1300 of all.
+- {drawn} lines are of the drawn graph, of which the headline speaks too: which nodes, mappings and edges there are, by number, how much
+  work it was, and by which steps all of it is kept.
+- {fields} lines say nothing new: they list the fields of a document, of what an index answers, of a setting and of a document's ids, as
+  clauses see them. Every other definition names such fields, so they stand here too.
 
 The files stand in the order in which they are first needed, and the definitions of a file behind those of it that they use, each with
 the sentence that stands above it there.{bare}
@@ -53,12 +53,14 @@ has to be believed but its own statement, which fits a screen.
   `FilteredHoldsRebuild`; a caller's view of it is [Rebuilt](../crates/krates_build_tests/specs/Rebuilt.antt), `HoldsRebuilt`.
 - **Agreement**: where no two crates come by one declared dependency of `p`, `p` depends directly on exactly those that have `p` as a
   dependent. So `a` depends on `b` exactly if `b` has `a` as a dependent; but where one dependency brings two versions of `d`, `a` is a
-  dependent of both and depends on the one that comes last by id. It is the clause `agree` of `IsBuilt` below.
+  dependent of both and depends on the one that comes last by id. It holds of each graph that is drawn of a document that can be resolved,
+  as `IsBuilt` below promises of both. [BuildLaws](../crates/krates/specs/BuildLaws.antt), `IsBuildAgreeing`.
 """
 
 IMPORT = re.compile(r"^\s*(?:ghost )?use Rattle\.(\w+)\.specs\.([\w.]+?)(?:\.\{(.*?)\})?(?: as (\w+))?;?$", re.M | re.S)
 DEFINITION = re.compile(r"^(?:abbrev |unfoldable )?pub (?:(data|record) )?([\w']+)")
-WORD = re.compile(r"[\w']+")
+# a word, or by the name of a file or a type one of its own: `facts.Lost`
+WORD = re.compile(r"[\w']+(?:\.[\w']+)?")
 
 
 class Definition:
@@ -98,7 +100,7 @@ def without_blocks(text):
 
 
 def imports_of(text):
-    """Which definition of which file each imported word names; `None` means the whole file."""
+    """Which definition of which file each imported word names; `None` means whichever one is named after it."""
     found = {}
     for crate, path, names, alias in IMPORT.findall(text):
         file = ROOT / "crates" / crate / "specs" / (path.split(".")[0] + ".antt")
@@ -115,7 +117,7 @@ def imports_of(text):
 
 def definitions_of(file, paragraph):
     """The definitions of a paragraph; the constructors of a `data` lead to it too."""
-    lines = paragraph.split("\n")
+    lines = [line for line in paragraph.split("\n") if line.strip()]
     remark = " ".join(line.lstrip("- ") for line in lines if line.startswith("-- ") and not line.startswith("-- ----"))
     body = "\n".join(line for line in lines if not line.startswith("--"))
     for line in lines:
@@ -153,15 +155,13 @@ def contract():
 def used(words, imports, own):
     """The definitions that these words name, by the imports and the definitions of the file that they are in."""
     for word in sorted(words):
-        if word in own:
-            yield own[word]
-        elif word in imports:
-            path, name = imports[word]
-            file = read(path)
-            if name is None:
-                yield from file.definitions.values()
-            elif name in file.definitions:
-                yield file.definitions[name]
+        first, _, second = word.partition(".")
+        path, name = imports.get(first, (None, None))
+        name = name or second
+        if first in own:
+            yield own[first]
+        elif path and name in read(path).definitions:
+            yield read(path).definitions[name]
 
 
 def reached():

@@ -8,11 +8,12 @@ use Rattle.krates_ids.specs.Identity.{Identity, Reads}
 use Rattle.krates_rules.specs.Admission.{IsAdmitted, package_texts, doubled_package, IdsModel}
 use Rattle.krates_document.proofs.AdmissionLemmas.{twice_texts}
 use Rattle.krates_rules.specs.DistinctIds.{AreDistinct}
-use Rattle.krates_rules.specs.Facts.{Id, Cause, Feature}
+use Rattle.krates_rules.specs.Facts.{Id, Cause, Feature, Lost}
 use Rattle.krates_rules.specs.Questions.{Stands, questions}
 use Rattle.krates_rules.specs.Resolved.{ReadsAs, resolved, id_of}
 use Rattle.krates_rules.specs.Setting.{SettingModel}
-use Rattle.krates.specs.Build.{KeepsCrate, DropsCrate, IsLost, IsDerived}
+use Rattle.krates_rules.specs.Resolution.{IsDerived}
+use Rattle.krates.specs.Build.{KeepsCrate, DropsCrate}
 use Rattle.krates_drawing.specs.Listed.{AreThosePackages}
 use Rattle.krates_drawing.specs.Division.{IsAmong, IsDivision}
 use Rattle.krates_drawing.specs.Krate.{krate_ids, krate_packages}
@@ -108,7 +109,7 @@ has_package m s i h =
 pub record Builds (m : Metadata) (s : SettingModel) (d : Division) : Type 0 where
   pub kept : (i : Id) → KeepsCrate (metadata_view m) s i ↔ Contains (map id_of (krate_ids d.kept.items)) i
   pub some : (i : Id) × KeepsCrate (metadata_view m) s i
-  pub none_lost : (c : Cause) → IsLost (metadata_view m) s c → ⊥
+  pub none_lost : (c : Cause) → IsDerived (metadata_view m) s (Lost c) → ⊥
   pub packages : AreThosePackages m.packages.items (KeepsCrate (metadata_view m) s) (krate_ids d.kept.items) (krate_packages d.kept.items)
   pub others : AreThosePackages m.packages.items (DropsCrate (metadata_view m) s) (krate_ids d.others.items) (krate_packages d.others.items)
 

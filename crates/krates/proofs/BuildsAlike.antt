@@ -19,7 +19,8 @@ use Rattle.krates_rules.specs.Admission.{NoneDoubled}
 use Rattle.krates_rules.specs.Facts.{Id, Fact, Crate}
 use Rattle.krates_rules.specs.Reordering.{Reorders, ResolveAlike, IsOrderFree}
 use Rattle.krates_rules.specs.Setting.{SettingModel}
-use Rattle.krates.specs.Build.{IsResolvable, KeepsCrate, DropsCrate, GraphRefusal, IsRefusedSeeing, IsDerived}
+use Rattle.krates_rules.specs.Resolution.{IsDerived}
+use Rattle.krates.specs.Build.{IsResolvable, KeepsCrate, DropsCrate, GraphRefusal, IsRefusedSeeing}
 use Rattle.krates.specs.BuildLaws.{BuildAlike, IsBuildOrderFree}
 use Rattle.krates_queries.specs.Drawn.{IsOutlineFor}
 use Rattle.krates.specs.Indexed.{HasNames, IsSeenBy}

@@ -1,25 +1,24 @@
 -- The stored graph of an outline is connected like the drawn one, and the direct queries agree on it.
-use Rattle.std.proofs.Common.{◌≡◌, ◌↔◌, ℕ, zero, suc, ◌<◌, ◌^◌, List, [], ◌∷◌, length, map, Option, Some, None, option_map, slice_get, refl, sym, ap, ◌∙◌, subst}
+use Rattle.std.proofs.Common.{◌≡◌, ◌↔◌, ℕ, zero, suc, ◌<◌, ◌^◌, List, [], ◌∷◌, ◌++◌, length, map, Option, Some, None, option_map, slice_get, refl, sym, ap, ◌∙◌, subst}
 use Rattle.std.proofs.lemmas.Option.{slice_get-map, same_Some}
 use Rattle.std.specs.List.{AllZip}
 use Rattle.krates_cm.specs.Document.{MetadataModel}
 use Rattle.krates_drawing.specs.Agreement.{DependsOn, LeadsTo, DependenciesAgree, OneEach}
 use Rattle.krates_drawing.specs.Connected as drawn
-use Rattle.krates_drawing.specs.Drawing.{PlannedCrate, crate_number, planned_edges, planned_nodes}
-use Rattle.krates_drawing.specs.Outline.{Outline}
+use Rattle.krates_drawing.specs.Drawing.{PlannedCrate, crate_number, planned_crate, planned_edges, planned_feature, planned_nodes}
+use Rattle.krates_drawing.specs.Outline.{CrateRow, FeatureRow, Outline}
 use Rattle.krates_drawing.specs.Stored.{IsStoredAs, LeadsAlong}
 use Rattle.krates_drawing.specs.declared.edge.Edge.{Edge}
 use Rattle.krates_rules.proofs.Members.{member_of, contains_of, partner_of}
 use Rattle.krates_drawing.proofs.Storing.{stored_leads}
 use Rattle.krates_graph.specs.Graph.{StoredGraph}
 use Rattle.krates_ids.specs.Identity.{Identity}
-use Rattle.krates_rules.specs.Admission.{IsAdmitted, IdsModel, NoneDoubled}
+use Rattle.krates_rules.specs.Admission.{NoneDoubled}
 use Rattle.krates_rules.specs.Facts.{Id}
-use Rattle.krates_rules.specs.Resolved.{StandsAt, id_of, resolved}
+use Rattle.krates_rules.specs.Resolved.{id_of, resolved}
 use Rattle.krates_rules.specs.Setting.{SettingModel}
-use Rattle.krates.specs.Build.{HasOneEach}
+use Rattle.krates.specs.BuildLaws.{IsBuildAgreeing}
 use Rattle.krates_queries.specs.Direct.{AreConnected, value_at, value_in}
-use Rattle.krates_queries.specs.DirectDependents.{IsDependent}
 use Rattle.krates_queries.specs.Drawn.{IsDrawing, IsOutlineFor, planned_node}
 use Rattle.krates_drawing.specs.Node.{crate_ids, CratesFirst}
 use Rattle.krates_drawing.specs.declared.node.Node.{Node}
@@ -75,10 +74,36 @@ planned_crate_at (Feature krate_index name ∷ nodes) n id first e =
     let none : slice_get empty n ≡ Some id = subst (λ (ids : List Identity). slice_get ids n ≡ Some id) first e in
     absurd cc
 
-pub agrees : {N E : Type 0} (made : Edge → E → Type 0) (m : MetadataModel) (s : SettingModel) (t : Outline) (g : StoredGraph (Node N) E) (ids : IdsModel) → drawn.AreConnected → DependenciesAgree → IsAdmitted m ids → IsOutlineFor m s t → IsDrawing made t g
-    → CratesFirst g.nodes → (i : Id) → HasOneEach m s i → (p d : ℕ) → StandsAt (crate_ids g.nodes) i p → d < length (crate_ids g.nodes)
-    → DependsOn (map planned_node g.nodes) p d ↔ IsDependent g.nodes g.edges d p
-agrees made m s t g ids law agree a h z first i o p d at lt =
+-- what is drawn of features alone has no crate
+no_crates_drawn : {N : Type 0} (t : Outline) (nodes : List (Node N)) (fs : List FeatureRow) → map planned_node nodes ≡ map (planned_feature t) fs → crate_ids nodes ≡ []
+no_crates_drawn t [] fs e = refl
+no_crates_drawn t (Krate id krate features mapping ∷ nodes) [] e = absurd cc
+no_crates_drawn t (Krate id krate features mapping ∷ nodes) (f ∷ fs) e = absurd cc
+no_crates_drawn t (Feature krate_index name ∷ nodes) [] e = absurd cc
+no_crates_drawn t (Feature krate_index name ∷ nodes) (f ∷ fs) e =
+    let rest : map planned_node nodes ≡ map (planned_feature t) fs = cc in
+    no_crates_drawn t nodes fs rest
+
+-- so in a drawing no crate comes after a feature
+first_drawn : {N : Type 0} (t : Outline) (nodes : List (Node N)) (ks : List CrateRow) (fs : List FeatureRow) → map planned_node nodes ≡ map (planned_crate t) ks ++ map (planned_feature t) fs → CratesFirst nodes
+first_drawn t [] ks fs e = tt
+first_drawn t (Krate id krate features mapping ∷ nodes) [] [] e = absurd cc
+first_drawn t (Krate id krate features mapping ∷ nodes) [] (f ∷ fs) e = absurd cc
+first_drawn t (Krate id krate features mapping ∷ nodes) (k ∷ ks) fs e =
+    let rest : map planned_node nodes ≡ map (planned_crate t) ks ++ map (planned_feature t) fs = cc in
+    first_drawn t nodes ks fs rest
+first_drawn t (Feature krate_index name ∷ nodes) [] [] e = absurd cc
+first_drawn t (Feature krate_index name ∷ nodes) [] (f ∷ fs) e =
+    let rest : map planned_node nodes ≡ map (planned_feature t) fs = cc in
+    no_crates_drawn t nodes fs rest
+first_drawn t (Feature krate_index name ∷ nodes) (k ∷ ks) fs e = absurd cc
+
+pub agrees : {N E : Type 0} (made : Edge → E → Type 0) → drawn.AreConnected → DependenciesAgree → (m : MetadataModel) (s : SettingModel) (g : StoredGraph (Node N) E) → IsBuildAgreeing made m s g
+agrees made law agree m s g a y i o p d at lt =
+    let t = y.outline in
+    let h = y.is_outline in
+    let z = y.drawing in
+    let first = first_drawn t g.nodes t.krates t.features z.nodes in
     let r = resolved m h.graph in
     let c = law r s t h.holds in
     let one : OneEach r s i = subst (λ x. OneEach (resolved m x) s i) (same_Some o.graph h.graph (sym o.has_graph ∙ h.has_graph)) o.holds in

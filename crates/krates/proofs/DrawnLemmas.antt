@@ -10,7 +10,6 @@ use Rattle.std.specs.declared.alloc.Global.{Global}
 use Rattle.krates_cm.specs.Document.{MetadataModel, Text, text_view, metadata_view}
 use Rattle.krates_cm.specs.declared.metadata.Metadata.{Metadata}
 use Rattle.krates_cm.specs.declared.package.Package.{Package}
-use Rattle.krates_drawing.specs.Agreement.{DependsOn}
 use Rattle.krates_drawing.specs.Drawing.{PlannedEdge, planned_edges, planned_nodes}
 use Rattle.krates_drawing.specs.Ends.{EndsStand, HasEnds}
 use Rattle.krates_drawing.specs.Outline as model
@@ -28,17 +27,17 @@ use Rattle.krates_ids.specs.Identity.{Identity, id_cmp}
 use Rattle.krates_selection.specs.Selection.{id_at, no_id, feature_fact}
 use Rattle.krates_selection.specs.declared.selection.EnabledFeature.{EnabledFeature}
 use Rattle.krates_rules.specs.Facts.{Id, Feature}
-use Rattle.krates_rules.specs.Resolved.{HasGraphWith, Resolved, StandsAt, id_of, resolved}
+use Rattle.krates_rules.specs.Resolved.{HasGraphWith, Resolved, id_of, resolved}
 use Rattle.krates_rules.specs.Setting.{SettingModel}
-use Rattle.krates.specs.Build.{AreKeptMembers, HasOneEach, IsBuilt, IsResolvable, KeepsCrate}
+use Rattle.krates.specs.Build.{AreKeptMembers, IsBuilt, IsResolvable, KeepsCrate}
 use Rattle.krates_drawing.specs.Listed.{AreThosePackages}
-use Rattle.krates_queries.specs.DirectDependents.{IsDependent}
 use Rattle.krates_drawing.specs.Division.{IsAmong, IsDivision, outline_ids}
 use Rattle.krates_selection.specs.KeptFacts.{steps_in}
 use Rattle.krates_selection.specs.declared.kept.KeptStep.{KeptStep}
 use Rattle.krates_queries.specs.KeptSteps.{IsExplainedBy}
-use Rattle.krates_queries.specs.Drawn.{IsNumbered, IsOutlineFor, planned_node}
+use Rattle.krates_queries.specs.Drawn.{IsNumbered, IsOutlineFor}
 use Rattle.krates.specs.Enabled.{AreEnabledSets, numbered}
+use Rattle.krates_queries.proofs.EnabledFacts.{enabled_listed}
 use Rattle.krates_queries.specs.Kept.{AreFeatures, AreNodes, IsEnabledIn, IsNameAt, names_in_each}
 use Rattle.krates.specs.KeptGraph.{IsGraphOf, named_fact}
 use Rattle.krates_drawing.specs.Krate.{krate_ids, krate_packages}
@@ -185,10 +184,9 @@ pub is_built : {F N E : Type 0} (filters : F → Package → F → Type 0) (made
     (g : StoredGraph (Node N) E) (members : List ℕ) (before after : F) (work : Work) → IsOutlineFor (metadata_view m) s (outline_view t) → Builds m s d → IsGraphOf made made_edge (outline_view t) d.kept.items g
     → FoldsTo filters before (krate_packages d.others.items) after → work ≡ work_of (outline_view t) → IsResolvable (metadata_view m) → IsNumbered g
     → AreKeptMembers (metadata_view m) (crate_ids g.nodes) members
-    → ((i : Id) → HasOneEach (metadata_view m) s i → (p q : ℕ) → StandsAt (crate_ids g.nodes) i p → q < length (crate_ids g.nodes) → DependsOn (map planned_node g.nodes) p q ↔ IsDependent g.nodes g.edges q p)
     → (steps : List KeptStep) → IsExplainedBy (metadata_view m) s (steps_in (crate_ids g.nodes) steps)
     → IsBuilt filters made made_edge m s before after (record { graph = g; members = members; workspace_root = text_view m.workspace_root; work = work; steps = steps })
-is_built filters made made_edge m s t d g members before after work h b w run worked resolvable numbered listed agree steps explained =
+is_built filters made made_edge m s t d g members before after work h b w run worked resolvable numbered listed steps explained =
     record {
       resolvable = resolvable;
       kept = λ i. subst (λ ids. KeepsCrate (metadata_view m) s i ↔ Contains (map id_of ids) i) (sym w.ids) (b.kept i);
@@ -199,9 +197,13 @@ is_built filters made made_edge m s t d g members before after work h b w run wo
         those = subst (λ ids. AreThosePackages m.packages.items (KeepsCrate (metadata_view m) s) ids (krate_packages d.kept.items)) (sym w.ids) b.packages;
         made_of = w.values;
       };
-      enabled = enabled m s (outline_view t) d (λ i f. IsEnabledIn (crate_ids g.nodes) (crate_features g.nodes) i f) h b w.enabled;
+      enabled = λ i f.
+          (let derived = enabled m s (outline_view t) d (λ i f. IsEnabledIn (crate_ids g.nodes) (crate_features g.nodes) i f) h b w.enabled i f in
+          let listed = enabled_listed g.nodes i f in (
+            λ x. listed.0 (derived.0 x),
+            λ c. derived.1 (listed.1 c),
+          ));
       drawn = record { outline = outline_view t; is_outline = h; drawing = w.drawing };
-      agree = agree;
       numbered = numbered;
       members = listed;
       root = refl;

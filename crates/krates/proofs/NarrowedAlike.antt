@@ -15,7 +15,8 @@ use Rattle.krates_rules.specs.Narrowing.{IsNarrowing}
 use Rattle.krates_rules.specs.Reordering.{ReordersPackage, ReordersNode, ReordersResolve, Reorders, IsOrderFree}
 use Rattle.krates_rules.specs.Resolved.{ReadsAs, resolved}
 use Rattle.krates_rules.specs.Setting.{SettingModel}
-use Rattle.krates.specs.Build.{IsDerived, IsResolvable, KeepsCrate}
+use Rattle.krates_rules.specs.Resolution.{IsDerived}
+use Rattle.krates.specs.Build.{IsResolvable, KeepsCrate}
 use Rattle.krates_drawing.specs.Listed.{AreThosePackages}
 use Rattle.krates.specs.BuildLaws.{IsBuildNamedPart, IsBuildNarrowing, KeepsPackages, ListsSame}
 use Rattle.krates.proofs.BuildsAlike.{outline_for_there, refused_there}

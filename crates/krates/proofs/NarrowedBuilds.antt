@@ -15,7 +15,8 @@ use Rattle.krates_rules.specs.Narrowing.{IsNarrower, IsNarrowing}
 use Rattle.krates_rules.specs.Resolved.{id_of, resolved}
 use Rattle.krates_rules.specs.SelectionRefusals.{cause_of}
 use Rattle.krates_rules.specs.Setting.{SettingModel}
-use Rattle.krates.specs.Build.{IsResolvable, KeepsCrate, GraphRefusal, IsRefusedSeeing, IsDerived}
+use Rattle.krates_rules.specs.Resolution.{IsDerived}
+use Rattle.krates.specs.Build.{IsResolvable, KeepsCrate, GraphRefusal, IsRefusedSeeing}
 use Rattle.krates_drawing.specs.Listed.{AreThosePackages}
 use Rattle.krates.specs.BuildLaws.{Succeeds}
 use Rattle.krates_queries.specs.Drawn.{CanBeNumbered, IsOutlineFor}

@@ -10,7 +10,8 @@ use Rattle.krates_rules.proofs.Members.{Member, member_of, contains_of, mapped_o
 use Rattle.krates_drawing.specs.Outline.{CrateRow, Outline}
 use Rattle.krates_drawing.proofs.Holding.{Holds, holds}
 use Rattle.krates_queries.specs.Drawn.{IsOutlineFor}
-use Rattle.krates.specs.Build.{IsDerived, KeepsCrate, IsLost}
+use Rattle.krates_rules.specs.Resolution.{IsDerived}
+use Rattle.krates.specs.Build.{KeepsCrate}
 use Rattle.krates.specs.KeptGraph.{named_fact}
 
 -- for one graph there is one answer
@@ -61,5 +62,5 @@ module _ (m : MetadataModel) (s : SettingModel) (t : Outline) (h : IsOutlineFor 
   pub some_kept : (i : Id) × KeepsCrate m s i
   some_kept = (h.holds.some.0, back (Crate h.holds.some.0) h.holds.some.1)
 
-  pub none_lost : (c : Cause) → IsLost m s c → ⊥
+  pub none_lost : (c : Cause) → IsDerived m s (Lost c) → ⊥
   none_lost c l = here.none_lost c (at (Lost c) l)

@@ -1,14 +1,13 @@
 -- What a build keeps of a document, what it reports, and why it is refused.
 --
 -- Which crates are kept is said by derivations alone: by what the document and the setting answer the rules.
-use Rattle.std.specs.Prelude.{ℕ, ◌≡◌, ◌⊎◌, ◌↔◌, ◌≤◌, ◌<◌, ◌^◌, List, Option, Some, map, Contains, length, ⊤}
+use Rattle.std.specs.Prelude.{ℕ, ◌≡◌, ◌⊎◌, ◌↔◌, ◌≤◌, ◌^◌, List, Option, Some, map, Contains, length, ⊤}
 use Rattle.std.specs.List.{AllZip, FoldsTo}
 use Rattle.std.specs.List.Sorted.{IsStrictlyIncreasing}
 use Rattle.krates_cm.specs.Document.{MetadataModel, NodeModel, ResolveModel, Text, VersionModel, metadata_view, text_view}
 use Rattle.krates_cm.specs.Names.{version_named}
 use Rattle.krates_cm.specs.declared.metadata.Metadata.{Metadata}
 use Rattle.krates_cm.specs.declared.package.Package.{Package}
-use Rattle.krates_drawing.specs.Agreement.{DependsOn, OneEach}
 use Rattle.krates_drawing.specs.Drawing.{planned_edges, planned_nodes}
 use Rattle.krates_drawing.specs.Outline.{Outline}
 use Rattle.krates_drawing.specs.WorkOfOutline.{work_of}
@@ -18,18 +17,14 @@ use Rattle.krates_ids.specs.declared.error.Error.{Error}
 use Rattle.krates_ids.specs.declared.error.Error.TheVariants as errors
 use Rattle.krates_rules.specs.Admission.{IsDoubled, StandsForId, dep_texts}
 use Rattle.krates_rules.specs.AdmissionRefusals.{AdmissionRefusal}
-use Rattle.krates_rules.specs.Derivation.{Derivable}
-use Rattle.krates_rules.specs.Facts.{Id, Cause, Fact, Crate, Feature, Lost}
-use Rattle.krates_rules.specs.Questions.{questions}
+use Rattle.krates_rules.specs.Facts.{Id, Cause, Crate, Feature, Lost}
+use Rattle.krates_rules.specs.Resolution.{IsDerived, RefusesSelection}
 use Rattle.krates_rules.specs.Resolved.{HasGraphWith, IsMember, StandsAt, id_of, resolved}
-use Rattle.krates_rules.specs.Rules.{Questions}
 use Rattle.krates_rules.specs.Setting.{SettingModel}
-use Rattle.krates_selection.specs.Selection.{RefusesSelection}
 use Rattle.krates.specs.Indexed.{Answering, Sees}
 use Rattle.krates_drawing.specs.Listed.{AreThosePackages}
-use Rattle.krates_queries.specs.DirectDependents.{IsDependent}
 use Rattle.krates_queries.specs.KeptSteps.{IsExplainedBy, steps_of}
-use Rattle.krates_queries.specs.Drawn.{IsDrawn, IsNumbered, IsOutlineFor, planned_node}
+use Rattle.krates_queries.specs.Drawn.{IsDrawn, IsNumbered, IsOutlineFor}
 use Rattle.krates_queries.specs.Kept.{KeptCrates, HasEnabled, ids_of, values_of}
 
 -- ---- the document
@@ -43,14 +38,6 @@ pub record IsResolvable (m : MetadataModel) : Type 0 where
   pub versions : (n : NodeModel) (t : Text) → Contains graph.nodes n → Contains (dep_texts n) t → (i : Identity) × Reads t i × ((v : VersionModel) × (version_named i.version ≡ Some v))
   pub none_doubled : (id : Id) → IsDoubled m graph id → ⊥
 
--- this holds of what the document's graph and the setting answer the rules
-abbrev pub Answers : MetadataModel → SettingModel → (Questions → Type 0) → Type 0
-Answers m s P = HasGraphWith m (λ g. P (questions (resolved m g) s))
-
--- the fact is derivable from the roots by the rules
-abbrev pub IsDerived : MetadataModel → SettingModel → Fact → Type 0
-IsDerived m s f = Answers m s (λ q. Derivable q f)
-
 -- the crate has to be kept
 abbrev pub KeepsCrate : MetadataModel → SettingModel → Id → Type 0
 KeepsCrate m s i = IsDerived m s (Crate i)
@@ -58,10 +45,6 @@ KeepsCrate m s i = IsDerived m s (Crate i)
 -- the crate isn't derivable
 abbrev pub DropsCrate : MetadataModel → SettingModel → Id → Type 0
 DropsCrate m s i = KeepsCrate m s i → ⊥
-
--- the document lacks this, and some derivation needs it
-abbrev pub IsLost : MetadataModel → SettingModel → Cause → Type 0
-IsLost m s c = IsDerived m s (Lost c)
 
 -- ---- the packages
 
@@ -81,14 +64,10 @@ pub record AreMadeOfThose {N : Type 0} (made : Package → N → Type 0) (all : 
 
 -- ---- the members of the workspace
 
--- the workspace has a member with the id
-abbrev pub HasMember : MetadataModel → Id → Type 0
-HasMember m i = HasGraphWith m (λ g. IsMember (resolved m g) i)
-
 -- the kept crate with this number is a member
 pub record IsMemberAt (m : MetadataModel) (ids : List Identity) (n : ℕ) : Type 0 where
   pub member : Id
-  pub listed : HasMember m member
+  pub listed : HasGraphWith m (λ g. IsMember (resolved m g) member)
   pub kept : StandsAt ids member n
 
 -- the numbers of exactly the kept members, ascending, each once even if the document lists one twice
@@ -96,40 +75,23 @@ pub record AreKeptMembers (m : MetadataModel) (ids : List Identity) (numbers : L
   pub ascending : IsStrictlyIncreasing numbers
   pub exactly : (n : ℕ) → Contains numbers n ↔ IsMemberAt m ids n
 
--- ---- direct dependencies and dependents
-
--- no two kept edges from this crate to different crates are for one declared dependency
-abbrev pub HasOneEach : MetadataModel → SettingModel → Id → Type 0
-HasOneEach m s i = HasGraphWith m (λ g. OneEach (resolved m g) s i)
-
--- number d is among the direct dependencies of p exactly if p is among the direct dependents of d
-abbrev pub AgreeDirectly : {N E : Type 0} → KeptCrates N E → ℕ → ℕ → Type 0
-AgreeDirectly k p d = DependsOn (map planned_node k.graph.nodes) p d ↔ IsDependent k.graph.nodes k.graph.edges d p
+-- ---- what is built
 
 -- All that is true of what a build keeps of a document, and of what it reports.
 pub record IsBuilt {F N E : Type 0} (filters : F → Package → F → Type 0) (made : Package → N → Type 0) (made_edge : Edge → E → Type 0) (m : Metadata) (s : SettingModel) (before after : F) (k : KeptCrates N E) : Type 0 where
   pub resolvable : IsResolvable (metadata_view m)
-  -- the derivable crates are kept, and no others
-  pub kept : (i : Id) → KeepsCrate (metadata_view m) s i ↔ Contains (map id_of (ids_of k)) i
+  pub kept : (i : Id) → KeepsCrate (metadata_view m) s i ↔ Contains (map id_of (ids_of k)) i  -- and no other crates
   pub some : (i : Id) × KeepsCrate (metadata_view m) s i
-  pub none_lost : (c : Cause) → IsLost (metadata_view m) s c → ⊥
+  pub none_lost : (c : Cause) → IsDerived (metadata_view m) s (Lost c) → ⊥
   pub values : AreMadeOfThose made m.packages.items (KeepsCrate (metadata_view m) s) (ids_of k) (values_of k)
-  -- of the kept crates the derivable features are enabled, and no others
   pub enabled : (i : Id) (f : Text) → IsDerived (metadata_view m) s (Feature i f) ↔ HasEnabled k i f
-  -- the graph is the drawing of what is kept, number by number
-  pub drawn : IsDrawn made_edge (metadata_view m) s k.graph
-  -- where no two of its crates come from one declared dependency, a crate depends on exactly those that have it as a dependent
-  pub agree : (i : Id) → HasOneEach (metadata_view m) s i → (p d : ℕ) → StandsAt (ids_of k) i p → d < length (ids_of k) → AgreeDirectly k p d
-  -- the kept members of the workspace
+  pub drawn : IsDrawn made_edge (metadata_view m) s k.graph  -- number by number
   pub members : AreKeptMembers (metadata_view m) (ids_of k) k.members
-  -- each node and each edge has a number, and the graph's limits are the numbers that there are
   pub numbered : IsNumbered k.graph
   pub root : k.workspace_root ≡ text_view m.workspace_root
-  -- each kept crate, each enabled feature and each of its references was counted
-  pub work : k.work ≡ work_of drawn.outline
+  pub work : k.work ≡ work_of drawn.outline  -- how much was kept, as it was counted
   pub reported : IsReported filters m s before after
-  -- the kept steps follow, and have exactly the derivable facts
-  pub explained : IsExplainedBy (metadata_view m) s (steps_of k)
+  pub explained : IsExplainedBy (metadata_view m) s (steps_of k)  -- by the kept steps
 
 -- ---- refusals
 

@@ -1,26 +1,34 @@
--- What two builds have in common: of documents that differ only in order, and under a setting and one that keeps less.
-use Rattle.std.specs.Prelude.{◌≡◌, ◌⊎◌, ◌↔◌, List, Option, true, false, Contains, map}
+-- What two builds have in common: of documents that differ only in order, and under a setting and one that keeps less; and how
+-- the dependencies and the dependents in one of them agree.
+use Rattle.std.specs.Prelude.{◌≡◌, ◌⊎◌, ◌↔◌, ◌<◌, ℕ, List, Option, true, false, Contains, length, map}
 use Rattle.std.specs.List.{AllZip}
-use Rattle.krates_cm.specs.Document.{metadata_view, package_view}
+use Rattle.krates_cm.specs.Document.{MetadataModel, metadata_view, package_view}
 use Rattle.krates_cm.specs.declared.metadata.Metadata.{Metadata}
 use Rattle.krates_cm.specs.declared.package.Package.{Package}
+use Rattle.krates_drawing.specs.Agreement.{DependsOn, OneEach}
 use Rattle.krates_drawing.specs.Alike.{DrawAlike}
 use Rattle.krates_drawing.specs.Narrower.{DrawsNoMore}
+use Rattle.krates_drawing.specs.Node.{crate_ids}
 use Rattle.krates_drawing.specs.Outline.{Outline}
+use Rattle.krates_drawing.specs.declared.edge.Edge.{Edge}
+use Rattle.krates_drawing.specs.declared.node.Node.{Node}
+use Rattle.krates_graph.specs.Graph.{StoredGraph}
 use Rattle.krates_ids.specs.Identity.{Identity}
 use Rattle.krates_ids.specs.declared.error.Error.{Error}
 use Rattle.krates_ids.specs.declared.error.Error.TheVariants.{NoRootKrates, Memory}
 use Rattle.krates_ids.specs.declared.index.IndexAnswer.{IndexAnswer}
 use Rattle.krates_ids.specs.declared.index.PackageNames.{PackageNames}
-use Rattle.krates_rules.specs.Facts.{Id, Cause, Fact}
+use Rattle.krates_rules.specs.Facts.{Id, Cause, Fact, Lost}
 use Rattle.krates_rules.specs.Naming.{naming}
 use Rattle.krates_rules.specs.Narrowing.{IsNarrower}
 use Rattle.krates_rules.specs.Reordering.{Reorders, ReordersPackage, ResolveAlike}
-use Rattle.krates_rules.specs.Resolved.{id_of}
+use Rattle.krates_rules.specs.Resolved.{HasGraphWith, StandsAt, id_of, resolved}
 use Rattle.krates_rules.specs.Setting.{SettingModel}
-use Rattle.krates.specs.Build.{IsResolvable, KeepsCrate, DropsCrate, IsLost, IsRefusedSeeing, IsDerived}
+use Rattle.krates_rules.specs.Resolution.{IsDerived}
+use Rattle.krates.specs.Build.{IsResolvable, KeepsCrate, DropsCrate, IsRefusedSeeing}
 use Rattle.krates_drawing.specs.Listed.{AreThosePackages}
-use Rattle.krates_queries.specs.Drawn.{CanBeNumbered, IsOutlineFor}
+use Rattle.krates_queries.specs.DirectDependents.{IsDependent}
+use Rattle.krates_queries.specs.Drawn.{CanBeNumbered, IsDrawn, IsOutlineFor, planned_node}
 use Rattle.krates.specs.Indexed.{HasNames, IsSeenBy}
 use Rattle.krates_queries.specs.Kept.{AreOrdered}
 
@@ -71,7 +79,7 @@ IsBuildOrderFree = (answer : Option IndexAnswer) (m n p q : Metadata) → Reorde
 pub record Succeeds (m p : Metadata) (s : SettingModel) (ids : List Identity) : Type 0 where
   pub resolvable : IsResolvable (metadata_view m)
   pub seen : IsResolvable (metadata_view p)
-  pub none_lost : (c : Cause) → IsLost (metadata_view p) s c → ⊥
+  pub none_lost : (c : Cause) → IsDerived (metadata_view p) s (Lost c) → ⊥
   pub kept : (i : Id) → KeepsCrate (metadata_view p) s i ↔ Contains (map id_of ids) i
   pub ordered : AreOrdered ids
   pub outline : Outline
@@ -122,3 +130,19 @@ pub record KeepsNamedPart (p q : Metadata) (s : SettingModel) : Type 0 where
 -- a build where a name means the least keeps a part, without an index or with one answer of it for both builds
 abbrev pub IsBuildNamedPart : Type 0
 IsBuildNamedPart = (answer : Option IndexAnswer) (m p q : Metadata) (s : SettingModel) → IsSeenBy answer m p → IsSeenBy answer m q → KeepsNamedPart p q s
+
+-- ---- direct dependencies and dependents
+
+-- no two crates have kept edges of this one with one declared dependency
+abbrev pub HasOneEach : MetadataModel → SettingModel → Id → Type 0
+HasOneEach m s i = HasGraphWith m (λ g. OneEach (resolved m g) s i)
+
+-- number d is among the direct dependencies of p exactly if p is among the direct dependents of d
+abbrev pub AgreeDirectly : {N E : Type 0} → StoredGraph (Node N) E → ℕ → ℕ → Type 0
+AgreeDirectly g p d = DependsOn (map planned_node g.nodes) p d ↔ IsDependent g.nodes g.edges d p
+
+-- Where the document can be resolved and the graph is drawn of it, as a build promises: if no two crates come by one declared
+-- dependency of a kept crate, it depends directly on exactly those kept crates that have it as a direct dependent.
+abbrev pub IsBuildAgreeing : {N E : Type 0} → (Edge → E → Type 0) → MetadataModel → SettingModel → StoredGraph (Node N) E → Type 0
+IsBuildAgreeing made m s g = IsResolvable m → IsDrawn made m s g → (i : Id) → HasOneEach m s i
+    → (p d : ℕ) → StandsAt (crate_ids g.nodes) i p → d < length (crate_ids g.nodes) → AgreeDirectly g p d

@@ -334,7 +334,6 @@ fn build_admitted<N: FromPackage + Drop, E: FromEdge + Drop, F: OnFilter>(
     laws::comparison();
     drawing_laws::ends_stand();
     drawing_laws::connected();
-    drawing_laws::dependencies_agree();
     let limits = Limits {
         nodes: u32::MAX,
         edges: u32::MAX,

@@ -12,7 +12,7 @@ ghost use Rattle.krates_drawing.specs.Views.{planned_edge_view, outline_view};
 ghost use Rattle.krates_ids.specs.declared.error.Error.TheVariants.{Memory};
 ghost use Rattle.krates_rules.specs.Admission.{IsAdmitted};
 ghost use Rattle.krates_rules.specs.NamedIds.{NamesReadIds};
-ghost use Rattle.krates_selection.specs.Selection.{RefusesSelection};
+ghost use Rattle.krates_rules.specs.Resolution.{RefusesSelection};
 ghost use Rattle.krates_rules.specs.Resolved.{id_of};
 ghost use Rattle.krates.specs.KeptGraph.{IsGraphOf};
 ghost use Rattle.krates_drawing.specs.Krate.{krate_ids};

@@ -1,10 +1,17 @@
 //! Laws of builds, for all documents, settings and answers of an index. Each is the contract of a function that does
 //! nothing.
 
-ghost use Rattle.krates.specs.BuildLaws.{IsBuildNamedPart, IsBuildNarrowing, IsBuildOrderFree, KeepsPackages};
+ghost use Rattle.krates_cm.specs.Document.{MetadataModel};
+ghost use Rattle.krates_drawing.specs.declared.node.Node.{Node};
+ghost use Rattle.krates_graph.specs.Graph.{StoredGraph};
+ghost use Rattle.krates_rules.specs.Setting.{SettingModel};
+ghost use Rattle.krates.specs.BuildLaws.{IsBuildAgreeing, IsBuildNamedPart, IsBuildNarrowing, IsBuildOrderFree, KeepsPackages};
 
 pub use krates_drawing::laws::filtered_holds_rebuild;
-use krates_drawing::laws::{drawn_alike, narrower_draws_no_more, outline_there};
+use krates_drawing::laws::{
+    connected, dependencies_agree, drawn_alike, narrower_draws_no_more, outline_there,
+};
+use krates_drawing::store::FromEdge;
 use krates_ids::laws::{comparison, one_correction, one_reading};
 pub use krates_queries::laws::dependents_reach;
 use krates_resolve::laws as resolution;
@@ -59,4 +66,17 @@ pub fn named_part()
     one_correction();
     resolution::named_part();
     resolution::reordering();
+}
+
+/// The direct dependencies and the direct dependents that a build keeps agree: where no two kept crates come by one declared
+/// dependency of a kept crate, it depends directly on exactly those that have it as a direct dependent. Where one
+/// declared dependency brings two versions of a crate, each has it as a dependent, and it depends on the one that comes last by id.
+///
+/// It is said of the graph that a build promises to have drawn, of a document that it promises can be resolved.
+pub fn agreement<N, E: FromEdge>()
+    ensures { (m : MetadataModel) (s : SettingModel) (g : StoredGraph (Node N) E)
+        → IsBuildAgreeing E.made_from_edge m s g }
+{
+    connected();
+    dependencies_agree();
 }

@@ -26,7 +26,7 @@ use Rattle.krates_rules.specs.Setting.{SettingModel}
 use Rattle.krates_rules.specs.declared.kind.DepKind.{DepKind}
 use Rattle.krates_rules.specs.declared.kind.Scope.TheVariants as scopes
 use Rattle.krates.specs.Indexed.{IsSeenBy}
-use Rattle.krates.specs.Build.{AreKeptMembers, HasMember, IsMemberAt, KeepsCrate}
+use Rattle.krates.specs.Build.{AreKeptMembers, IsMemberAt, KeepsCrate}
 use Rattle.krates.specs.BuildLaws.{IsBuildNarrowing}
 use Rattle.krates_queries.specs.Drawn.{IsDrawing, IsOutlineFor, planned_node}
 use Rattle.krates_queries.specs.Kept.{KeptCrates, ids_of}

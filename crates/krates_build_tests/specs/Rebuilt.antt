@@ -10,13 +10,14 @@ use Rattle.krates_drawing.specs.declared.edge.Edge.{Edge}
 use Rattle.krates_ids.specs.declared.index.IndexAnswer.{IndexAnswer}
 use Rattle.krates_rules.specs.Facts.{Id}
 use Rattle.krates_rules.specs.Kind.{IgnoresMore}
+use Rattle.krates_rules.specs.Questions.{questions}
 use Rattle.krates_rules.specs.Resolved.{HasGraphWith, StandsAt, id_of, resolved}
 use Rattle.krates_rules.specs.Setting.{SettingModel}
 use Rattle.krates_rules.specs.declared.kind.DepKind.{DepKind}
 use Rattle.krates_rules.specs.declared.kind.IgnoredKinds.{IgnoredKinds}
 use Rattle.krates_rules.specs.declared.kind.Scope.TheVariants as scopes
 use Rattle.krates.specs.Indexed.{IsSeenBy}
-use Rattle.krates.specs.Build.{AreKeptMembers, KeepsCrate, Answers}
+use Rattle.krates.specs.Build.{AreKeptMembers, KeepsCrate}
 use Rattle.krates_queries.specs.Direct.{value_at}
 use Rattle.krates_queries.specs.Drawn.{IsDrawn}
 use Rattle.krates_queries.specs.Kept.{KeptCrates, ids_of}
@@ -57,7 +58,7 @@ pub record IsListed {N : Type 0} (k : KeptCrates N Edge) (numbers : List ℕ) (i
 -- the first build enables no feature and each member is one of its roots.
 pub record ListsRebuilt {N M : Type 0} (m : MetadataModel) (s : SettingModel) (k : KeptCrates N Edge) (j : KeptCrates M Edge) (numbers : List ℕ) : Type 0 where
   pub all : HasGraphWith m (λ g. HasMemberRoot (resolved m g)) → (i : Id) → Contains (map id_of (ids_of j)) i → IsListed k numbers i
-  pub no_other : Answers m s EnablesNoFeature → HasGraphWith m (λ g. MembersAreRoots (resolved m g) s)
+  pub no_other : HasGraphWith m (λ g. EnablesNoFeature (questions (resolved m g) s)) → HasGraphWith m (λ g. MembersAreRoots (resolved m g) s)
       → (i : Id) → IsListed k numbers i → Contains (map id_of (ids_of j)) i
 
 -- The values are those of kept crates, each once, by number; and of whatever document and setting both graphs are, what the rebuild

@@ -17,13 +17,14 @@ use Rattle.krates_rules.specs.Admission.{IsInvalidId, IsDoubled}
 use Rattle.krates_rules.specs.Checks.{LastIsDerivable}
 use Rattle.krates_rules.specs.Facts.{Crate}
 use Rattle.krates_rules.specs.Questions.{questions}
+use Rattle.krates_rules.specs.Resolution.{RefusesSelection}
 use Rattle.krates_rules.specs.Resolved.{HasGraphWith, id_of, resolved}
-use Rattle.krates_rules.specs.SelectionRefusals.{HasNoRoot, SelectionRefusal, cause_of}
+use Rattle.krates_rules.specs.SelectionRefusals.{HasNoRoot, cause_of}
 use Rattle.krates_rules.specs.Setting.{SettingModel}
 use Rattle.krates_rules.proofs.AdmittedTexts.{none_invalid, of_graph}
 use Rattle.krates_rules.proofs.Readings.{ReadsOnce}
 use Rattle.krates.proofs.ResolvableLemmas.{admitted_of}
-use Rattle.krates.specs.Build.{BuildRefusalAsGiven, KeepsCrate, Answers}
+use Rattle.krates.specs.Build.{BuildRefusalAsGiven, KeepsCrate}
 use Rattle.krates_cli.specs.CommandLine.{AskForListing, AskForProgram, IsCause, LinesRefusal}
 use Rattle.krates_cli.specs.Listing.{ExplainsCrate, IsListing, IsListingOf, IsSplit, ListsPackages}
 use Rattle.krates_cli.specs.ListingRefusals.{IsOutside, IsUnkept, KeepsNot, RunRefusal}
@@ -70,11 +71,11 @@ divided_refused once s m n kept others (build_errors.Doubled kid) same split (in
 divided_refused once s m n kept others build_errors.Memory same split refused limited = absurd (limited refl)
 divided_refused once s m n kept others _ same split (inl refused) limited = absurd refused
 divided_refused once s m n kept others (build_errors.Lost what) same split (inr refused) limited =
-    absurd (split.none_lost (cause_of what) (subst (λ (d : MetadataModel). Answers d s (λ q. SelectionRefusal q (build_errors.Lost what))) same refused.1))
+    absurd (split.none_lost (cause_of what) (subst (λ (d : MetadataModel). RefusesSelection d s (build_errors.Lost what)) same refused.1))
 divided_refused once s m n kept others build_errors.NoRootKrates same split (inr refused) limited =
     let some = split.some.1 in
     let d = metadata_view m in
-    let rootless = subst (λ (d : MetadataModel). Answers d s HasNoRoot) same refused.1 in
+    let rootless = subst (λ (d : MetadataModel). HasGraphWith d (λ g. HasNoRoot (questions (resolved d g) s))) same refused.1 in
     absurd ((of_graph d (λ g. HasNoRoot (questions (resolved d g) s)) some.graph some.has_graph rootless).no_crate split.some.0 some.holds)
 divided_refused once s m n kept others build_errors.TooMany same split (inr refused) limited = refl
 divided_refused once s m n kept others _ same split (inr refused) limited = absurd refused.1.holds

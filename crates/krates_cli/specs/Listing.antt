@@ -8,10 +8,11 @@ use Rattle.krates_cm_json.specs.Parsing.{IsDocument}
 use Rattle.krates_rules.specs.DerivationTexts.{derivation_lines}
 use Rattle.krates_rules.specs.declared.derivation.Step.{Step}
 use Rattle.krates_ids.specs.Identity.{Identity}
-use Rattle.krates_rules.specs.Facts.{Id, Cause}
+use Rattle.krates_rules.specs.Facts.{Id, Cause, Lost}
 use Rattle.krates_rules.specs.Resolved.{id_of}
 use Rattle.krates_rules.specs.Setting.{SettingModel}
-use Rattle.krates.specs.Build.{IsResolvable, KeepsCrate, DropsCrate, IsLost}
+use Rattle.krates_rules.specs.Resolution.{IsDerived}
+use Rattle.krates.specs.Build.{IsResolvable, KeepsCrate, DropsCrate}
 use Rattle.krates_drawing.specs.Listed.{AreThosePackages}
 use Rattle.krates_cli.specs.Counted.{AppendsFront}
 use Rattle.krates_cli.specs.Lines.{lines_of}
@@ -22,7 +23,7 @@ use Rattle.krates_cli.specs.WhyKept.{IsWhyKept}
 -- setting, and the others, both in the order of their ids.
 pub record IsSplit (s : SettingModel) (m : Metadata) (kept others : List Package) : Type 0 where
   pub resolvable : IsResolvable (metadata_view m)
-  pub none_lost : (c : Cause) → IsLost (metadata_view m) s c → ⊥
+  pub none_lost : (c : Cause) → IsDerived (metadata_view m) s (Lost c) → ⊥
   pub some : (i : Id) × KeepsCrate (metadata_view m) s i
   pub kept_ids : List Identity
   pub every : (i : Id) → KeepsCrate (metadata_view m) s i ↔ Contains (map id_of kept_ids) i

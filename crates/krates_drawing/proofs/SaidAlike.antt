@@ -8,7 +8,8 @@ use Rattle.krates_rules.specs.Derivation.{Derivable}
 use Rattle.krates_rules.specs.Facts.{Id, Edge, Fact}
 use Rattle.krates_rules.specs.Questions.{IsDeclaredAt, kind_info_of, questions}
 use Rattle.krates_rules.specs.Referent.{IsReferent}
-use Rattle.krates_rules.specs.Reordering.{ReordersPackage, HasDerivation, SayAlike, ResolveAlike}
+use Rattle.krates_rules.specs.Reordering.{ReordersPackage, SayAlike, ResolveAlike}
+use Rattle.krates_rules.specs.Resolution.{IsDerived}
 use Rattle.krates_rules.specs.Resolved.{Resolved, HasPackage, HasNode, resolved}
 use Rattle.krates_rules.specs.Setting.{SettingModel}
 use Rattle.krates_selection.specs.Selection.{IsPlacedAs}
@@ -50,7 +51,7 @@ place_alike r u s w e j k m n p q =
 -- ---- the whole
 
 -- what is derivable from the document is derivable from its graph
-derived : (m : MetadataModel) (g : ResolveModel) (s : SettingModel) (f : Fact) → m.resolve ≡ Some g → HasDerivation m s f → Derivable (questions (resolved m g) s) f
+derived : (m : MetadataModel) (g : ResolveModel) (s : SettingModel) (f : Fact) → m.resolve ≡ Some g → IsDerived m s f → Derivable (questions (resolved m g) s) f
 derived m g s f has x = subst (λ z. Derivable (questions (resolved m z) s) f) (same_Some x.graph g (sym x.has_graph ∙ has)) x.holds
 
 pub said_alike : (m n : MetadataModel) (g h : ResolveModel) (s : SettingModel) → ResolveAlike m n → m.resolve ≡ Some g → n.resolve ≡ Some h → NoneDoubled n h → SaidAlike (resolved m g) (resolved n h) s

@@ -17,8 +17,7 @@ pub record Identity : Type 0 where
   pub name : Text
   pub version : Text
   pub source : Text
-  -- whether the text as it was written has a space
-  pub is_opaque : Bool
+  pub is_opaque : Bool  -- whether the text as it was written has a space
 
 -- the empty id: an empty text with three empty parts
 abbrev pub empty_identity : Identity

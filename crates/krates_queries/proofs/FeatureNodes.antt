@@ -1,5 +1,5 @@
 -- The nodes of enabled features: how they are ordered, and what a search for one finds.
-use Rattle.std.proofs.Common.{◌≡◌, ◌↔◌, ℕ, zero, suc, ◌<◌, ◌≤◌, List, [], ◌∷◌, length, get_or, Option, Some, None, option_map, Less, Equal, Greater, HoldsAt, rules, refl, sym, ap, ◌∙◌, subst, inl, inr, arith}
+use Rattle.std.proofs.Common.{◌≡◌, ◌↔◌, ℕ, zero, suc, ◌<◌, ◌≤◌, List, [], ◌∷◌, length, get_or, Contains, Option, Some, None, option_map, Less, Equal, Greater, HoldsAt, rules, refl, sym, ap, ◌∙◌, subst, inl, inr, arith}
 use Rattle.std.proofs.lemmas.Map.Lookups.{exact_unsigned}
 use Rattle.std.proofs.lemmas.Option.{slice_get-get_or, get_or_from_slice_get, slice_get_within, slice_get_cases}
 use Rattle.std.specs.BTreeSet.{BTreeSet}
@@ -16,13 +16,15 @@ use Rattle.krates_cm.specs.Document.{Text, text_view}
 use Rattle.krates_drawing.proofs.EqualRanges.{weakly}
 use Rattle.krates_ids.specs.Identity.{Identity}
 use Rattle.krates_rules.specs.Facts.{Id}
+use Rattle.krates_rules.specs.Facts as facts
 use Rattle.krates_queries.specs.GetNode.{IsNumberFor}
-use Rattle.krates_queries.specs.Kept.{AreNodes, IsEnabledIn, feature_order}
+use Rattle.krates_queries.specs.Kept.{AreNodes, IsEnabledIn, enabled_facts, feature_order}
 use Rattle.krates_drawing.specs.Node.{CratesFirst, IsFeature, IsFeatureAt, crate_features, crate_ids, feature_names}
 use Rattle.krates_queries.specs.NodeOrder.{feature_cmp}
 use Rattle.krates_drawing.specs.declared.node.Node.{Node}
 use Rattle.krates_drawing.specs.declared.node.Node.TheVariants.{Krate, Feature}
 use Rattle.krates_rules.proofs.Members.{Member, contains_of, member_of}
+use Rattle.krates_queries.proofs.EnabledFacts.{enabled_listed}
 use Rattle.krates_queries.proofs.NodeLemmas.{Rises, rising, none_first, stands_among}
 use Rattle.krates_rules.proofs.KeyOrder.{text_tells, then_equal}
 use Rattle.krates_rules.proofs.OrderedIds.{none_equal}
@@ -171,12 +173,13 @@ some_of (Some n) P some h = h n refl
 -- a feature's node is found exactly where it is enabled for its crate
 pub enabled_told : {N F : Type 0} (nodes : List (Node N)) (id : Id) (view : F → Text) (feature : Option F) (number : Option ℕ) → AreNodes nodes
     → ((n : ℕ) → (number ≡ Some n) ↔ IsNumberFor nodes id (option_map view feature) n)
-    → MatchOption feature ⊤ (λ name. IsSome number ↔ IsEnabledIn (crate_ids nodes) (crate_features nodes) id (view name))
+    → MatchOption feature ⊤ (λ name. IsSome number ↔ Contains (enabled_facts nodes) (facts.Feature id (view name)))
 enabled_told nodes id view None number a so = tt
 enabled_told nodes id view (Some f) number a so = (
-  λ some. some_of number (IsEnabledIn (crate_ids nodes) (crate_features nodes) id (view f)) some (λ n e. found_enabled nodes id (view f) n a ((so n).0 e)),
-  λ h.
-      (let there = (a.features.exactly h.theirs.place (view f)).1 (record { names = h.names; at = h.theirs.at; among = h.among }) in
+  λ some. some_of number (Contains (enabled_facts nodes) (facts.Feature id (view f))) some (λ n e. (enabled_listed nodes id (view f)).0 (found_enabled nodes id (view f) n a ((so n).0 e))),
+  λ among.
+      (let h = (enabled_listed nodes id (view f)).1 among in
+      let there = (a.features.exactly h.theirs.place (view f)).1 (record { names = h.names; at = h.theirs.at; among = h.among }) in
       let w = member_feature nodes h.theirs.place (view f) (member_of (feature_names nodes) (h.theirs.place, view f) there) in
       let e : number ≡ Some w.n = (so w.n).1 (record { number = h.theirs.place; stands = h.theirs.stands; is = w.at }) in
       subst (λ (o : Option ℕ). IsSome o) (sym e) refl),

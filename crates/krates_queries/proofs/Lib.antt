@@ -3,6 +3,7 @@ pub mod CrateIds
 pub mod DependentLemmas
 pub mod EdgeNumbers
 pub mod EdgePaths
+pub mod EnabledFacts
 pub mod FeatureNodes
 pub mod JoinedLemmas
 pub mod KrateNodeLemmas

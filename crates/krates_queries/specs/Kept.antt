@@ -1,5 +1,5 @@
 -- The crates that a build keeps, as clauses see them.
-use Rattle.std.specs.Prelude.{◌≡◌, ◌↔◌, ℕ, ◌<◌, ◌^◌, List, All, Contains, Some, String, length, map, slice_get}
+use Rattle.std.specs.Prelude.{◌≡◌, ◌↔◌, ℕ, ◌<◌, ◌^◌, ◌++◌, [], ◌∷◌, List, All, Contains, Some, String, length, map, slice_get}
 use Rattle.std.specs.BTreeSet.{BTreeSet}
 use Rattle.std.specs.Cmp.Lexicographic.{slice_cmp}
 use Rattle.std.specs.List.Sorted.{IsStrictlyIncreasing, IsStrictlySortedBy}
@@ -10,11 +10,13 @@ use Rattle.krates_cm.specs.Document.{Text}
 use Rattle.krates_selection.specs.declared.kept.KeptStep.{KeptStep}
 use Rattle.krates_graph.specs.Graph.{StoredGraph}
 use Rattle.krates_ids.specs.Identity.{Identity, id_cmp}
-use Rattle.krates_rules.specs.Facts.{Id}
-use Rattle.krates_rules.specs.Resolved.{StandsAt}
+use Rattle.krates_rules.specs.Facts.{Id, Fact}
+use Rattle.krates_rules.specs.Facts as facts
+use Rattle.krates_rules.specs.Resolved.{StandsAt, id_of}
 use Rattle.krates_selection.specs.declared.work.Work.{Work}
 use Rattle.krates_drawing.specs.Node.{crate_ids, crate_values, crate_features, CratesFirst, feature_names, names_in}
 use Rattle.krates_drawing.specs.declared.node.Node.{Node}
+use Rattle.krates_drawing.specs.declared.node.Node.TheVariants.{Krate, Feature}
 
 -- the graph, the numbers of the members of the workspace, its path, how much work it was, and why all of that is kept
 pub record KeptCrates (N E : Type 0) : Type 0 where
@@ -70,6 +72,16 @@ pub record AreCrateNumbers {N : Type 0} (nodes : List (Node N)) (numbers : List 
 
 -- ---- enabled features
 
+-- the enabled features of the crates among the nodes, as facts
+abbrev pub enabled_facts : {N : Type 0} → List (Node N) → List Fact
+enabled_facts [] = []
+enabled_facts (Krate id krate features mapping ∷ nodes) = map (facts.Feature (id_of id)) (names_in features) ++ enabled_facts nodes
+enabled_facts (Feature krate_index name ∷ nodes) = enabled_facts nodes
+
+-- the feature of this name of the crate with this id is enabled
+abbrev pub HasEnabled : {N E : Type 0} → KeptCrates N E → Id → Text → Type 0
+HasEnabled k id name = Contains (enabled_facts k.graph.nodes) (facts.Feature id name)
+
 -- the names in each of these sets
 abbrev pub names_in_each : List (BTreeSet (String Global)) → List (List Text)
 names_in_each sets = map names_in sets
@@ -85,10 +97,6 @@ pub record IsEnabledIn (ids : List Identity) (features : List (List Text)) (id :
   pub names : List Text
   pub theirs : HasFeatures ids features id names
   pub among : Contains names name
-
--- the feature of this name of the crate with this id is enabled
-abbrev pub HasEnabled : {N E : Type 0} → KeptCrates N E → Id → Text → Type 0
-HasEnabled k id name = IsEnabledIn (ids_of k) (features_of k) id name
 
 -- ---- one crate
 

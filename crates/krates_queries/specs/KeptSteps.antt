@@ -4,9 +4,9 @@ use Rattle.krates_cm.specs.Document.{MetadataModel, text_view}
 use Rattle.krates_selection.specs.KeptFacts.{AreBelow, IsStepOf, uses_in, Enables, KeepsCrate, KeptModel, facts_in, steps_in}
 use Rattle.krates_selection.specs.declared.kept.KeptStep.{KeptStep}
 use Rattle.krates_ids.specs.Identity.{Identity}
-use Rattle.krates_rules.specs.Derivation.{Derivable}
 use Rattle.krates_rules.specs.Facts.{Fact}
 use Rattle.krates_rules.specs.Questions.{questions}
+use Rattle.krates_rules.specs.Resolution.{IsDerived}
 use Rattle.krates_rules.specs.Resolved.{HasGraphWith, resolved}
 use Rattle.krates_rules.specs.Setting.{SettingModel}
 use Rattle.krates_rules.specs.StepParts.{HaveOwnFacts}
@@ -24,7 +24,7 @@ steps_of k = steps_in (ids_of k) k.steps
 -- The steps follow, by what the document and the setting answer, and their facts are exactly the derivable ones.
 pub record IsExplainedBy (m : MetadataModel) (s : SettingModel) (steps : List StepModel) : Type 0 where
   pub follows : HasGraphWith m (λ g. EachFollows (questions (resolved m g) s) steps)
-  pub facts : (f : Fact) → HasGraphWith m (λ g. Derivable (questions (resolved m g) s) f) ↔ Contains (facts_in steps) f
+  pub facts : (f : Fact) → IsDerived m s f ↔ Contains (facts_in steps) f
 
 -- ---- what holds of every build
 

@@ -3,12 +3,13 @@
 ghost use Rattle.std.specs.Prelude.{◌≡◌, ◌<◌, IfOk, IfErr, length, map};
 ghost use Rattle.krates_cm.specs.Document.{metadata_view};
 ghost use Rattle.krates_rules.specs.Admission.{IsAdmitted};
-ghost use Rattle.krates_selection.specs.Selection.{IsExplained, IsExplainedOf, IsSelection, IsSelectionOf, RefusesSelection};
+ghost use Rattle.krates_selection.specs.Selection.{IsExplained, IsExplainedOf, IsSelection, IsSelectionOf};
 ghost use Rattle.krates_document.specs.Ids.{ids_view};
 ghost use Rattle.krates_questions.specs.Lookup.{resolved_view};
 ghost use Rattle.krates_questions.specs.Context.{document_of};
 ghost use Rattle.krates_document.specs.CrateTable.{AreNumbersOf};
 ghost use Rattle.krates_resolve.specs.Saturation.{HasExactly, HasCountedAll};
+ghost use Rattle.krates_rules.specs.Resolution.{RefusesSelection};
 ghost use Rattle.krates_rules.specs.NamedIds.{NamesIdsOf, NamesReadIds};
 ghost use Rattle.krates_rules.specs.Questions.{questions};
 ghost use Rattle.krates_rules.specs.Resolved.{id_of};

@@ -25,13 +25,8 @@ pub data Cause : Type 0 where
 
 -- what may have a derivation
 pub data Fact : Type 0 where
-  -- the crate is kept
-  Crate : (id : Id) → Fact
-  -- the feature of the crate is enabled
-  Feature : (krate : Id) (name : Text) → Fact
-  -- the edge is kept
-  Kept : (edge : Edge) → Fact
-  -- a feature of the first crate enables the feature of the second
-  Toggled : (by krate : Id) (name : Text) → Fact
-  -- something is required that the document lacks
-  Lost : (cause : Cause) → Fact
+  Crate : (id : Id) → Fact  -- the crate is kept
+  Feature : (krate : Id) (name : Text) → Fact  -- the feature of the crate is enabled
+  Kept : (edge : Edge) → Fact  -- the edge is kept
+  Toggled : (by krate : Id) (name : Text) → Fact  -- a feature of the first crate enables the feature of the second
+  Lost : (cause : Cause) → Fact  -- something is required that the document lacks

@@ -18,6 +18,7 @@ pub mod PlainSetting
 pub mod Questions
 pub mod Referent
 pub mod Reordering
+pub mod Resolution
 pub mod Resolved
 pub mod Roots
 pub mod Rules

@@ -6,12 +6,11 @@ use Rattle.krates_ids.specs.Correction.{named, with_features}
 use Rattle.krates_ids.specs.declared.error.Error.{Error}
 use Rattle.krates_rules.specs.Admission.{IsInvalidId, IsDoubled, NoneDoubled}
 use Rattle.krates_rules.specs.AdmissionRefusals.{AdmissionRefusal}
-use Rattle.krates_rules.specs.Derivation.{Derivable}
 use Rattle.krates_rules.specs.Facts.{Id, Edge, Fact}
-use Rattle.krates_rules.specs.Questions.{ListsEdge, questions}
+use Rattle.krates_rules.specs.Questions.{ListsEdge}
 use Rattle.krates_rules.specs.Referent.{IsReferent}
+use Rattle.krates_rules.specs.Resolution.{IsDerived, RefusesSelection}
 use Rattle.krates_rules.specs.Resolved.{Resolved, HasPackage, HasNode, HasGraphWith, resolved}
-use Rattle.krates_rules.specs.SelectionRefusals.{SelectionRefusal}
 use Rattle.krates_rules.specs.Setting.{SettingModel}
 
 -- ---- documents in another order
@@ -57,10 +56,6 @@ pub record Reorders (m n : MetadataModel) : Type 0 where
 
 -- ---- what is the same of both
 
--- the fact has a derivation from the document under the setting
-abbrev pub HasDerivation : MetadataModel → SettingModel → Fact → Type 0
-HasDerivation m s f = HasGraphWith m (λ g. Derivable (questions (resolved m g) s) f)
-
 -- the text is an invalid id of the document
 abbrev pub HasInvalidId : MetadataModel → Text → Type 0
 HasInvalidId m t = HasGraphWith m (λ g. IsInvalidId m g t)
@@ -68,10 +63,6 @@ HasInvalidId m t = HasGraphWith m (λ g. IsInvalidId m g t)
 -- the id is doubled in the document
 abbrev pub HasDoubledId : MetadataModel → Id → Type 0
 HasDoubledId m id = HasGraphWith m (λ g. IsDoubled m g id)
-
--- nothing is selected from the document under the setting, for this cause
-abbrev pub HasNoSelection : MetadataModel → SettingModel → Error → Type 0
-HasNoSelection m s e = HasGraphWith m (λ g. SelectionRefusal (questions (resolved m g) s) e)
 
 -- the documents say the same of each crate, of each edge and of each name
 pub record SayAlike (r t : Resolved) : Type 0 where
@@ -87,7 +78,7 @@ pub record SayAlike (r t : Resolved) : Type 0 where
 -- what is resolved of one document is resolved of the other, and what refuses one refuses the other
 pub record ResolveAlike (m n : MetadataModel) : Type 0 where
   -- the same facts have derivations, those of what is lost included
-  pub facts : (s : SettingModel) (f : Fact) → HasDerivation m s f ↔ HasDerivation n s f
+  pub facts : (s : SettingModel) (f : Fact) → IsDerived m s f ↔ IsDerived n s f
   -- both have a graph, or neither
   pub no_graph : (m.resolve ≡ None) ↔ (n.resolve ≡ None)
   -- the same texts are invalid ids
@@ -97,7 +88,7 @@ pub record ResolveAlike (m n : MetadataModel) : Type 0 where
   -- both are refused before resolution for the same causes
   pub refused : (e : Error) → AdmissionRefusal m e ↔ AdmissionRefusal n e
   -- and in resolution
-  pub unselected : (s : SettingModel) (e : Error) → HasNoSelection m s e ↔ HasNoSelection n s e
+  pub unselected : (s : SettingModel) (e : Error) → RefusesSelection m s e ↔ RefusesSelection n s e
   -- where no id is doubled, both say the same of each crate, edge and name
   pub says : (g h : ResolveModel) → m.resolve ≡ Some g → n.resolve ≡ Some h → NoneDoubled n h → SayAlike (resolved m g) (resolved n h)
 

@@ -10,28 +10,17 @@ use Rattle.krates_rules.specs.Demands.{Demands}
 
 -- what the rules ask a document and a setting
 pub record Questions : Type 1 where
-  -- the crate is a root
-  pub Root : Id → Type 0
-  -- the crate has a package that isn't excluded, and a node
-  pub Stands : Id → Type 0
-  -- the crate has no package
-  pub NoPackage : Id → Type 0
-  -- the crate has a package that isn't excluded, and no node
-  pub LacksNode : Id → Type 0
-  -- the crate's node lists the feature
-  pub Lists : Id → Text → Type 0
-  -- the crate has no node that lists the feature
-  pub Lacks : Id → Text → Type 0
-  -- the feature's list in the crate's corrected features has the reference
-  pub Refers : Id → Text → Reference → Type 0
-  -- a dependency's name, in a reference of the crate, means this crate
-  pub Referent : Id → Text → Id → Type 0
-  -- the edge is listed, and declared as this dependency, whatever the setting
-  pub Declared : Edge → DependencyModel → Type 0
-  -- the edge is listed, not ignored, declared as this dependency, and passes the targets
-  pub Wanted : Edge → DependencyModel → Type 0
-  -- the edge is listed, not ignored, and not declared
-  pub Loose : Edge → Type 0
+  pub Root : Id → Type 0  -- the crate is a root
+  pub Stands : Id → Type 0  -- the crate has a package that isn't excluded, and a node
+  pub NoPackage : Id → Type 0  -- the crate has no package
+  pub LacksNode : Id → Type 0  -- the crate has a package that isn't excluded, and no node
+  pub Lists : Id → Text → Type 0  -- the crate's node lists the feature
+  pub Lacks : Id → Text → Type 0  -- the crate has no node that lists the feature
+  pub Refers : Id → Text → Reference → Type 0  -- the feature's list in the crate's corrected features has the reference
+  pub Referent : Id → Text → Id → Type 0  -- a dependency's name, in a reference of the crate, means this crate
+  pub Declared : Edge → DependencyModel → Type 0  -- the edge is listed, and declared as this, whatever the setting
+  pub Wanted : Edge → DependencyModel → Type 0  -- it is listed, not ignored, declared as this, and passes the targets
+  pub Loose : Edge → Type 0  -- the edge is listed, not ignored, and not declared
 
 -- the edge may be kept: it is wanted, and its child has a package that isn't excluded, and a node
 pub record Open (q : Questions) (e : Edge) (d : DependencyModel) : Type 0 where

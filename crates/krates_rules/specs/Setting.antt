@@ -17,18 +17,12 @@ use Rattle.krates_rules.specs.declared.kind.IgnoredKinds.{IgnoredKinds}
 
 -- what the caller sets
 pub record SettingModel : Type 0 where
-  -- the targets that are asked, each with its features
-  pub targets : List Asked
-  -- the manifests of the crates that are roots, where any are set
-  pub manifests : List Text
-  -- the packages that are left out
-  pub exclusions : List Specification
-  -- the kinds of the dependencies that are ignored
-  pub ignored : IgnoredKinds
-  -- whether every member is a root, even if the graph has a root
-  pub workspace : Bool
-  -- whether a name in a feature reference means all dependencies that match it, rather than only the least of them
-  pub all_named : Bool
+  pub targets : List Asked  -- the targets that are asked, each with its features
+  pub manifests : List Text  -- the manifests of the crates that are roots, where any are set
+  pub exclusions : List Specification  -- the packages that are left out
+  pub ignored : IgnoredKinds  -- the kinds of the dependencies that are ignored
+  pub workspace : Bool  -- whether every member is a root, even if the graph has a root
+  pub all_named : Bool  -- whether a name in a reference means all dependencies that match it, not only the least
 
 -- ---- the manifest of a path
 

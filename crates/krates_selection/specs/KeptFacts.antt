@@ -40,6 +40,7 @@ pub data KeptModel : Type 0 where
   KeepsEdge : (parent child : ℕ) (kind : DependencyKind) (cfg : Option Text) → KeptModel
   Toggles : (by krate : ℕ) (name : Text) → KeptModel
 
+-- a fact as it is stored, as clauses see it
 abbrev pub kept_view : KeptFact → KeptModel
 kept_view (kept.Crate krate) = KeepsCrate krate
 kept_view (kept.Feature krate name) = Enables krate (text_view name)
@@ -60,6 +61,7 @@ IsBelow n (Toggles by krate name) = (by < n) × (krate < n)
 
 -- ---- what they say
 
+-- the edge between the crates of these numbers, for crates with these ids
 abbrev pub edge_in : List Identity → ℕ → ℕ → DependencyKind → Option Text → Edge
 edge_in kids parent child kind cfg = record { parent = id_at kids parent; child = id_at kids child; kind = kind; cfg = cfg }
 
@@ -70,10 +72,11 @@ fact_in kids (Enables krate name) = Feature (id_at kids krate) name
 fact_in kids (KeepsEdge parent child kind cfg) = Kept (edge_in kids parent child kind cfg)
 fact_in kids (Toggles by krate name) = Toggled (id_at kids by) (id_at kids krate) name
 
--- the step
+-- the step, for crates with these ids
 abbrev pub step_in : List Identity → KeptStep → StepModel
 step_in kids x = record { rule = x.rule; fact = fact_in kids (kept_view x.fact); uses = numbers_used x.uses }
 
+-- the steps, for crates with these ids
 abbrev pub steps_in : List Identity → List KeptStep → List StepModel
 steps_in kids steps = map (step_in kids) steps
 

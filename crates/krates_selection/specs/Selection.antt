@@ -18,12 +18,10 @@ use Rattle.krates_text.specs.FeatureReference.{Reference, IsReference, krate, si
 use Rattle.krates_questions.specs.FeatureTable.{values_of}
 use Rattle.krates_selection.specs.declared.work.Work.{Work}
 use Rattle.std.specs.List.Sorted.{IsStrictlySortedBy}
-use Rattle.krates_ids.specs.declared.error.Error.{Error}
 use Rattle.krates_rules.specs.DeclaredDependency.{FirstAt}
 use Rattle.krates_rules.specs.Derivation.{Derivable}
 use Rattle.krates_rules.specs.Questions.{IsDeclaredAt, kind_info_of, questions}
 use Rattle.krates_selection.specs.declared.selection.Selection.{Selection}
-use Rattle.krates_rules.specs.SelectionRefusals.{SelectionRefusal}
 use Rattle.krates_selection.specs.Trace.{HasSomeStep, IsTrace}
 
 -- ---- the numbers of kept crates: the places of their ids among those of all kept crates
@@ -181,10 +179,6 @@ pub record IsSelection (r : Resolved) (s : SettingModel) (x : Selection) : Type 
 -- it is that of the document under the setting
 abbrev pub IsSelectionOf : MetadataModel → SettingModel → Selection → Type 0
 IsSelectionOf m s x = HasGraphWith m (λ g. IsSelection (resolved m g) s x)
-
--- why nothing is selected of the document under the setting
-abbrev pub RefusesSelection : MetadataModel → SettingModel → Error → Type 0
-RefusesSelection m s e = HasGraphWith m (λ g. SelectionRefusal (questions (resolved m g) s) e)
 
 -- ---- the steps of a selection
 

@@ -6,7 +6,8 @@ use Rattle.krates_rules.specs.Questions.{questions}
 use Rattle.krates_rules.specs.Resolved.{Resolved}
 use Rattle.krates_rules.specs.SelectionRefusals.{SelectionRefusal}
 use Rattle.krates_questions.proofs.ReadIds.{each_read}
-use Rattle.krates_selection.specs.Selection.{IsExplained, IsSelection, RefusesSelection}
+use Rattle.krates_rules.specs.Resolution.{RefusesSelection}
+use Rattle.krates_selection.specs.Selection.{IsExplained, IsSelection}
 use Rattle.krates_resolve.proofs.resolution.select.Goals as goal
 
 pub returns-clause-selected : goal.returns-clause-selected
