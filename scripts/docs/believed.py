@@ -15,18 +15,19 @@ FUNCTION = "build_with_metadata"
 HEAD = """# The headline, and all that has to be believed of it
 
 Written by `scripts/docs.py believed` from the contract of `Builder::build_with_metadata`
-([builder.rt](../{source})), and compared with it by each run of the gate. The proofs need not be read: they are checked.
-What has to be read, to know what is proved, are the contract and the {count} definitions that it reaches: {lines} lines in {files} files.
+([builder.rt](../{source})), and compared with it by each run of the gate. The proofs need not be read: they are
+checked. To know what is proved, read the contract and the {count} definitions that it reaches: {lines} lines in
+{files} files.
 
-- {meaning} lines say what a document, its ids, its references and a setting mean, and what is kept, reported and refused. The mark
-  that this page keeps to is 900 of these, and 1300 of all.
-- {drawn} lines are of the drawn graph, of which the headline speaks too: which nodes, mappings and edges there are, by number, how much
-  work it was, and by which steps all of it is kept.
-- {fields} lines say nothing new: they list the fields of a document, of what an index answers, of a setting and of a document's ids, as
-  clauses see them. Every other definition names such fields, so they stand here too.
+- {meaning} lines say what a document, its ids, its references and a setting mean, and what is kept, reported and
+  refused. This page keeps to 900 lines of these, and to 1300 of all.
+- {drawn} lines are about the drawn graph, of which the headline also speaks: which nodes, mappings and edges there are,
+  by number, how much work it was, and by which steps all of it is kept.
+- {fields} lines say nothing new: they list the fields of a document, of an index's answer, of a setting and of a
+  document's ids, as clauses see them. Every other definition names such fields, so they are here too.
 
-The files stand in the order in which they are first needed, and the definitions of a file behind those of it that they use, each with
-the sentence that stands above it there.{bare}
+Files are in the order in which they are first needed. Within a file, a definition comes after those that it uses, each
+with the sentence that is above it there.{bare}
 
 ```
 {contract}
@@ -35,26 +36,31 @@ the sentence that stands above it there.{bare}
 
 LAWS = """## Five laws
 
-The headline speaks of one build. What holds of a build and another, or of two queries, follows from it by five laws. None adds to what
-has to be believed but its own statement, which fits a screen.
+The headline is about one build. What is true of two builds, or of two queries, follows from it by five laws. To each of
+them, only its own statement has to be believed in addition, which fits on a screen.
 
-- **Order**: of two documents that differ only in the order of packages, members, nodes, a node's dependencies or features, the
-  same is kept, drawn number by number, reported in order and refused. So `a` and `b`, of which `a` needs `b`, are nodes 0 and 1
-  whichever is written first. [BuildLaws](../crates/krates/specs/BuildLaws.antt), `IsBuildOrderFree`.
-- **Narrowing**: with one more exclusion, one more ignored kind, or targets where there were none, crates, features and edges are a part
-  of what they were, and a build that succeeded succeeds still, or no root is left. So without dev dependencies `a`, which needs `b`
-  for its tests, is kept alone. [BuildLaws](../crates/krates/specs/BuildLaws.antt), `IsBuildNarrowing`.
-- **Naming**: what is kept where a dependency's name in a feature reference means the least that answers to it is a part of what is kept
-  where it means all of them, what is lost included. So of two versions of `d` that the reference `dep:d` may mean, the first by id is kept,
-  and with all named both. [BuildLaws](../crates/krates/specs/BuildLaws.antt), `IsBuildNamedPart`.
-- **Rebuild**: what kept members reach without edges of a kind has all that a build keeps which ignores the kind, where the graph has no
-  root or a member as its root; and nothing else, where no feature is enabled and each member is a root. So both have `a` alone there; but
-  where a feature of `a` names one of `b`, the first has `b` too. [Rebuilding](../crates/krates_drawing/specs/Rebuilding.antt),
-  `FilteredHoldsRebuild`; a caller's view of it is [Rebuilt](../crates/krates_build_tests/specs/Rebuilt.antt), `HoldsRebuilt`.
-- **Agreement**: where no two crates come by one declared dependency of `p`, `p` depends directly on exactly those that have `p` as a
-  dependent. So `a` depends on `b` exactly if `b` has `a` as a dependent; but where one dependency brings two versions of `d`, `a` is a
-  dependent of both and depends on the one that comes last by id. It holds of each graph that is drawn of a document that can be resolved,
-  as `IsBuilt` below promises of both. [BuildLaws](../crates/krates/specs/BuildLaws.antt), `IsBuildAgreeing`.
+- **Order**: of two documents that differ only in the order of packages, members, nodes, a node's dependencies or
+  features, the same is kept, drawn number by number, reported in order and refused. So `a` and `b`, where `a` needs
+  `b`, are nodes 0 and 1 whichever is written first. [BuildLaws](../crates/krates/specs/BuildLaws.antt),
+  `IsBuildOrderFree`.
+- **Narrowing**: with one more exclusion, one more ignored kind, or targets where there were none, crates, features and
+  edges are a part of what they were, and a build that succeeded still succeeds, or no root is left. So without dev
+  dependencies `a`, which needs `b` for its tests, is kept alone. [BuildLaws](../crates/krates/specs/BuildLaws.antt),
+  `IsBuildNarrowing`.
+- **Naming**: if a dependency's name in a feature reference means only the least of those that match it, what is kept is
+  a part of what is kept if it means all of them, and so is what is lost. So of two versions of `d` that the reference
+  `dep:d` may mean, the first by id is kept, and with all named both.
+  [BuildLaws](../crates/krates/specs/BuildLaws.antt), `IsBuildNamedPart`.
+- **Rebuild**: what kept members reach without edges of a kind includes all that a build keeps which ignores the kind,
+  if the graph has no root, or a member as its root; and it has nothing else if no feature is enabled and each member is
+  a root. So both have `a` alone there; but if a feature of `a` names one of `b`, the first also has `b`.
+  [Rebuilding](../crates/krates_drawing/specs/Rebuilding.antt), `FilteredHoldsRebuild`; for callers,
+  [Rebuilt](../crates/krates_build_tests/specs/Rebuilt.antt), `HoldsRebuilt`.
+- **Agreement**: if no two crates come from one declared dependency of `p`, `p` depends directly on exactly those that
+  have `p` as a dependent. So `a` depends on `b` exactly if `b` has `a` as a dependent; but if one dependency brings two
+  versions of `d`, `a` is a dependent of both and depends on the one that comes last by id. It is true of each graph
+  that is drawn of a document that can be resolved, and `IsBuilt` below promises both.
+  [BuildLaws](../crates/krates/specs/BuildLaws.antt), `IsBuildAgreeing`.
 """
 
 IMPORT = re.compile(r"^\s*(?:ghost )?use Rattle\.(\w+)\.specs\.([\w.]+?)(?:\.\{(.*?)\})?(?: as (\w+))?;?$", re.M | re.S)
