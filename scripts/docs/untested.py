@@ -66,7 +66,7 @@ SHOWN_BY = {
     ).split(),
     # the graph of a build: its outline, nodes and edges, and how they are stored
     "build_with_metadata": (
-        "records_of count_of given_by meanings_by NumberedOutline::of NumberedOutline::plan_nodes NumberedOutline::plan"
+        "NumberedOutline::of NumberedOutline::plan_nodes NumberedOutline::plan"
         " store_edges in_order Krates::new divide handed_over"
     ).split(),
     # the steps that a build keeps, and those of them that lead to a node

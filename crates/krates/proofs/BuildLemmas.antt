@@ -15,8 +15,7 @@ use Rattle.krates_rules.specs.Setting.{SettingModel}
 use Rattle.krates_rules.specs.Resolution.{IsDerived}
 use Rattle.krates.specs.Build.{KeepsCrate, DropsCrate}
 use Rattle.krates_drawing.specs.Listed.{AreThosePackages}
-use Rattle.krates_drawing.specs.Division.{IsAmong, IsDivision}
-use Rattle.krates_drawing.specs.Krate.{krate_ids, krate_packages}
+use Rattle.krates_drawing.specs.Division.{IsAmong, IsDivision, krate_ids, krate_packages}
 use Rattle.krates_drawing.specs.declared.division.Division.{Division}
 use Rattle.krates_drawing.proofs.DivisionLemmas.{ReadsOnce}
 use Rattle.krates_rules.proofs.Members.{Member, member_of, contains_of, mapped_of, member_map}

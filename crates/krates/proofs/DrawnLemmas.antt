@@ -31,7 +31,7 @@ use Rattle.krates_rules.specs.Resolved.{HasGraphWith, Resolved, id_of, resolved}
 use Rattle.krates_rules.specs.Setting.{SettingModel}
 use Rattle.krates.specs.Build.{AreKeptMembers, IsBuilt, IsResolvable, KeepsCrate}
 use Rattle.krates_drawing.specs.Listed.{AreThosePackages}
-use Rattle.krates_drawing.specs.Division.{IsAmong, IsDivision, outline_ids}
+use Rattle.krates_drawing.specs.Division.{IsAmong, IsDivision, outline_ids, krate_ids, krate_packages}
 use Rattle.krates_selection.specs.KeptFacts.{steps_in}
 use Rattle.krates_selection.specs.declared.kept.KeptStep.{KeptStep}
 use Rattle.krates_queries.specs.KeptSteps.{IsExplainedBy}
@@ -40,11 +40,10 @@ use Rattle.krates.specs.Enabled.{AreEnabledSets, numbered}
 use Rattle.krates_queries.proofs.EnabledFacts.{enabled_listed}
 use Rattle.krates_queries.specs.Kept.{AreFeatures, AreNodes, IsEnabledIn, IsNameAt, names_in_each}
 use Rattle.krates.specs.KeptGraph.{IsGraphOf, named_fact}
-use Rattle.krates_drawing.specs.Krate.{krate_ids, krate_packages}
 use Rattle.krates.specs.MadeNodes.{IsMade}
 use Rattle.krates_drawing.specs.Node.{crate_ids, crate_values, crate_features, CratesFirst, names_in}
 use Rattle.krates_drawing.specs.declared.division.Division.{Division}
-use Rattle.krates_drawing.specs.declared.krate.Krate.{Krate}
+use Rattle.krates_drawing.specs.declared.division.Krate.{Krate}
 use Rattle.krates_drawing.specs.declared.node.Node.{Node}
 use Rattle.krates.proofs.BuildLemmas.{Builds, builds, enabled}
 use Rattle.krates.proofs.MadeLemmas.{AreDrawnNodes, alike, first_alike, mapped_length}

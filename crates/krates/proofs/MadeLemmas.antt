@@ -16,10 +16,10 @@ use Rattle.krates_ids.specs.Identity.{Identity}
 use Rattle.krates_rules.specs.Facts.{Id}
 use Rattle.krates_rules.specs.Resolved.{id_of}
 use Rattle.krates_queries.specs.Drawn.{planned_node}
-use Rattle.krates_drawing.specs.Krate.{krate_ids, krate_packages}
+use Rattle.krates_drawing.specs.Division.{krate_ids, krate_packages}
 use Rattle.krates.specs.MadeNodes.{IsMade, crate_node, feature_node}
 use Rattle.krates_drawing.specs.Node.{crate_ids, crate_values, crate_features, CratesFirst, names_in}
-use Rattle.krates_drawing.specs.declared.krate.Krate.{Krate}
+use Rattle.krates_drawing.specs.declared.division.Krate.{Krate}
 use Rattle.krates_drawing.specs.declared.nodes.PlannedFeature.{PlannedFeature}
 use Rattle.krates_drawing.specs.declared.nodes.PlannedNodes.{PlannedNodes}
 use Rattle.krates_drawing.specs.declared.node.Node.{Node}

@@ -7,12 +7,11 @@ use Rattle.krates_drawing.specs.Outline.{FeatureRow, Outline}
 use Rattle.krates_drawing.specs.declared.edge.Edge.{Edge}
 use Rattle.krates_graph.specs.Graph.{StoredGraph}
 use Rattle.krates_rules.specs.Facts.{Id, Fact, Feature}
-use Rattle.krates_drawing.specs.Division.{IsAmong}
+use Rattle.krates_drawing.specs.Division.{IsAmong, krate_ids, krate_packages}
 use Rattle.krates_queries.specs.Drawn.{IsDrawing}
 use Rattle.krates_queries.specs.Kept.{IsEnabledIn}
-use Rattle.krates_drawing.specs.Krate.{krate_ids, krate_packages}
 use Rattle.krates_drawing.specs.Node.{crate_ids, crate_values, crate_features, CratesFirst}
-use Rattle.krates_drawing.specs.declared.krate.Krate.{Krate}
+use Rattle.krates_drawing.specs.declared.division.Krate.{Krate}
 use Rattle.krates_drawing.specs.declared.node.Node.{Node}
 
 abbrev pub named_fact : FeatureRow → Fact

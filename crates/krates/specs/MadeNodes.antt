@@ -6,7 +6,7 @@ use Rattle.std.specs.declared.alloc.Global.{Global}
 use Rattle.krates_cm.specs.declared.package.Package.{Package}
 use Rattle.krates_ids.specs.declared.error.Error.{Error}
 use Rattle.krates_ids.specs.declared.error.Error.TheVariants as errors
-use Rattle.krates_drawing.specs.declared.krate.Krate.{Krate}
+use Rattle.krates_drawing.specs.declared.division.Krate.{Krate}
 use Rattle.krates_drawing.specs.declared.nodes.PlannedFeature.{PlannedFeature}
 use Rattle.krates.specs.declared.nodes.DrawnNodes.{DrawnNodes}
 use Rattle.krates_drawing.specs.declared.node.Node.{Node}

@@ -10,7 +10,7 @@ ghost use Rattle.krates.specs.Indexed.{IsAskable, Sees};
 
 use crate::builder::Builder;
 use krates_cargo::MetadataCommand;
-use krates_drawing::filter::OnFilter;
+use krates_drawing::division::OnFilter;
 use krates_drawing::store::FromEdge;
 use krates_ids::{BuildIndexCache, Error};
 use krates_queries::from_package::FromPackage;

@@ -15,16 +15,16 @@ ghost use Rattle.krates_rules.specs.NamedIds.{NamesReadIds};
 ghost use Rattle.krates_rules.specs.Resolution.{RefusesSelection};
 ghost use Rattle.krates_rules.specs.Resolved.{id_of};
 ghost use Rattle.krates.specs.KeptGraph.{IsGraphOf};
-ghost use Rattle.krates_drawing.specs.Krate.{krate_ids};
+ghost use Rattle.krates_drawing.specs.Division.{krate_ids};
 ghost use Rattle.krates.specs.MadeNodes.{IsMade, nodes_in};
 ghost use Rattle.krates.specs.Sketch.{IsSketchOf};
 
 use crate::enabled::enabled_of;
 use crate::nodes::{DrawnNodes, nodes_of, store_nodes};
 use krates_cm::Metadata;
+use krates_drawing::division::Krate;
 use krates_drawing::edge::PlannedEdge;
 use krates_drawing::gather::outline_of;
-use krates_drawing::krate::Krate;
 use krates_drawing::limits::{Limits, Plan, plan_within};
 use krates_drawing::node::Node;
 use krates_drawing::outline::Outline;

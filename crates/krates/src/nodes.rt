@@ -8,7 +8,7 @@ ghost use Rattle.std.specs.List.{AllZip, zip};
 ghost use Rattle.krates.specs.MadeNodes.{CountRefusal, IsMade, crate_node, feature_node, nodes_in};
 
 use krates_cm::Package;
-use krates_drawing::krate::Krate;
+use krates_drawing::division::Krate;
 use krates_drawing::node::{EnabledFeatures, Node};
 use krates_drawing::nodes::{PlannedFeature, PlannedNodes};
 use krates_graph::graph::{Graph, GraphError, NodeId};

@@ -17,11 +17,9 @@ use Rattle.krates_rules.specs.DistinctIds.{AreDistinct}
 use Rattle.krates_rules.specs.Facts.{Id}
 use Rattle.krates_rules.specs.Resolved.{id_of}
 use Rattle.krates_drawing.specs.Listed.{AreThosePackages, HasIdAmong}
-use Rattle.krates_drawing.specs.Division.{has_same, is_selected, IsAmong, IsDivision}
-use Rattle.krates_drawing.specs.Krate.{krate_cmp, krate_ids, paired}
-use Rattle.krates_drawing.specs.Krate.{krate_packages}
+use Rattle.krates_drawing.specs.Division.{has_same, is_selected, IsAmong, IsDivision, krate_cmp, krate_ids, paired, krate_packages}
 use Rattle.krates_drawing.specs.declared.division.Division.{Division}
-use Rattle.krates_drawing.specs.declared.krate.Krate.{Krate}
+use Rattle.krates_drawing.specs.declared.division.Krate.{Krate}
 use Rattle.krates_rules.proofs.Members.{Member, member_of, contains_of, mapped_of, member_map, kept_of, member_filter}
 use Rattle.krates_rules.proofs.MappedLists.{map_filter, zip_maps}
 use Rattle.krates_rules.proofs.OrderedIds.{Compares, id_of_equal}

@@ -1,44 +1,52 @@
 -- What is gathered from a selection is its outline.
-use Rattle.std.proofs.Common.{◌≡◌, ◌↔◌, Bool, inl, inr, ℕ, Contains, ◌++◌, zero, suc, ◌<◌, List, [], ◌∷◌, All, length, map, option_map, Option, Some, None, slice_get, refl, sym, ap, ◌∙◌, subst, arith}
+use Rattle.std.proofs.Common.{IsTrue, ◌≡◌, ◌↔◌, Bool, inl, inr, ℕ, Contains, ◌++◌, zero, suc, ◌<◌, List, [], ◌∷◌, All, length, map, None, Option, Some, slice_get, refl, sym, ap, ◌∙◌, subst, arith}
 use Rattle.std.proofs.lemmas.List.{get_or-map, length-map}
 use Rattle.std.proofs.lemmas.Simd.{map-map}
-use Rattle.std.proofs.lemmas.List.Elements.{All-contains, All-from_recursion}
+use Rattle.std.proofs.lemmas.List.Elements.{All-contains, All-contains_itself, All-from_recursion, All-weaker, Contains-append_left}
 use Rattle.std.specs.Global.{Vec}
+use Rattle.std.specs.Iterator.{Yields}
+use Rattle.std.specs.declared.vec.IntoIter.{IntoIter}
+use Rattle.std.proofs.IntoIterSteps.{takes, taken}
+use Rattle.std.proofs.lemmas.Iterator.{YieldsList}
+use Rattle.std.proofs.lemmas.Iterator.Consumers.{YieldsList-turn}
 use Rattle.std.specs.List.{AllByRecursion, AllZip, sum}
 use Rattle.std.specs.List.Sorted.{IsStrictlySortedBy}
-use Rattle.krates_cm.specs.Document.{NodeModel, PackageModel, node_view, text_view}
+use Rattle.krates_cm.specs.Document.{NodeModel, PackageModel, Text, node_view, package_view, text_view}
 use Rattle.krates_ids.specs.Identity.{Identity, id_cmp}
-use Rattle.krates_questions.specs.Lookup.{IsPackageOf, TellsPackage, IsNodeOf}
+use Rattle.krates_questions.specs.FeatureTable.{values_of}
 use Rattle.krates_rules.specs.Admission.{NoneDoubled}
 use Rattle.krates_rules.specs.DeclaredDependency.{dependency_entry}
 use Rattle.krates_rules.specs.Derivation.{Derivable}
 use Rattle.krates_rules.specs.Facts.{Id, Fact, Crate, Feature, Kept, Toggled}
 use Rattle.krates_rules.specs.Questions.{kind_info_of, questions}
-use Rattle.krates_rules.specs.Resolved.{Resolved, id_of, HasNode, HasPackage, NoPackage, NoNode}
+use Rattle.krates_rules.specs.Resolved.{Resolved, id_of, HasNode, HasPackage}
 use Rattle.krates_selection.specs.Selection.{HasCrates, HasEnds, HasHome, id_at, edge_view, IsPlaced, IsSelection, crate_fact, edge_fact, facts_of, feature_fact, place_cmp, feature_cmp, HasReferences, counted}
 use Rattle.krates_rules.specs.Setting.{SettingModel}
 use Rattle.krates_selection.specs.declared.selection.EnabledFeature.{EnabledFeature}
 use Rattle.krates_selection.specs.declared.selection.KeptEdge.{KeptEdge}
 use Rattle.krates_selection.specs.declared.selection.Selection.{Selection}
-use Rattle.krates_drawing.specs.Gathered.{AreMeant, IsEdgeWith, IsFeatureWith, declared_in, row_in, dependency_in, listed_of, values_in}
+use Rattle.krates_drawing.specs.Gathered.{IsBetween, IsEdgeWith, IsFeatureWith, IsRecordOf, Stands, row_in}
 use Rattle.krates_drawing.specs.Outline as model
 use Rattle.krates_drawing.specs.Outline.{IsCrateRow, IsEdgeRow, IsMeaning, IsFeatureRow, IsOutline, enabled_order, link_order, outlined_facts, toggle_order}
 use Rattle.krates_drawing.specs.WorkOfOutline.{work_of}
 use Rattle.krates_drawing.specs.InOrder.{AreInOrder}
-use Rattle.krates_drawing.specs.CrateRecord.{IsRecordOf, node_at, node_in, of_crate, package_at, package_in}
 use Rattle.krates_drawing.specs.Views.{kids_of, crate_row_view, edge_row_view, meaning_view, feature_row_view, toggle_of}
 use Rattle.krates_drawing.specs.declared.outline.CrateRow.{CrateRow}
 use Rattle.krates_drawing.specs.declared.outline.EdgeRow.{EdgeRow}
 use Rattle.krates_drawing.specs.declared.outline.FeatureRow.{FeatureRow}
-use Rattle.krates_drawing.specs.declared.crate_record.CrateRecord.{CrateRecord}
+use Rattle.krates_drawing.specs.declared.gather.CrateRecord.{CrateRecord}
 use Rattle.krates_document.proofs.DeclaredOnce.{declared_stands}
-use Rattle.krates_drawing.proofs.Derivations.{child_kept, crate_of_feature, kept_stands}
+use Rattle.krates_drawing.proofs.Derivations.{kept_stands}
+use Rattle.krates_text.specs.Texts.{has_text}
+use Rattle.krates_rules.specs.Features.{ListsFeature}
+use Rattle.krates_drawing.proofs.Closed.{text_has, text_there}
+use Rattle.krates_drawing.proofs.Tests.{bools_same}
 use Rattle.krates_drawing.proofs.ById.{crates_sorted, features_sorted, links_sorted, toggles_sorted}
-use Rattle.krates_drawing.proofs.Holding.{crate_kept, feature_enabled, link_kept}
 use Rattle.krates_drawing.proofs.OneOutline.{ReadsOneReference}
 use Rattle.krates_drawing.proofs.WorkOfOutline.{features_times, same_work}
-use Rattle.krates_rules.proofs.Members.{Member, contains_of}
-use Rattle.krates_rules.proofs.OnlyOne.{one_package}
+use Rattle.krates_rules.proofs.Members.{Member, contains_of, member_map, member_of}
+use Rattle.krates_rules.proofs.Zips.{all_taken}
+use Rattle.krates_rules.proofs.OnlyOne.{one_node, one_package}
 
 -- ---- what is gathered
 
@@ -46,20 +54,41 @@ use Rattle.krates_rules.proofs.OnlyOne.{one_package}
 pub record AreGathered (r : Resolved) (s : SettingModel) (x : Selection) (records : List CrateRecord) (ks : List CrateRow) (ls : List EdgeRow) (fs : List FeatureRow) : Type 0 where
   pub each : AllZip (IsRecordOf r) x.krates.items records
   pub krates : ks ≡ map row_in records
-  pub links : AllZip (IsEdgeWith records) x.edges.items ls
+  pub links : AllZip (IsEdgeWith r records) x.edges.items ls
   pub features : AllZip (IsFeatureWith r s.all_named records) x.features.items fs
 
 -- what each call gives about the records that it reads is about those of the selection
 pub gathered_by_reading : (r : Resolved) (s : SettingModel) (x : Selection) (records : List CrateRecord) (ks : List CrateRow) (ls : List EdgeRow) (fs : List FeatureRow)
     → {edges_from named_from : List CrateRecord} → edges_from ≡ records → named_from ≡ records
     → AllZip (IsRecordOf r) x.krates.items records → ks ≡ map row_in records
-    → AllZip (IsEdgeWith edges_from) x.edges.items ls → AllZip (IsFeatureWith r s.all_named named_from) x.features.items fs → AreGathered r s x records ks ls fs
+    → AllZip (IsEdgeWith r edges_from) x.edges.items ls → AllZip (IsFeatureWith r s.all_named named_from) x.features.items fs → AreGathered r s x records ks ls fs
 gathered_by_reading r s x records ks ls fs from_read named_read each krates links features = record {
   each = each;
   krates = krates;
-  links = subst (λ (xs : List CrateRecord). AllZip (IsEdgeWith xs) x.edges.items ls) from_read links;
+  links = subst (λ (xs : List CrateRecord). AllZip (IsEdgeWith r xs) x.edges.items ls) from_read links;
   features = subst (λ (xs : List CrateRecord). AllZip (IsFeatureWith r s.all_named xs) x.features.items fs) named_read features;
 }
+
+-- what holds of each item of an owned list holds of the one that a loop takes
+pub at_turn : {X A : Type 0} (P : X → Type 0) (xs : List X) (start last rest : IntoIter X A) (yielded : List X) (next : Option X) (x : X)
+    → All P xs → start.rest.items ≡ xs → Yields takes start yielded last → next ≡ Some x → takes last next rest → P x
+at_turn {X} P xs start last rest yielded next x all all_of so_far some step =
+    let road : YieldsList takes (λ (x : X). x) start start.rest.items = record { runs = taken start } in
+    let turn = YieldsList-turn road yielded last so_far next rest x some step in
+    subst P (sym turn.1) (subst (All P) (sym all_of) all (length yielded) x turn.0)
+
+-- and a loop that has taken all items has a row for each
+pub all_rows : {X Y A : Type 0} (R : X → Y → Type 0) (xs : List X) (ys : List Y) (start last rest : IntoIter X A) (yielded : List X) (next : Option X)
+    → start.rest.items ≡ xs → Yields takes start yielded last → next ≡ None → takes last next rest → AllZip R yielded ys → AllZip R xs ys
+all_rows R xs ys start last rest yielded next all_of so_far none ends rows = subst (λ zs. AllZip R zs ys) (all_taken start last rest yielded next so_far none ends ∙ all_of) rows
+
+-- ---- what is asked of the document
+
+-- whether a crate lists a feature is whether its node has it
+pub lists_text : (r : Resolved) (i : Id) (n : NodeModel) (f : Text) (b : Bool) → NoneDoubled r.metadata r.graph → HasNode r i n → (IsTrue b ↔ ListsFeature r i f) → b ≡ has_text n.features f
+lists_text r i n f b none h w = bools_same b (has_text n.features f)
+    (λ e. let l = w.0 e in text_has n.features f (subst (λ (m : NodeModel). Member m.features f) (one_node r i l.node n none l.has_node h) (member_of l.node.features f l.among)))
+    (λ e. w.1 (record { node = n; has_node = h; among = contains_of n.features f (text_there n.features f e) }))
 
 -- ---- what the document has for the crate of a number
 
@@ -67,8 +96,8 @@ record RecordAt (r : Resolved) (kids : List Identity) (records : List CrateRecor
   here : CrateRecord
   at : slice_get records n ≡ Some here
   krate : id_of here.krate ≡ id_at kids n
-  pkg : TellsPackage r (id_at kids n) here.pkg
-  node : IsNodeOf r (id_at kids n) (option_map (λ node. node_view node.now) here.node)
+  pkg : HasPackage r (id_of here.krate) (package_view here.pkg.now)
+  node : HasNode r (id_of here.krate) (node_view here.node.now)
 
 record_at : (r : Resolved) (kids : List Identity) (records : List CrateRecord) (n : ℕ) → AllZip (IsRecordOf r) kids records → n < length kids → RecordAt r kids records n
 record_at r [] ts n z lt = absurd (omega (arith, lt))
@@ -78,20 +107,7 @@ record_at r (i ∷ is) (t ∷ ts) (suc n) z lt =
     let w = record_at r is ts n z.1 (omega (arith, lt)) in
     record { here = w.here; at = w.at; krate = w.krate; pkg = w.pkg; node = w.node }
 
-some_package : (r : Resolved) (i : Id) (o : Option PackageModel) → IsPackageOf r i o → (NoPackage r i → ⊥) → (p : PackageModel) × (o ≡ Some p) × HasPackage r i p
-some_package r i None h some = absurd (some h)
-some_package r i (Some p) h some = (p, refl, h)
-
-some_node : (r : Resolved) (i : Id) (o : Option NodeModel) → IsNodeOf r i o → (NoNode r i → ⊥) → (n : NodeModel) × (o ≡ Some n) × HasNode r i n
-some_node r i None h some = absurd (some h)
-some_node r i (Some n) h some = (n, refl, h)
-
 -- ---- one element
-
-krate_recorded : (r : Resolved) (i : Identity) (t : CrateRecord) → (NoPackage r (id_of i) → ⊥) → IsRecordOf r i t → IsCrateRow r (crate_row_view (row_in t))
-krate_recorded r i t some w =
-    let p = some_package r (id_of i) (package_in t) w.pkg some in
-    record { pkg = p.0; has_package = subst (λ (k : Identity). HasPackage r (id_of k) p.0) (sym w.krate) p.2; declared = ap declared_in p.1 }
 
 -- the declared dependency of an edge is at its place in the list of the parent's package
 at_place : (r : Resolved) (s : SettingModel) (kids : List Identity) (e : KeptEdge) (w : IsPlaced r s kids e) (p : PackageModel) → NoneDoubled r.metadata r.graph → HasPackage r (id_at kids e.parent) p
@@ -102,48 +118,58 @@ at_place r s kids e w p none h =
     subst (λ (z : PackageModel). slice_get z.dependencies e.declared ≡ Some w.dependency) same
     (declared_stands a.pkg.dependencies (dependency_entry (id_at kids e.child) a.dep) (kind_info_of (edge_view kids e)) e.declared w.dependency a.declared)
 
-link_recorded : (r : Resolved) (s : SettingModel) (kids : List Identity) (records : List CrateRecord) (e : KeptEdge) (l : EdgeRow) → NoneDoubled r.metadata r.graph → AllZip (IsRecordOf r) kids records → HasEnds (length kids) e → IsPlaced r s kids e
-    → (NoNode r (id_at kids e.child) → ⊥) → IsEdgeWith records e l → IsEdgeRow r s (edge_row_view kids l)
-link_recorded r s kids records e l none z ends w some is =
-    let a = w.declared.declares in
+-- an edge of the selection is between recorded crates
+between_of : (r : Resolved) (s : SettingModel) (kids : List Identity) (records : List CrateRecord) (e : KeptEdge) → NoneDoubled r.metadata r.graph → AllZip (IsRecordOf r) kids records → HasEnds (length kids) e → IsPlaced r s kids e → IsBetween r records e
+between_of r s kids records e none z ends w =
     let parent = record_at r kids records e.parent z ends.parent in
     let child = record_at r kids records e.child z ends.child in
-    let p = some_package r (id_at kids e.parent) (package_in parent.here) parent.pkg (λ gone. gone a.pkg a.has_package) in
-    let n = some_node r (id_at kids e.child) (node_in child.here) child.node some in
-    let declared : dependency_in (package_at records e.parent) e.declared ≡ Some w.dependency =
-    ap (λ o. dependency_in (of_crate package_in o) e.declared) parent.at ∙ (ap (λ o. dependency_in o e.declared) p.1 ∙ at_place r s kids e w p.0 none p.2) in
-    let node : node_at records e.child ≡ Some n.0 = ap (of_crate node_in) child.at ∙ n.1 in
+    let has = subst (λ (i : Id). HasPackage r i (package_view parent.here.pkg.now)) parent.krate parent.pkg in
+    record {
+      parent = parent.here;
+      at_parent = parent.at;
+      dependency = w.dependency;
+      declared = at_place r s kids e w (package_view parent.here.pkg.now) none has;
+      child = child.here;
+      at_child = child.at;
+      node = child.node;
+    }
+
+link_recorded : (r : Resolved) (s : SettingModel) (kids : List Identity) (records : List CrateRecord) (e : KeptEdge) (l : EdgeRow) → NoneDoubled r.metadata r.graph → AllZip (IsRecordOf r) kids records → HasEnds (length kids) e → IsPlaced r s kids e
+    → IsEdgeWith r records e l → IsEdgeRow r s (edge_row_view kids l)
+unfolding between_of
+link_recorded r s kids records e l none z ends w is =
+    let child = record_at r kids records e.child z ends.child in
     let row : KeptEdge → model.EdgeRow = λ z. record { edge = edge_view kids z; place = z.declared; first = z.place; given = map text_view l.given.items } in
     let here : IsEdgeRow r s (row e) = record {
       placed = w;
-      node = n.0;
-      has_node = n.2;
-      given = is.given ∙ (ap (λ o. listed_of o (node_at records e.child)) declared ∙ ap (listed_of (Some w.dependency)) node);
+      node = node_view child.here.node.now;
+      has_node = subst (λ (i : Id). HasNode r i (node_view child.here.node.now)) child.krate child.node;
+      given = is.given (between_of r s kids records e none z ends w);
     } in
     subst (λ (z : KeptEdge). IsEdgeRow r s (row z)) (sym is.edge) here
 
-named_recorded : (r : Resolved) (all : Bool) (kids : List Identity) (records : List CrateRecord) (f : EnabledFeature) (n : FeatureRow) → AllZip (IsRecordOf r) kids records → HasHome (length kids) f → (NoPackage r (id_at kids f.krate) → ⊥)
+named_recorded : (r : Resolved) (all : Bool) (kids : List Identity) (records : List CrateRecord) (f : EnabledFeature) (n : FeatureRow) → AllZip (IsRecordOf r) kids records → HasHome (length kids) f
     → IsFeatureWith r all records f n → IsFeatureRow r all (feature_row_view kids n)
-named_recorded r all kids records f n z home some h =
+named_recorded r all kids records f n z home h =
     let here = record_at r kids records f.krate z home in
-    let i = id_at kids f.krate in
-    let p = some_package r i (package_in here.here) here.pkg some in
-    let name = text_view f.name in
+    let p = package_view here.here.pkg.now in
     let told = map meaning_view n.meanings.items in
-    let meant : AreMeant r all (Some here.here) name told = subst (λ o. AreMeant r all o name told) here.at h.meanings in
-    let of_it : AllZip (IsMeaning r all i) (values_in (package_in here.here) name) told = subst (λ j. AllZip (IsMeaning r all j) (values_in (package_in here.here) name) told) here.krate meant in
     let row : EnabledFeature → model.FeatureRow = λ z. record { krate = id_at kids z.krate; name = text_view z.name; meanings = told } in
-    let row_here : IsFeatureRow r all (row f) = record { pkg = p.0; has_package = p.2; meanings = subst (λ o. AllZip (IsMeaning r all i) (values_in o name) told) p.1 of_it } in
+    let row_here : IsFeatureRow r all (row f) = record {
+      pkg = p;
+      has_package = subst (λ (i : Id). HasPackage r i p) here.krate here.pkg;
+      meanings = subst (λ i. AllZip (IsMeaning r all i) (values_of p.features (text_view f.name)) told) here.krate (h.meanings here.here here.at);
+    } in
     subst (λ (z : EnabledFeature). IsFeatureRow r all (row z)) (sym h.feature) row_here
 
 -- ---- whole lists
 
 -- what is seen of the rows of a list
-seen_rows : {A B D : Type 0} (R : A → B → Type 0) (Q : D → Type 0) (view : B → D) (xs : List A) (ys : List B) → ((x : A) (y : B) → Member xs x → Member (map view ys) (view y) → R x y → Q (view y)) → AllZip R xs ys → AllByRecursion Q (map view ys)
+seen_rows : {A B D : Type 0} (R : A → B → Type 0) (Q : D → Type 0) (view : B → D) (xs : List A) (ys : List B) → ((x : A) (y : B) → Member xs x → R x y → Q (view y)) → AllZip R xs ys → AllByRecursion Q (map view ys)
 seen_rows R Q view [] [] h z = tt
 seen_rows R Q view [] (y ∷ ys) h z = absurd z
 seen_rows R Q view (x ∷ xs) [] h z = absurd z
-seen_rows R Q view (x ∷ xs) (y ∷ ys) h z = (h x y (inl refl) (inl refl) z.0, seen_rows R Q view xs ys (λ a b m n. h a b (inr m) (inr n)) z.1)
+seen_rows R Q view (x ∷ xs) (y ∷ ys) h z = (h x y (inl refl) z.0, seen_rows R Q view xs ys (λ a b m. h a b (inr m)) z.1)
 
 -- rows of these items are rows of the list
 rows_of : {A B : Type 0} (R : A → B → Type 0) (back : B → A) (xs : List A) (ys : List B) → ((x : A) (y : B) → R x y → back y ≡ x) → AllZip R xs ys → map back ys ≡ xs
@@ -154,13 +180,15 @@ rows_of R back (x ∷ xs) (y ∷ ys) h z = ap (λ a. a ∷ map back ys) (h x y z
 
 -- ---- what a kept crate has
 
-has_package : (r : Resolved) (s : SettingModel) (i : Id) → Derivable (questions r s) (Crate i) → NoPackage r i → ⊥
+stands : (r : Resolved) (s : SettingModel) (i : Identity) → Derivable (questions r s) (Crate (id_of i)) → Stands r i
 unfolding questions
-has_package r s i d none = let w = kept_stands (questions r s) i d in none w.included.pkg w.included.has_package
+stands r s i d = let w = kept_stands (questions r s) (id_of i) d in (λ none. none w.included.pkg w.included.has_package, λ none. none w.node w.has_node)
 
-has_node : (r : Resolved) (s : SettingModel) (i : Id) → Derivable (questions r s) (Crate i) → NoNode r i → ⊥
-unfolding questions
-has_node r s i d none = let w = kept_stands (questions r s) i d in none w.node w.has_node
+-- each crate of a selection
+pub each_stands : (r : Resolved) (s : SettingModel) (x : Selection) → IsSelection r s x → All (Stands r) x.krates.items
+each_stands r s x h = All-weaker (Contains x.krates.items) (Stands r) (λ i among.
+    let told = member_map crate_fact x.krates.items i (member_of x.krates.items i among) in
+    stands r s i ((h.facts (crate_fact i)).1 (Contains-append_left (map crate_fact x.krates.items) _ (crate_fact i) (contains_of (map crate_fact x.krates.items) (crate_fact i) told)))) x.krates.items (All-contains_itself x.krates.items)
 
 -- ---- the outline
 
@@ -171,12 +199,19 @@ all_under f P xs h k d lt = subst P (get_or-map f xs k d (f d) lt) (h k (f d) (r
 four : (a b c d e f g h : List Fact) → a ≡ e → b ≡ f → c ≡ g → d ≡ h → a ++ (b ++ (c ++ d)) ≡ e ++ (f ++ (g ++ h))
 four a b c d e f g h p q u v = rw (p, q, u, v) refl
 
+-- each edge of a selection is between its recorded crates, and each feature is one of them
+pub edges_between : (r : Resolved) (s : SettingModel) (x : Selection) (records : List CrateRecord) → NoneDoubled r.metadata r.graph → IsSelection r s x → AllZip (IsRecordOf r) x.krates.items records → All (IsBetween r records) x.edges.items
+edges_between r s x records none h z = λ k d lt. between_of r s x.krates.items records _ none z (h.ends k d lt) (h.placed k d lt)
+
+pub features_home : (r : Resolved) (s : SettingModel) (x : Selection) (records : List CrateRecord) → IsSelection r s x → AllZip (IsRecordOf r) x.krates.items records → All (HasHome (length records)) x.features.items
+features_home r s x records h z = subst (λ n. All (HasHome n) x.features.items) (sym (ap length (rows_of (IsRecordOf r) (λ (t : CrateRecord). t.krate) x.krates.items records (λ i t is. is.krate) z)) ∙ length-map records (λ (t : CrateRecord). t.krate)) h.homes
+
 module _ (r : Resolved) (s : SettingModel) (x : Selection) (records : List CrateRecord) (ks : Vec CrateRow) (ls : Vec EdgeRow) (fs : Vec FeatureRow) (h : IsSelection r s x) (w : AreGathered r s x records ks.items ls.items fs.items) where
   pub same_kids : kids_of ks.items ≡ x.krates.items
   same_kids = ap kids_of w.krates ∙ map-map (λ (k : CrateRow). k.id) row_in records ∙ rows_of (IsRecordOf r) (λ (t : CrateRecord). t.krate) x.krates.items records (λ i t is. is.krate) w.each
 
   same_edges : map (λ (l : EdgeRow). l.edge) ls.items ≡ x.edges.items
-  same_edges = rows_of (IsEdgeWith records) (λ (l : EdgeRow). l.edge) x.edges.items ls.items (λ e l is. is.edge) w.links
+  same_edges = rows_of (IsEdgeWith r records) (λ (l : EdgeRow). l.edge) x.edges.items ls.items (λ e l is. is.edge) w.links
 
   same_features : map (λ (n : FeatureRow). n.feature) fs.items ≡ x.features.items
   same_features = rows_of (IsFeatureWith r s.all_named records) (λ (n : FeatureRow). n.feature) x.features.items fs.items (λ f n is. is.feature) w.features
@@ -227,25 +262,17 @@ module _ (r : Resolved) (s : SettingModel) (x : Selection) (records : List Crate
   krates_made =
       let rows : map crate_row_view ks.items ≡ map (λ (t : CrateRecord). crate_row_view (row_in t)) records = ap (map crate_row_view) w.krates ∙ map-map crate_row_view row_in records in
       subst (AllByRecursion (IsCrateRow r)) (sym rows) (seen_rows (IsRecordOf r) (IsCrateRow r) (λ (t : CrateRecord). crate_row_view (row_in t)) x.krates.items records
-      (λ i t at there is. (
-      let kept = crate_kept r s (view x.krates.items) told (crate_row_view (row_in t)) (subst (λ ks. Member ks (crate_row_view (row_in t))) (sym rows) there) in
-      krate_recorded r i t (has_package r s (id_of i) (subst (λ (k : Identity). Derivable (questions r s) (Crate (id_of k))) is.krate kept)) is)) w.each)
+      (λ i t at is. record { pkg = package_view t.pkg.now; has_package = is.pkg; declared = refl }) w.each)
 
   links_made : NoneDoubled r.metadata r.graph → AllByRecursion (IsEdgeRow r s) (map (edge_row_view x.krates.items) ls.items)
-  links_made none = seen_rows (IsEdgeWith records) (IsEdgeRow r s) (edge_row_view x.krates.items) x.edges.items ls.items
-      (λ e l at there is. (
+  links_made none = seen_rows (IsEdgeWith r records) (IsEdgeRow r s) (edge_row_view x.krates.items) x.edges.items ls.items
+      (λ e l at is. (
       let among = contains_of x.edges.items e at in
-      let kept = child_kept (questions r s) (edge_view x.krates.items l.edge) (link_kept r s (view x.krates.items) told (edge_row_view x.krates.items l) there) in
-      link_recorded r s x.krates.items records e l none w.each (All-contains (HasEnds (length x.krates.items)) x.edges.items e h.ends among) (All-contains (IsPlaced r s x.krates.items) x.edges.items e h.placed among)
-      (has_node r s (id_at x.krates.items e.child) (subst (λ (z : KeptEdge). Derivable (questions r s) (Crate (id_at x.krates.items z.child))) is.edge kept)) is)) w.links
+      link_recorded r s x.krates.items records e l none w.each (All-contains (HasEnds (length x.krates.items)) x.edges.items e h.ends among) (All-contains (IsPlaced r s x.krates.items) x.edges.items e h.placed among) is)) w.links
 
   features_made : AllByRecursion (IsFeatureRow r s.all_named) (map (feature_row_view x.krates.items) fs.items)
   features_made = seen_rows (IsFeatureWith r s.all_named records) (IsFeatureRow r s.all_named) (feature_row_view x.krates.items) x.features.items fs.items
-      (λ f n at there is. (
-      let home = All-contains (HasHome (length x.krates.items)) x.features.items f h.homes (contains_of x.features.items f at) in
-      let enabled = feature_enabled r s (view x.krates.items) told (feature_row_view x.krates.items n) there in
-      let kept = crate_of_feature (questions r s) (id_at x.krates.items n.feature.krate) (text_view n.feature.name) enabled in
-      named_recorded r s.all_named x.krates.items records f n w.each home (has_package r s (id_at x.krates.items f.krate) (subst (λ (z : EnabledFeature). Derivable (questions r s) (Crate (id_at x.krates.items z.krate))) is.feature kept)) is)) w.features
+      (λ f n at is. named_recorded r s.all_named x.krates.items records f n w.each (All-contains (HasHome (length x.krates.items)) x.features.items f h.homes (contains_of x.features.items f at)) is) w.features
 
   -- ---- the outline
 

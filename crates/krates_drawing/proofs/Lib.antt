@@ -13,7 +13,6 @@ pub mod FeatureLines
 pub mod FeaturePlaces
 pub mod FewerLines
 pub mod Gathering
-pub mod HeldTexts
 pub mod Holding
 pub mod Ignoring
 pub mod Mapped

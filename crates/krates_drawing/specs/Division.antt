@@ -1,17 +1,31 @@
--- How packages are divided into the selected ones and the others.
+-- Packages with their ids, and how they are divided into the selected ones and the others.
 use Rattle.std.specs.Prelude.{Bool, List, Contains, map}
-use Rattle.std.specs.List.{list_any}
-use Rattle.std.specs.Ordering.{is_eq}
+use Rattle.std.specs.List.{list_any, zip}
+use Rattle.std.specs.Ordering.{is_eq, on}
+use Rattle.std.specs.declared.cmp.Ordering.{Ordering}
 use Rattle.krates_cm.specs.declared.package.Package.{Package}
 use Rattle.krates_drawing.specs.declared.outline.CrateRow.{CrateRow}
 use Rattle.krates_ids.specs.Identity.{Identity, id_cmp}
 use Rattle.krates_rules.specs.Facts.{Id}
 use Rattle.krates_rules.specs.Resolved.{id_of}
 use Rattle.krates_drawing.specs.Listed.{AreThosePackages}
-use Rattle.krates_drawing.specs.Krate.{krate_ids}
-use Rattle.krates_drawing.specs.Krate.{krate_packages}
 use Rattle.krates_drawing.specs.declared.division.Division.{Division}
-use Rattle.krates_drawing.specs.declared.krate.Krate.{Krate}
+use Rattle.krates_drawing.specs.declared.division.Krate.{Krate}
+
+-- the order of crates, by id
+abbrev pub krate_cmp : Krate → Krate → Ordering
+krate_cmp = on (λ k. k.id) id_cmp
+
+abbrev pub krate_ids : List Krate → List Identity
+krate_ids krates = map (λ k. k.id) krates
+
+-- the packages of these crates
+abbrev pub krate_packages : List Krate → List Package
+krate_packages krates = map (λ k. k.pkg) krates
+
+-- each package with the id at its place
+abbrev pub paired : List Package → List Identity → List Krate
+paired packages ids = map (λ pair. record { id = pair.1; pkg = pair.0 }) (zip packages ids)
 
 -- the ids of the crates of an outline
 abbrev pub outline_ids : List CrateRow → List Identity

@@ -1,7 +1,6 @@
 pub mod Agreement
 pub mod Alike
 pub mod Connected
-pub mod CrateRecord
 pub mod Division
 pub mod Drawing
 pub mod EdgeSource
@@ -9,7 +8,6 @@ pub mod EdgeText
 pub mod Ends
 pub mod Gathered
 pub mod InOrder
-pub mod Krate
 pub mod Limits
 pub mod LinesFrom
 pub mod Listed
@@ -20,6 +18,5 @@ pub mod OutlineOrder
 pub mod Paths
 pub mod Rebuilding
 pub mod Stored
-pub mod TextSet
 pub mod Views
 pub mod WorkOfOutline

@@ -1,19 +1,29 @@
-//! The packages of a document, divided into the selected ones and the others.
+//! The packages of a document with their ids, divided into the selected ones and the others, which are handed to a filter.
 
-ghost use Rattle.std.specs.Prelude.{◌≡◌, IfOk, map, filter, not};
-ghost use Rattle.std.specs.List.{AllZip};
+ghost use Rattle.std.specs.Prelude.{◌≡◌, IfOk, OnErr, map, filter, not};
+ghost use Rattle.std.specs.List.{AllZip, FoldsTo};
 ghost use Rattle.std.specs.List.Sorted.{IsStrictlySortedBy};
 ghost use Rattle.krates_cm.specs.Document.{id_view};
+ghost use Rattle.krates_cm.specs.declared.package.Package.{Package};
 ghost use Rattle.krates_ids.specs.Identity.{Reads, id_cmp};
 ghost use Rattle.krates_rules.specs.DistinctIds.{AreDistinct};
-ghost use Rattle.krates_drawing.specs.Division.{IsDivision, has_same, is_selected, outline_ids};
-ghost use Rattle.krates_drawing.specs.Krate.{paired};
+ghost use Rattle.krates_drawing.specs.Division.{IsDivision, has_same, is_selected, krate_packages, outline_ids, paired};
 
-use crate::krate::Krate;
 use crate::outline;
 use krates_cm::Package;
 use krates_ids::{Kid, laws};
 use std::alloc::{AllocError, Global};
+
+/// A package with its id, as which the text of its id is read.
+///
+/// Crates are compared by their ids alone.
+#[derive(Debug, Drop)]
+#[derive_where(PartialEq, Eq, PartialOrd, Ord)]
+pub struct Krate {
+    pub id: Kid,
+    #[derive_where(skip(EqHashOrd))]
+    pub pkg: Package,
+}
 
 /// The packages of a document with their ids, each list in the order of the ids.
 #[derive(Debug, Drop)]
@@ -89,4 +99,79 @@ fn has(krates: &[outline::CrateRow], id: &Kid) -> bool
         Ok(_) => true,
         Err(_) => false,
     }
+}
+
+/// What is called with each package that isn't kept, in the order of the ids.
+///
+/// `NoneFilter` lets them go, `FilterFn` hands each to a closure, and a type of a caller's own may count or keep them.
+pub trait OnFilter {
+    /// Whether the filter may be called in this state.
+    ghost can_filter: { Self → Type 0 } = { λ _. Unit {0} };
+
+    /// How the state before and the package relate to the state after.
+    ghost filters: { Self → Package → Self → Type 0 };
+
+    /// Takes a package that isn't kept, and may be called again.
+    fn filtered(&mut self, pkg: Package)
+        requires { can_filter self.old }
+        ensures step { filters self.old pkg self.new }
+        ensures again { can_filter self.new };
+}
+
+/// Lets each package go.
+#[derive(Clone, Copy, Debug, PartialEq, Eq)]
+pub struct NoneFilter;
+
+impl OnFilter for NoneFilter {
+    ghost filters = { λ old _ new. new ≡ old };
+
+    fn filtered(&mut self, pkg: Package) {
+        drop(pkg);
+    }
+}
+
+/// A filter that calls this closure with each package.
+///
+/// The closure has to be callable again and again, which a build asks for.
+#[derive(Drop)]
+pub struct FilterFn<F>(pub F);
+
+impl<F: FnMut(Package)> OnFilter for FilterFn<F> {
+    ghost can_filter = { λ filter. F.IsAlwaysCallable filter.0 };
+
+    ghost filters = { λ old pkg new. F.step old.0 pkg tt new.0 };
+
+    fn filtered(&mut self, pkg: Package) {
+        (self.0)(pkg)
+    }
+}
+
+/// Hands each package to the filter, in their order. Time: a call of the filter for each.
+fn report<F: OnFilter>(others: Vec<Krate>, filter: &mut F)
+    requires { F.can_filter filter.old }
+    ensures run { FoldsTo F.filters filter.old (krate_packages others.items) filter.new }
+    ensures again { F.can_filter filter.new }
+{
+    for other in others {
+        filter.filtered(other.pkg);
+    }
+}
+
+/// Hands over what was made, and where it was, each of these packages to the filter, in their order. Where it wasn't, the filter is as it
+/// was. Time: a call of the filter for each.
+pub fn handed_over<T: Drop, E: Drop, F: OnFilter>(
+    made: Result<T, E>,
+    others: Vec<Krate>,
+    filter: &mut F,
+) -> Result<T, E>
+    requires { F.can_filter filter.old }
+    ensures same { result ≡ made }
+    ensures run { IfOk made
+        (λ _. FoldsTo F.filters filter.old (krate_packages others.items) filter.new) }
+    ensures again { F.can_filter filter.new }
+    ensures unchanged { OnErr made (filter.new ≡ filter.old) }
+{
+    let made = made?;
+    report(others, filter);
+    Ok(made)
 }

@@ -4,22 +4,17 @@
 #![tactic(auto)]
 
 mod crate_edges;
-pub mod crate_record;
 pub mod division;
 pub mod edge;
 mod equal_ranges;
 mod feature_edges;
-pub mod filter;
 pub mod gather;
-pub mod krate;
 pub mod laws;
 pub mod limits;
-mod meanings;
 pub mod node;
 pub mod nodes;
 pub mod numbers;
 pub mod outline;
 pub mod store;
-mod text_set;
 
-pub use filter::{FilterFn, NoneFilter, OnFilter};
+pub use division::{FilterFn, NoneFilter, OnFilter};

@@ -10,9 +10,8 @@ use Rattle.krates_document.specs.declared.ids.Ids.{Ids}
 use Rattle.krates_drawing.specs.Views.{outline_view}
 use Rattle.krates_drawing.specs.declared.outline.CrateRow.{CrateRow}
 use Rattle.krates_ids.specs.Identity.{Identity, id_cmp}
-use Rattle.krates_drawing.specs.Division.{IsDivision, outline_ids}
+use Rattle.krates_drawing.specs.Division.{IsDivision, outline_ids, krate_packages}
 use Rattle.krates_queries.specs.Kept.{AreNodes}
-use Rattle.krates_drawing.specs.Krate.{krate_packages}
 use Rattle.krates.specs.declared.builder.Rest.{Rest}
 use Rattle.krates_drawing.specs.declared.division.Division.{Division}
 use Rattle.krates.specs.Members.{AreNumbersOf}

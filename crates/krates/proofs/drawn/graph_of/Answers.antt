@@ -7,7 +7,7 @@ use Rattle.krates_drawing.specs.declared.outline.FeatureRow.{FeatureRow}
 use Rattle.krates_selection.specs.Selection.{HasHome, feature_fact}
 use Rattle.krates_selection.specs.declared.selection.EnabledFeature.{EnabledFeature}
 use Rattle.krates_queries.specs.Drawn.{planned_node}
-use Rattle.krates_drawing.specs.Krate.{krate_ids}
+use Rattle.krates_drawing.specs.Division.{krate_ids}
 use Rattle.krates.specs.MadeNodes.{nodes_in}
 use Rattle.krates.proofs.DrawnLemmas.{as_many_crates, facts_in, if_graph, stand_there}
 use Rattle.krates.proofs.FeaturesDrawn.{viewed_ids}

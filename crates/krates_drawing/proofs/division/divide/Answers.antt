@@ -1,7 +1,6 @@
 use Rattle.std.proofs.Common.{subst, List, IsPermutation}
-use Rattle.krates_drawing.specs.Division.{outline_ids}
-use Rattle.krates_drawing.specs.Krate.{paired}
-use Rattle.krates_drawing.specs.declared.krate.Krate.{Krate}
+use Rattle.krates_drawing.specs.Division.{outline_ids, paired}
+use Rattle.krates_drawing.specs.declared.division.Krate.{Krate}
 use Rattle.krates_drawing.proofs.DivisionLemmas.{if_divides}
 use Rattle.krates_drawing.proofs.division.divide.Goals as goal
 

@@ -3,7 +3,7 @@ use Rattle.std.proofs.IntoIterSteps.{takes, taken}
 use Rattle.std.proofs.lemmas.Iterator.{YieldsList, YieldsList-from_map, items_from_collect}
 use Rattle.std.proofs.lemmas.Iterator.Consumers.{YieldsList-at}
 use Rattle.krates_drawing.specs.Gathered.{row_in}
-use Rattle.krates_drawing.specs.declared.crate_record.CrateRecord.{CrateRecord}
+use Rattle.krates_drawing.specs.declared.gather.CrateRecord.{CrateRecord}
 use Rattle.krates_drawing.proofs.gather.crate_rows.Goals as goal
 
 pub returns : goal.returns

@@ -1,5 +1,5 @@
 use Rattle.std.specs.List.{AllZip}
-use Rattle.krates_questions.specs.Lookup.{resolved_view}
+use Rattle.krates_questions.specs.Context.{document_of}
 use Rattle.krates_drawing.specs.Gathered.{IsFeatureWith}
 use Rattle.krates_drawing.proofs.gather.feature_rows.Given as goal
 
@@ -7,4 +7,4 @@ abbrev pub invariant-loop-feature : goal.invariant-loop-feature
 invariant-loop-feature l =
     goal.iterator-loop-feature.can_next l.feature-iterator
     × goal.iterator-loop-feature.is_finite l.feature-iterator
-    × AllZip (IsFeatureWith (resolved_view l.document) l.setting.all_named l.records) l.yielded l.rows.items
+    × AllZip (IsFeatureWith (document_of l.context) l.context.setting.now.all_named l.records) l.yielded l.rows.items
