@@ -23,7 +23,7 @@ use Rattle.krates_queries.specs.Drawn.{IsDrawing, IsOutlineFor, planned_node}
 use Rattle.krates_drawing.specs.Node.{crate_ids, CratesFirst}
 use Rattle.krates_drawing.specs.declared.node.Node.{Node}
 use Rattle.krates_drawing.specs.declared.node.Node.TheVariants.{Krate, Feature}
-use Rattle.krates_queries.proofs.EdgeNumbers.{got}
+use Rattle.krates_queries.proofs.DirectLemmas.{got}
 
 -- matching lists have the same length
 pub zip_length : {A B : Type 0} (R : A → B → Type 0) (xs : List A) (ys : List B) → AllZip R xs ys → length xs ≡ length ys

@@ -34,10 +34,10 @@ use Rattle.krates_drawing.specs.Listed.{AreThosePackages}
 use Rattle.krates_drawing.specs.Division.{IsAmong, IsDivision, outline_ids, krate_ids, krate_packages}
 use Rattle.krates_selection.specs.KeptFacts.{steps_in}
 use Rattle.krates_selection.specs.declared.kept.KeptStep.{KeptStep}
-use Rattle.krates_queries.specs.KeptSteps.{IsExplainedBy}
+use Rattle.krates_queries.specs.Why.{IsExplainedBy}
 use Rattle.krates_queries.specs.Drawn.{IsNumbered, IsOutlineFor}
 use Rattle.krates.specs.Enabled.{AreEnabledSets, numbered}
-use Rattle.krates_queries.proofs.EnabledFacts.{enabled_listed}
+use Rattle.krates_queries.proofs.NodeLemmas.{enabled_listed}
 use Rattle.krates_queries.specs.Kept.{AreFeatures, AreNodes, IsEnabledIn, IsNameAt, names_in_each}
 use Rattle.krates.specs.KeptGraph.{IsGraphOf, named_fact}
 use Rattle.krates.specs.MadeNodes.{IsMade}

@@ -30,16 +30,14 @@ use Rattle.krates_rules.specs.Resolved.{HasGraphWith, Resolved, StandsAt, id_of,
 use Rattle.krates_rules.specs.Setting.{SettingModel}
 use Rattle.krates_rules.specs.StepParts.{HaveOwnFacts}
 use Rattle.krates_rules.specs.Steps.{EachFollows, StepModel}
-use Rattle.krates_queries.proofs.CrateIds.{crate_id}
+use Rattle.krates_queries.proofs.NodeLemmas.{crate_id, feature_member, as_many_features, place_at}
 use Rattle.krates.proofs.BuildLemmas.{Builds, enabled}
 use Rattle.krates.proofs.DrawnLemmas.{kept_ids}
 use Rattle.krates.proofs.EnabledLemmas.{stands_at_some}
-use Rattle.krates_queries.proofs.FeatureNodes.{feature_member}
-use Rattle.krates_queries.proofs.NodeLemmas.{as_many_features, place_at}
 use Rattle.krates_rules.proofs.OrderedIds.{Compares}
 use Rattle.krates.proofs.FeaturesDrawn.{viewed_ids}
 use Rattle.krates_queries.specs.Drawn.{IsOutlineFor}
-use Rattle.krates_queries.specs.KeptSteps.{AreExplained, AreStepsFor, HasStepOf, IsExplainedBy, node_says}
+use Rattle.krates_queries.specs.Why.{AreExplained, AreStepsFor, HasStepOf, IsExplainedBy, node_says}
 use Rattle.krates_queries.specs.Kept.{AreNodes, IsEnabledIn}
 use Rattle.krates.specs.KeptGraph.{IsGraphOf}
 use Rattle.krates_drawing.specs.Node.{crate_features, crate_ids}

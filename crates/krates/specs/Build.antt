@@ -23,7 +23,7 @@ use Rattle.krates_rules.specs.Resolved.{HasGraphWith, IsMember, StandsAt, id_of,
 use Rattle.krates_rules.specs.Setting.{SettingModel}
 use Rattle.krates.specs.Indexed.{Answering, Sees}
 use Rattle.krates_drawing.specs.Listed.{AreThosePackages}
-use Rattle.krates_queries.specs.KeptSteps.{IsExplainedBy, steps_of}
+use Rattle.krates_queries.specs.Why.{IsExplainedBy, steps_of}
 use Rattle.krates_queries.specs.Drawn.{IsDrawn, IsNumbered, IsOutlineFor}
 use Rattle.krates_queries.specs.Kept.{KeptCrates, HasEnabled, ids_of, values_of}
 

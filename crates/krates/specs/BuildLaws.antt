@@ -27,7 +27,7 @@ use Rattle.krates_rules.specs.Setting.{SettingModel}
 use Rattle.krates_rules.specs.Resolution.{IsDerived}
 use Rattle.krates.specs.Build.{IsResolvable, KeepsCrate, DropsCrate, IsRefusedSeeing}
 use Rattle.krates_drawing.specs.Listed.{AreThosePackages}
-use Rattle.krates_queries.specs.DirectDependents.{IsDependent}
+use Rattle.krates_queries.specs.Direct.{IsDependent}
 use Rattle.krates_queries.specs.Drawn.{CanBeNumbered, IsDrawn, IsOutlineFor, planned_node}
 use Rattle.krates.specs.Indexed.{HasNames, IsSeenBy}
 use Rattle.krates_queries.specs.Kept.{AreOrdered}

@@ -4,7 +4,7 @@ use Rattle.krates_cm.specs.Document.{MetadataModel}
 use Rattle.krates_drawing.specs.Views.{kids_in, outline_view}
 use Rattle.krates_drawing.specs.WorkOfOutline.{work_of}
 use Rattle.krates_queries.specs.Drawn.{IsOutlineFor}
-use Rattle.krates_queries.specs.KeptSteps.{AreStepsFor}
+use Rattle.krates_queries.specs.Why.{AreStepsFor}
 use Rattle.krates_rules.specs.Setting.{SettingModel}
 use Rattle.krates.specs.declared.drawn.Sketch.{Sketch}
 

@@ -7,15 +7,13 @@ use Rattle.std.proofs.lemmas.Option.{none-some}
 use Rattle.std.specs.List.{range_with_len}
 use Rattle.krates_rules.proofs.Members.{contains_of}
 use Rattle.krates_graph.specs.declared.graph.edge.GraphEdge.{GraphEdge}
-use Rattle.krates_queries.specs.AllDependents.{match_in}
-use Rattle.krates_queries.specs.Direct.{Joined, value_at, value_in}
-use Rattle.krates_queries.specs.DirectDependents.{AreDependents, IsDependent}
+use Rattle.krates_queries.specs.KrateNodes.{Match, crates_of, match_in, numbered_crates}
+use Rattle.krates_queries.specs.Direct.{Joined, value_at, value_in, AreDependents, IsDependent}
 use Rattle.krates_queries.specs.Kept.{KeptCrates, ids_of}
-use Rattle.krates_queries.specs.KrateNodes.{Match, crates_of, numbered_crates}
 use Rattle.krates_drawing.specs.Node.{crate_ids}
 use Rattle.krates_drawing.specs.declared.node.Node.{Node}
 use Rattle.krates_drawing.specs.declared.node.Node.TheVariants.{Krate, Feature}
-use Rattle.krates_queries.proofs.AllDependentsLemmas.{there_crate}
+use Rattle.krates_queries.proofs.ReachedLemmas.{there_crate}
 use Rattle.krates_answers.specs.DirectLinks.{AreExactly, AreLinks, AreStored, IsListed, IsNeededBy, Needs}
 use Rattle.krates_answers.proofs.ListedNumbers.{AreEach, each_push, each_same, links_of, stored_of}
 

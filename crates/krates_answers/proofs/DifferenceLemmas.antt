@@ -9,13 +9,10 @@ use Rattle.std.specs.List.Sorted.{IsStrictlySortedBy}
 use Rattle.std.specs.Ordering.{nat_cmp}
 use Rattle.krates_rules.proofs.Members.{Member, contains_of, mapped_of, member_map, member_of}
 use Rattle.krates_ids.specs.Identity.{Identity}
-use Rattle.krates_queries.proofs.AllDependentsLemmas.{there_crate}
-use Rattle.krates_queries.specs.AllDependents.{match_in}
-use Rattle.krates_queries.specs.Direct.{Joined, id_and_value_at, id_and_value_in}
-use Rattle.krates_queries.specs.Direct.{joined_view}
-use Rattle.krates_queries.specs.DirectDependents.{AreDependents}
+use Rattle.krates_queries.proofs.ReachedLemmas.{there_crate}
+use Rattle.krates_queries.specs.KrateNodes.{Match, crates_of, match_in, numbered_crates}
+use Rattle.krates_queries.specs.Direct.{Joined, id_and_value_at, id_and_value_in, joined_view, AreDependents}
 use Rattle.krates_queries.specs.Kept.{KeptCrates, ids_of}
-use Rattle.krates_queries.specs.KrateNodes.{Match, crates_of, numbered_crates}
 use Rattle.krates_drawing.specs.declared.node.Node.{Node}
 use Rattle.krates_drawing.specs.declared.node.Node.TheVariants.{Krate, Feature}
 use Rattle.krates_queries.specs.declared.queries.direct.JoinedKrate.{JoinedKrate}

@@ -7,8 +7,7 @@ use Rattle.std.specs.Cmp.Lexicographic.{slice_cmp}
 use Rattle.krates_cm.specs.Document.{Text, text_view}
 use Rattle.krates_cm.specs.declared.package.Package.{Package}
 use Rattle.krates_rules.proofs.Members.{Member, member_of, contains_of, member_map, mapped_of, kept_of, member_filter}
-use Rattle.krates_queries.specs.KrateNodes.{Match}
-use Rattle.krates_queries.specs.Matches.{is_named}
+use Rattle.krates_queries.specs.KrateNodes.{Match, is_named}
 use Rattle.krates_answers.specs.Duplicates.{AreDuplicates, crates_named}
 use Rattle.krates_answers.specs.Grouped.{AreGroups, Group, items_under}
 use Rattle.krates_answers.proofs.ItemsUnder.{key_of_item}

@@ -2,7 +2,7 @@
 use Rattle.std.specs.Prelude.{◌≡◌, ◌↔◌, ◌<◌, ◌^◌, ◌==◌, ◌++◌, ℕ, List, [], All, Contains, Some, count_by, length, map, replicate, slice_get, slice_index_or}
 use Rattle.std.specs.Global.{Vec}
 use Rattle.std.specs.List.Sorted.{IsStrictlyIncreasing}
-use Rattle.krates_queries.specs.DirectDependents.{IsDependent}
+use Rattle.krates_queries.specs.Direct.{IsDependent}
 use Rattle.krates_queries.specs.Kept.{KeptCrates, ids_of}
 
 -- the kept crate of number p depends directly on that of number d

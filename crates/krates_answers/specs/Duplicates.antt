@@ -5,8 +5,7 @@ use Rattle.std.specs.Ordering.{nat_cmp}
 use Rattle.std.specs.Prelude.{◌≡◌, ◌↔◌, ◌≤◌, List, All, Contains, filter, length, map}
 use Rattle.krates_cm.specs.Document.{Text, text_view}
 use Rattle.krates_cm.specs.declared.package.Package.{Package}
-use Rattle.krates_queries.specs.KrateNodes.{Match, match_view}
-use Rattle.krates_queries.specs.Matches.{is_named}
+use Rattle.krates_queries.specs.KrateNodes.{Match, match_view, is_named}
 use Rattle.krates_answers.specs.Grouped.{Group}
 use Rattle.krates_answers.specs.declared.duplicates.Duplicate.{Duplicate}
 

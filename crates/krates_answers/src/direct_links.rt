@@ -2,7 +2,7 @@
 
 ghost use Rattle.std.specs.Prelude.{◌≡◌, ◌↔◌, ◌<◌, ◌^◌, [], All, IfOk, IfSome, IsTrue, OnOk, length, option_map, replicate, slice_get};
 ghost use Rattle.std.specs.List.Sorted.{IsStrictlyIncreasing};
-ghost use Rattle.krates_queries.specs.DirectDependents.{IsDependent};
+ghost use Rattle.krates_queries.specs.Direct.{IsDependent};
 ghost use Rattle.krates_queries.specs.Kept.{ids_of};
 ghost use Rattle.krates_answers.specs.DirectLinks.{AreExactly, AreInside, AreLinks, ArePushed, IsListed, IsNeededBy, Needs, items_of};
 

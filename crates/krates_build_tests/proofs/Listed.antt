@@ -30,11 +30,11 @@ use Rattle.krates.specs.Build.{AreKeptMembers, IsMemberAt, KeepsCrate}
 use Rattle.krates.specs.BuildLaws.{IsBuildNarrowing}
 use Rattle.krates_queries.specs.Drawn.{IsDrawing, IsOutlineFor, planned_node}
 use Rattle.krates_queries.specs.Kept.{KeptCrates, ids_of}
-use Rattle.krates_queries.specs.KratesFiltered.{AreReached, IsReached, line_view}
+use Rattle.krates_queries.specs.Reached.{AreReached, IsReached, line_view}
 use Rattle.krates_drawing.specs.Node.{CratesFirst, crate_ids}
 use Rattle.krates_drawing.specs.declared.node.Node.{Node}
 use Rattle.krates_drawing.specs.declared.node.Node.TheVariants.{Krate, Feature}
-use Rattle.krates_queries.proofs.EdgePaths.{reaches_more}
+use Rattle.krates_queries.proofs.ReachedLemmas.{reaches_more}
 use Rattle.krates_build_tests.specs.Rebuilt.{AreRebuilt, HoldsRebuilt, IgnoresToo, IsListed, Keeps, ListsRebuilt}
 
 -- ---- stored edges are the drawn ones

@@ -1,12 +1,13 @@
 -- The kept crates with their numbers: which numbers these are, and that none is left out.
-use Rattle.std.proofs.Common.{◌≡◌, ℕ, suc, ◌<◌, ◌≤◌, ◌+◌, List, [], ◌∷◌, length, map, All, refl, sym, ap, ◌∙◌, arith}
+use Rattle.std.proofs.Common.{◌≡◌, ℕ, suc, ◌<◌, ◌≤◌, ◌+◌, List, [], ◌∷◌, length, map, All, refl, sym, ap, ◌∙◌, arith, None, filter}
 use Rattle.std.proofs.lemmas.List.Elements.{All-from_recursion}
 use Rattle.std.specs.List.{AllByRecursion, range_with_len}
 use Rattle.krates_ids.specs.Identity.{Identity}
-use Rattle.krates_queries.specs.KrateNodes.{Match, numbered_crates}
+use Rattle.krates_queries.specs.KrateNodes.{Match, numbered_crates, fits}
 use Rattle.krates_drawing.specs.Node.{crate_ids, crate_values, CratesFirst}
 use Rattle.krates_drawing.specs.declared.node.Node.{Node}
 use Rattle.krates_drawing.specs.declared.node.Node.TheVariants.{Krate, Feature}
+use Rattle.semver.specs.declared.Version.{Version}
 
 -- their ids are those of the crates among the nodes
 pub same_ids : {N : Type 0} (n : ℕ) (nodes : List (Node N)) → map (λ m. m.id) (numbered_crates n nodes) ≡ crate_ids nodes
@@ -49,3 +50,10 @@ each_below {N} n k (Feature krate_index name ∷ nodes) first few =
 -- and none is past the last
 pub all_below : {N : Type 0} (nodes : List (Node N)) → CratesFirst nodes → All (λ (m : Match N). m.number < length (crate_ids nodes)) (numbered_crates 0 nodes)
 all_below nodes first = All-from_recursion (λ m. m.number < length (crate_ids nodes)) (numbered_crates 0 nodes) (each_below 0 (length (crate_ids nodes)) nodes first (omega arith))
+
+-- ---- crates that are found by their name alone
+
+-- without a version all of them match
+pub all_fit : {N : Type 0} (version : N → Version) (ms : List (Match N)) → filter (fits version None) ms ≡ ms
+all_fit version [] = refl
+all_fit version (m ∷ ms) = ap (λ xs. m ∷ xs) (all_fit version ms)

@@ -1,14 +1,5 @@
-pub mod AllDependentsLemmas
-pub mod CrateIds
-pub mod DependentLemmas
-pub mod EdgeNumbers
-pub mod EdgePaths
-pub mod EnabledFacts
-pub mod FeatureNodes
-pub mod JoinedLemmas
+pub mod DirectLemmas
 pub mod KrateNodeLemmas
-pub mod MatchLemmas
-pub mod NeighbourLemmas
 pub mod NodeLemmas
 pub mod ReachedLemmas
 pub mod WhyLemmas

@@ -1,19 +1,32 @@
--- A work list of all that is reached: all that was put is reached, and all that was taken was followed.
-use Rattle.std.proofs.Common.{◌≡◌, ◌⊎◌, ◌↔◌, ℕ, zero, suc, ◌+◌, ◌<◌, ◌≤◌, Bool, true, false, List, [], ◌∷◌, ◌++◌, length, take, get_or, Some, None, Contains, slice_get, append_assoc, refl, sym, ap, ◌∙◌, subst, inl, inr, arith}
-use Rattle.std.proofs.lemmas.List.Elements.{Contains-append_left, Contains-append_right, Contains-append_cases, Contains-push_cases}
+-- What is reached along edges: a work list of all that is reached, paths, and the crates among the nodes of some numbers.
+use Rattle.std.proofs.Common.{◌≡◌, ◌⊎◌, ◌↔◌, ℕ, zero, suc, ◌+◌, ◌<◌, ◌≤◌, Bool, true, false, List, [], ◌∷◌, ◌++◌, length, take, get_or, Some, None, Contains, slice_get, append_assoc, refl, sym, ap, ◌∙◌, subst, inl, inr, arith, map, IsTrue, ◌==◌, cond, filter, Option, is_some, All}
+use Rattle.std.proofs.lemmas.List.Elements.{Contains-append_left, Contains-append_right, Contains-append_cases, Contains-push_cases, All-contains}
 use Rattle.std.proofs.lemmas.Bool.{cases_lt}
 use Rattle.std.proofs.lemmas.List.{append-nil, take_more}
 use Rattle.std.proofs.lemmas.Option.{slice_get-get_or, slice_get_within, none-some, same_Some}
-use Rattle.std.specs.Bool.{OnFalse, OnTrue}
-use Rattle.krates_drawing.specs.Paths.{Reaches, begins, goes_on}
+use Rattle.std.specs.Bool.{OnFalse, OnTrue, ⊤}
+use Rattle.krates_drawing.specs.Paths.{Reaches, begins, goes_on, LeadsWithout, Passes}
 use Rattle.krates_graph.specs.Agenda.{PutNumbers}
 use Rattle.krates_graph.specs.Graph.{HasEnds, end_of, numbers_at}
 use Rattle.krates_graph.specs.declared.graph.edge.Direction.{Direction}
 use Rattle.krates_graph.specs.declared.graph.edge.Direction.TheVariants.{Outgoing, Incoming}
 use Rattle.krates_graph.specs.declared.graph.edge.GraphEdge.{GraphEdge}
-use Rattle.krates_queries.specs.Reached.{Grows, IsFarEnd, IsFarEndOf, IsNext, far_end}
-use Rattle.krates_queries.proofs.EdgeNumbers.{edge_at, at_edge, got, contains_got}
-use Rattle.krates_rules.proofs.Members.{member_of, contains_of}
+use Rattle.krates_queries.specs.KrateNodes.{Match, match_at, match_in, numbered_crates}
+use Rattle.krates_queries.specs.Reached.{Grows, IsFarEnd, IsFarEndOf, IsNext, far_end, IsReached, line_view, HasPath, AreAllDependents, DependentsReach, DirectAreAmongAll}
+use Rattle.krates_queries.proofs.DirectLemmas.{edge_at, at_edge, got, contains_got, cons_there}
+use Rattle.krates_rules.proofs.Members.{member_of, contains_of, mapped_of, member_any, member_map, passing_of, Member}
+use Rattle.std.proofs.lemmas.Bool.Decides.{Decides-eqb}
+use Rattle.std.specs.List.{list_any, cons_option, filter_map}
+use Rattle.krates_drawing.specs.Drawing.{PlannedEdge}
+use Rattle.krates_drawing.specs.Views.{tie_view}
+use Rattle.krates_drawing.specs.declared.edge.Edge.{Edge}
+use Rattle.krates_rules.specs.declared.kind.DepKind.{DepKind}
+use Rattle.krates_queries.specs.Direct.{HasEdge, AreConnected, Joined, value_in, IsDependent}
+use Rattle.krates_drawing.specs.declared.node.Node.{Node}
+use Rattle.std.proofs.lemmas.List.Kept.{IsStrictlySortedBy-filter}
+use Rattle.std.specs.List.Sorted.{IsStrictlySortedBy}
+use Rattle.std.specs.Ordering.{nat_cmp}
+use Rattle.krates_drawing.specs.declared.node.Node.TheVariants.{Krate, Feature}
 
 -- ---- putting numbers
 
@@ -191,3 +204,225 @@ all_put P count edges d starts a f done _ (goes_on {n} {m} before next) =
 pub exactly_put : {E : Type 0} (P : E → Type 0) (count : ℕ) (edges : List (GraphEdge E)) (d : Direction) (starts : List ℕ) (a : PutNumbers) → IsFollowed P count edges d starts a → length a.put ≤ a.taken
     → (n : ℕ) → Contains a.put n ↔ IsFound P edges d starts n
 exactly_put P count edges d starts a f done n = (f.sound n, all_put P count edges d starts a f done n)
+
+-- ==== paths: turned round, with an edge more in front, and beside other paths
+
+-- ---- paths beside paths
+
+-- the same steps, and more starts
+pub reaches_more : (Leads Others : ℕ → ℕ → Type 0) (A B : ℕ → Type 0) → ((n m : ℕ) → Leads n m → Others n m) → ((n : ℕ) → A n → B n) → (n : ℕ) → Reaches Leads A n → Reaches Others B n
+reaches_more Leads Others A B step start _ (begins {n} s) = begins {n = n} (start n s)
+reaches_more Leads Others A B step start _ (goes_on {n} {m} before leads) = goes_on {n = n} {m = m} (reaches_more Leads Others A B step start n before) (step n m leads)
+
+-- one step, and then a path
+pub step_before : (Leads : ℕ → ℕ → Type 0) (p q : ℕ) → Leads p q → (n : ℕ) → Reaches Leads (λ k. k ≡ q) n → Reaches Leads (λ k. k ≡ p) n
+step_before Leads p q leads _ (begins {n} s) = goes_on {n = p} {m = n} (begins {n = p} refl) (subst (Leads p) (sym s) leads)
+step_before Leads p q leads _ (goes_on {n} {m} before next) = goes_on {n = n} {m = m} (step_before Leads p q leads n before) next
+
+-- a path turned round
+pub turned : (Leads Back : ℕ → ℕ → Type 0) → ((n m : ℕ) → Leads n m → Back m n) → (p n : ℕ) → Reaches Leads (λ k. k ≡ p) n → Reaches Back (λ k. k ≡ n) p
+turned Leads Back back p _ (begins {n} s) = begins {n = p} (sym s)
+turned Leads Back back p _ (goes_on {n} {m} before leads) = step_before Back m n (back n m leads) p (turned Leads Back back p n before)
+
+-- ---- without a kind
+
+-- a stored edge that passes is a line without the kind
+without : (kind : DepKind) (edges : List (GraphEdge Edge)) (n m : ℕ) → IsNext (λ e. Passes kind (tie_view e)) edges Outgoing n m → LeadsWithout kind (map line_view edges) n m
+without kind edges n m w =
+    record { line = line_view w.edge; among = contains_of (map line_view edges) (line_view w.edge) (member_map line_view edges w.edge (member_of edges w.edge w.among)); passes = w.passes; from = w.near; to = w.far }
+
+stored : (kind : DepKind) (edges : List (GraphEdge Edge)) (n m : ℕ) → LeadsWithout kind (map line_view edges) n m → IsNext (λ e. Passes kind (tie_view e)) edges Outgoing n m
+stored kind edges n m w =
+    let s = mapped_of line_view edges w.line (member_of (map line_view edges) w.line w.among) in
+    record {
+      edge = s.from;
+      among = contains_of edges s.from s.member;
+      passes = subst (λ (l : PlannedEdge). Passes kind l.tie) (sym s.is) w.passes;
+      near = ap (λ (l : PlannedEdge). l.source) s.is ∙ w.from;
+      far = ap (λ (l : PlannedEdge). l.target) s.is ∙ w.to;
+    }
+
+-- from the same starts the same is reached
+pub reached_without : (kind : DepKind) (edges : List (GraphEdge Edge)) (A : ℕ → Type 0) (starts : List ℕ) → ((n : ℕ) → A n ↔ Contains starts n)
+    → (n : ℕ) → Reaches (IsNext (λ e. Passes kind (tie_view e)) edges Outgoing) A n ↔ IsReached kind edges starts n
+reached_without kind edges A starts same n = (
+  reaches_more (IsNext (λ e. Passes kind (tie_view e)) edges Outgoing) (LeadsWithout kind (map line_view edges)) A (Contains starts) (without kind edges) (λ k. (same k).0) n,
+  reaches_more (LeadsWithout kind (map line_view edges)) (IsNext (λ e. Passes kind (tie_view e)) edges Outgoing) (Contains starts) A (stored kind edges) (λ k. (same k).1) n,
+)
+
+-- ---- against all edges
+
+back : {E : Type 0} (edges : List (GraphEdge E)) (n m : ℕ) → IsNext (λ _. ⊤) edges Incoming n m → HasEdge edges m n
+back edges n m w = record { edge = w.edge; among = w.among; from = w.far; to = w.near }
+
+forth : {E : Type 0} (edges : List (GraphEdge E)) (n m : ℕ) → HasEdge edges n m → IsNext (λ _. ⊤) edges Incoming m n
+forth edges n m w = record { edge = w.edge; among = w.among; passes = tt; near = w.to; far = w.from }
+
+-- a path has a start
+started : (Leads : ℕ → ℕ → Type 0) (Start : ℕ → Type 0) (P : Type 0) → ((n : ℕ) → Start n → P) → (n : ℕ) → Reaches Leads Start n → P
+started Leads Start P has _ (begins {n} s) = has n s
+started Leads Start P has _ (goes_on {n} {m} before leads) = started Leads Start P has n before
+
+-- what is reached against the edges from a node, where there is one, has a path to it
+pub paths_back : {N E : Type 0} (nodes : List (Node N)) (edges : List (GraphEdge E)) (A : ℕ → Type 0) (d : ℕ) → ((n : ℕ) → A n ↔ ((n ≡ d) × (d < length nodes))) → (n : ℕ) → (Reaches (IsNext (λ _. ⊤) edges Incoming) A n → n < length nodes)
+    → Reaches (IsNext (λ _. ⊤) edges Incoming) A n ↔ HasPath nodes edges n d
+paths_back {N} {E} nodes edges A d start n within = (to, from)
+  where
+    Next : ℕ → ℕ → Type 0
+    Next = IsNext (λ _. ⊤) edges Incoming
+
+    to : Reaches Next A n → HasPath nodes edges n d
+    to r = record {
+      from = within r;
+      to = started Next A (d < length nodes) (λ k s. ((start k).0 s).1) n r;
+      path = turned Next (HasEdge edges) (back edges) d n (reaches_more Next Next A (λ k. k ≡ d) (λ _ _ h. h) (λ k s. ((start k).0 s).0) n r);
+    }
+
+    from : HasPath nodes edges n d → Reaches Next A n
+    from w = reaches_more Next Next (λ k. k ≡ d) A (λ _ _ h. h) (λ k e. (start k).1 (e, w.to)) n (turned (HasEdge edges) Next (forth edges) n d w.path)
+
+-- ---- a number among others
+
+pub is_among : (xs : List ℕ) (x : ℕ) → IsTrue (list_any (λ y. y == x) xs) ↔ Contains xs x
+is_among xs x = (
+  λ h. (let w = passing_of (λ y. y == x) xs h in subst (Contains xs) ((Decides-eqb w.from x).0 w.passes) (contains_of xs w.from w.member)),
+  λ c. member_any (λ y. y == x) xs x (member_of xs x c) ((Decides-eqb x x).1 refl),
+)
+
+-- ==== the crates of some numbers: they are in order, and exactly those of these numbers
+
+-- ---- a crate among the nodes
+
+-- the crate's node is at this place, after those that are numbered below k
+record Listed {N : Type 0} (k : ℕ) (nodes : List (Node N)) (c : Match N) : Type 0 where
+  place : ℕ
+  number : c.number ≡ k + place
+  is : match_in c.number (slice_get nodes place) ≡ Some c
+
+listed_of : {N : Type 0} (k : ℕ) (nodes : List (Node N)) (c : Match N) → Member (numbered_crates k nodes) c → Listed k nodes c
+listed_of k [] c m = absurd m
+listed_of {N} k (Krate id krate features mapping ∷ nodes) c (inl e) =
+    subst (λ (z : Match N). Listed k (Krate id krate features mapping ∷ nodes) z) e (record { place = zero; number = omega arith; is = refl })
+listed_of k (Krate id krate features mapping ∷ nodes) c (inr m) = let w = listed_of (suc k) nodes c m in record { place = suc w.place; number = omega (arith, w.number); is = w.is }
+listed_of k (Feature krate_index name ∷ nodes) c m = let w = listed_of (suc k) nodes c m in record { place = suc w.place; number = omega (arith, w.number); is = w.is }
+
+of_listed : {N : Type 0} (k : ℕ) (nodes : List (Node N)) (place n : ℕ) (c : Match N) → n ≡ k + place → match_in n (slice_get nodes place) ≡ Some c → Member (numbered_crates k nodes) c
+of_listed k [] place n c at e = absurd (none-some c e)
+of_listed {N} k (Krate id krate features mapping ∷ nodes) zero n c at e =
+    let same : n ≡ k = omega (arith, at) in
+    let made : ℕ → Match N = λ j. record { number = j; id = id; krate = krate } in
+    inl (sym (ap made same) ∙ same_Some (made n) c e)
+of_listed k (Krate id krate features mapping ∷ nodes) (suc place) n c at e = inr (of_listed (suc k) nodes place n c (omega (arith, at)) e)
+of_listed k (Feature krate_index name ∷ nodes) zero n c at e = absurd (none-some c e)
+of_listed k (Feature krate_index name ∷ nodes) (suc place) n c at e = of_listed (suc k) nodes place n c (omega (arith, at)) e
+
+-- a crate is among those of the nodes exactly if the node of its number is it
+crate_there : {N : Type 0} (nodes : List (Node N)) (c : Match N) → Member (numbered_crates 0 nodes) c → match_at nodes c.number ≡ Some c
+crate_there nodes c m =
+    let w = listed_of 0 nodes c m in
+    let same : w.place ≡ c.number = omega (arith, w.number) in
+    subst (λ (j : ℕ). match_in c.number (slice_get nodes j) ≡ Some c) same w.is
+
+pub there_crate : {N : Type 0} (nodes : List (Node N)) (n : ℕ) (c : Match N) → match_at nodes n ≡ Some c → Member (numbered_crates 0 nodes) c
+there_crate nodes n c e = of_listed 0 nodes n n c (omega arith) e
+
+number_of : {N : Type 0} (n : ℕ) (o : Option (Node N)) (c : Match N) → match_in n o ≡ Some c → c.number ≡ n
+number_of n None c e = absurd (none-some c e)
+number_of {N} n (Some (Krate id krate features mapping)) c e = sym (ap (λ (z : Match N). z.number) (same_Some (record { number = n; id = id; krate = krate }) c e))
+number_of n (Some (Feature krate_index name)) c e = absurd (none-some c e)
+
+-- ---- the crates of some numbers
+
+numbers_step : {N : Type 0} (n : ℕ) (o : Option (Node N)) (more : List (Match N)) (ns : List ℕ) → map (λ c. c.number) more ≡ ns
+    → map (λ c. c.number) (cons_option (match_in n o) more) ≡ cond (is_some (match_in n o)) (n ∷ ns) ns
+numbers_step n None more ns h = h
+numbers_step n (Some (Krate id krate features mapping)) more ns h = ap (λ zs. n ∷ zs) h
+numbers_step n (Some (Feature krate_index name)) more ns h = h
+
+-- their numbers are those of the numbers that are crates
+numbers_kept : {N : Type 0} (nodes : List (Node N)) (ns : List ℕ) → map (λ c. c.number) (filter_map (match_at nodes) ns) ≡ filter (λ n. is_some (match_at nodes n)) ns
+numbers_kept nodes [] = refl
+numbers_kept nodes (n ∷ ns) = numbers_step n (slice_get nodes n) (filter_map (match_at nodes) ns) (filter (λ n. is_some (match_at nodes n)) ns) (numbers_kept nodes ns)
+
+of_step : {N : Type 0} (nodes : List (Node N)) (n : ℕ) (ns : List ℕ) (o : Option (Match N)) (c : Match N) → match_at nodes n ≡ o → (Member (filter_map (match_at nodes) ns) c → Member ns c.number × (match_at nodes c.number ≡ Some c))
+    → Member (cons_option o (filter_map (match_at nodes) ns)) c → Member (n ∷ ns) c.number × (match_at nodes c.number ≡ Some c)
+of_step nodes n ns None c e more m = let w = more m in (inr w.0, w.1)
+of_step nodes n ns (Some x) c e more (inl s) =
+    let is : match_at nodes n ≡ Some c = e ∙ ap (λ z. Some z) s in
+    let same : c.number ≡ n = number_of n (slice_get nodes n) c is in
+    (inl (sym same), subst (λ (j : ℕ). match_at nodes j ≡ Some c) (sym same) is)
+of_step nodes n ns (Some x) c e more (inr m) = let w = more m in (inr w.0, w.1)
+
+-- each of them is the crate of one of the numbers
+of_numbers : {N : Type 0} (nodes : List (Node N)) (ns : List ℕ) (c : Match N) → Member (filter_map (match_at nodes) ns) c → Member ns c.number × (match_at nodes c.number ≡ Some c)
+of_numbers nodes [] c m = absurd m
+of_numbers nodes (n ∷ ns) c m = of_step nodes n ns (match_at nodes n) c refl (of_numbers nodes ns c) m
+
+to_numbers : {N : Type 0} (nodes : List (Node N)) (ns : List ℕ) (c : Match N) → Member ns c.number → match_at nodes c.number ≡ Some c → Member (filter_map (match_at nodes) ns) c
+to_numbers nodes [] c m e = absurd m
+to_numbers nodes (n ∷ ns) c (inl s) e = cons_there (match_at nodes n) (filter_map (match_at nodes) ns) c (inl (ap (match_at nodes) s ∙ e))
+to_numbers nodes (n ∷ ns) c (inr m) e = cons_there (match_at nodes n) (filter_map (match_at nodes) ns) c (inr (to_numbers nodes ns c m e))
+
+-- of the numbers from which a path leads to a node, the crates are all that depend on it
+pub are_all_dependents : {N E : Type 0} (nodes : List (Node N)) (edges : List (GraphEdge E)) (d : ℕ) (ns : List ℕ) → IsStrictlySortedBy nat_cmp ns → ((n : ℕ) → Contains ns n ↔ HasPath nodes edges n d)
+    → AreAllDependents nodes edges d (filter_map (match_at nodes) ns)
+are_all_dependents nodes edges d ns ascending same = record {
+  by_number = rw (numbers_kept nodes ns) (IsStrictlySortedBy-filter nat_cmp (λ n. is_some (match_at nodes n)) ns ascending);
+  exactly = λ c. (
+    λ h.
+        (let w = of_numbers nodes ns c (member_of (filter_map (match_at nodes) ns) c h) in
+        (contains_of (numbered_crates 0 nodes) c (there_crate nodes c.number c w.1), (same c.number).0 (contains_of ns c.number w.0))),
+    λ h.
+        (let there = member_of ns c.number ((same c.number).1 h.1) in
+        contains_of (filter_map (match_at nodes) ns) c (to_numbers nodes ns c there (crate_there nodes c (member_of (numbered_crates 0 nodes) c h.0)))),
+  );
+}
+
+-- ==== laws: the queries for dependents and for paths agree
+
+pub dependents_reach : {N E : Type 0} (nodes : List (Node N)) (edges : List (GraphEdge E)) → DependentsReach nodes edges
+dependents_reach nodes edges d all are c kept answer tells = (
+  λ yes. (are.exactly c).1 (kept, tells.0 yes),
+  λ among. tells.1 ((are.exactly c).0 among).1,
+)
+
+-- an edge with its ends
+ends_within : {E : Type 0} (count : ℕ) (edges : List (GraphEdge E)) (p d : ℕ) → All (HasEnds count) edges → HasEdge edges p d → (p < count) × (d < count)
+ends_within count edges p d ends w =
+    let both = All-contains (HasEnds count) edges w.edge ends w.among in
+    (subst (λ n. n < count) w.from both.0, subst (λ n. n < count) w.to both.1)
+
+-- where an edge leads from p to d or to a feature of d, a path leads from p to d
+path_along : {N E : Type 0} (nodes : List (Node N)) (edges : List (GraphEdge E)) (p d : ℕ) → AreConnected nodes edges → All (HasEnds (length nodes)) edges → IsDependent nodes edges d p → HasPath nodes edges p d
+path_along nodes edges p d connected ends w =
+    let e = w.leads in
+    let first : HasEdge edges p e.edge.target = record { edge = e.edge; among = e.among; from = e.from; to = refl } in
+    let own = ends_within (length nodes) edges p e.edge.target ends first in
+    let there : Reaches (HasEdge edges) (λ n. n ≡ p) e.edge.target = goes_on {n = p} {m = e.edge.target} (begins {n = p} refl) first in
+    elim e.to [
+      | inl same ↦ record { from = own.0; to = subst (λ n. n < length nodes) same own.1; path = subst (λ n. Reaches (HasEdge edges) (λ k. k ≡ p) n) same there }
+      | inr feature ↦
+          (let home = connected.features e.edge.target d feature.0 feature.1 in
+          record { from = own.0; to = (ends_within (length nodes) edges e.edge.target d ends home).1; path = goes_on {n = e.edge.target} {m = d} there home })
+    ]
+
+record CrateOf {N : Type 0} (n : ℕ) (o : Option (Node N)) : Type 0 where
+  crate : Match N
+  is : match_in n o ≡ Some crate
+  number : crate.number ≡ n
+
+crate_of : {N : Type 0} (n : ℕ) (o : Option (Node N)) (x : N) → value_in o ≡ Some x → CrateOf n o
+crate_of n None x e = absurd (none-some x e)
+crate_of n (Some (Krate id krate features mapping)) x e = record { crate = record { number = n; id = id; krate = krate }; is = refl; number = refl }
+crate_of n (Some (Feature krate_index name)) x e = absurd (none-some x e)
+
+pub direct_are_among_all : {N E : Type 0} (nodes : List (Node N)) (edges : List (GraphEdge E)) → DirectAreAmongAll nodes edges
+direct_are_among_all {N} nodes edges connected ends d direct are all others j among =
+    let number = contains_of (map (λ (x : Joined N). x.node) direct) j.node (member_map (λ (x : Joined N). x.node) direct j (member_of direct j among)) in
+    let is = (are.exactly j.node).0 number in
+    let c = crate_of j.node (slice_get nodes j.node) is.krate is.crate in
+    let kept = contains_of (numbered_crates 0 nodes) c.crate (there_crate nodes j.node c.crate c.is) in
+    let path = subst (λ n. HasPath nodes edges n d) (sym c.number) (path_along nodes edges j.node d connected ends is) in
+    let there = (others.exactly c.crate).1 (kept, path) in
+    subst (Contains (map (λ (x : Match N). x.number) all)) c.number
+    (contains_of (map (λ (x : Match N). x.number) all) c.crate.number (member_map (λ (x : Match N). x.number) all c.crate (member_of all c.crate there)))

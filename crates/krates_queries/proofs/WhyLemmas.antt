@@ -13,12 +13,10 @@ use Rattle.krates_rules.specs.Facts.{Id, Crate as CrateFact}
 use Rattle.krates_rules.specs.Questions.{questions}
 use Rattle.krates_rules.specs.StepParts.{HaveOwnFacts}
 use Rattle.krates_rules.specs.Steps.{EachFollows, EndsIn, StepModel}
-use Rattle.krates_queries.proofs.CrateIds.{crate_id}
-use Rattle.krates_queries.proofs.NodeLemmas.{place_at}
-use Rattle.krates_queries.specs.KeptSteps.{AreExplained, node_says, steps_of}
+use Rattle.krates_queries.proofs.NodeLemmas.{crate_id, place_at}
+use Rattle.krates_queries.specs.Why.{AreExplained, node_says, steps_of, IsWhy, node_fact}
 use Rattle.krates_queries.specs.Kept.{AreNodes, KeptCrates, ids_of}
 use Rattle.krates_drawing.specs.Node.{CratesFirst, crate_ids}
-use Rattle.krates_queries.specs.Why.{IsWhy, node_fact}
 use Rattle.krates_drawing.specs.declared.node.Node.{Node}
 use Rattle.krates_drawing.specs.declared.node.Node.TheVariants as nodes_are
 

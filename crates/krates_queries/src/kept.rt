@@ -3,7 +3,7 @@
 ghost use Rattle.std.specs.Prelude.{◌≡◌, ◌<◌, ◌^◌, length, string_bytes};
 ghost use Rattle.std.specs.Iterator.{YieldsFirstRef, item_count};
 ghost use Rattle.krates_queries.specs.Direct.{AreConnected};
-ghost use Rattle.krates_queries.specs.KeptSteps.{AreExplained};
+ghost use Rattle.krates_queries.specs.Why.{AreExplained};
 ghost use Rattle.krates_queries.specs.Kept.{AreCrateNumbers, AreFeatures, AreNodes, AreOrdered, ids_of, values_of};
 ghost use Rattle.krates_drawing.specs.Node.{CratesFirst, crate_ids};
 
@@ -41,7 +41,7 @@ pub struct Krates<N = Package, E = Edge> {
 impl<N, E> Model for Krates<N, E> {
     ghost use Rattle.std.specs.Prelude.{◌≡◌, length, string_bytes};
     ghost use Rattle.krates_queries.specs.Direct.{AreConnected};
-    ghost use Rattle.krates_queries.specs.KeptSteps.{AreExplained};
+    ghost use Rattle.krates_queries.specs.Why.{AreExplained};
     ghost use Rattle.krates_queries.specs.Kept.{AreCrateNumbers, AreNodes, KeptCrates};
     ghost use Rattle.krates_drawing.specs.Node.{crate_ids};
 

@@ -2,7 +2,7 @@
 
 ghost use Rattle.std.specs.Prelude.{List};
 ghost use Rattle.krates_graph.specs.declared.graph.edge.GraphEdge.{GraphEdge};
-ghost use Rattle.krates_queries.specs.DependentLaws.{DependentsReach, DirectAreAmongAll};
+ghost use Rattle.krates_queries.specs.Reached.{DependentsReach, DirectAreAmongAll};
 ghost use Rattle.krates_drawing.specs.declared.node.Node.{Node};
 
 /// A kept crate reaches a node exactly if it is among all dependents of the node, and the direct dependents of the node are

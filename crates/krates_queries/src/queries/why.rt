@@ -1,15 +1,17 @@
-//! Why a node is there.
+//! Why a node is there, and all that is kept as facts.
 
-ghost use Rattle.std.specs.Prelude.{◌≡◌, IfOk};
-ghost use Rattle.krates_selection.specs.KeptFacts.{subject_view};
-ghost use Rattle.krates_queries.specs.KeptSteps.{node_says};
-ghost use Rattle.krates_queries.specs.Why.{TellsWhy};
+ghost use Rattle.std.specs.Prelude.{◌≡◌, All, IfOk};
+ghost use Rattle.krates_rules.specs.StepParts.{HaveOwnFacts};
+ghost use Rattle.krates_rules.specs.StepViews.{facts_view};
+ghost use Rattle.krates_selection.specs.KeptFacts.{HasTheseIds, facts_in, subject_view};
+ghost use Rattle.krates_queries.specs.Kept.{ids_of};
+ghost use Rattle.krates_queries.specs.Why.{TellsWhy, node_says, steps_of};
 
 use crate::kept::Krates;
 use crate::numbers::{lent_ids, node_at};
 use krates_drawing::node::Node;
 use krates_graph::graph::NodeId;
-use krates_rules::Derivation;
+use krates_rules::{Derivation, Fact};
 use krates_selection::{CrateOrFeature, Explanation, step_of};
 use std::alloc::AllocError;
 
@@ -43,6 +45,27 @@ impl<N, E> Krates<N, E> {
         let explanation = Explanation { kids: &kids, steps };
         let derivation = explanation.derivation_of(self.alloc(), number)?;
         Ok(Some(derivation))
+    }
+
+    /// All that is kept, as facts, each once: the crates, the edges, the enabled features, and the features that other crates'
+    /// features enable. For a build these are exactly the derivable facts, so `derive::check_closed` accepts the
+    /// list for its document and setting. Ids are those of the kept crates, with their texts.
+    ///
+    /// Each fact comes after those from which it was found to follow. The only error is running out of memory. Time O(n) in
+    /// the facts.
+    ///
+    /// ```text
+    /// println!(rt; "{} facts", krates.facts()?.len())?;
+    /// ```
+    pub fn facts(&self) -> Result<Vec<Fact>, AllocError>
+        ensures facts { IfOk result (λ facts. facts_view facts.items ≡ facts_in (steps_of self.now)) }
+        ensures once { HaveOwnFacts (steps_of self.now) }
+        ensures ids { IfOk result (λ facts. All (HasTheseIds (ids_of self.now)) facts.items) }
+    {
+        let steps = self.steps();
+        let kids = lent_ids(self.alloc(), self.nodes())?;
+        let explanation = Explanation { kids: &kids, steps };
+        explanation.facts(self.alloc())
     }
 }
 

@@ -6,7 +6,7 @@ use Rattle.std.proofs.lemmas.Result.{err_from_is_err_and}
 use Rattle.krates_cm.specs.Document.{metadata_view}
 use Rattle.krates_drawing.specs.Views.{outline_view}
 use Rattle.krates_questions.specs.Lookup.{resolved_view}
-use Rattle.krates_queries.specs.KeptSteps.{AreStepsFor}
+use Rattle.krates_queries.specs.Why.{AreStepsFor}
 use Rattle.krates_rules.specs.Resolution.{RefusesSelection}
 use Rattle.krates_selection.specs.Selection.{IsExplained, IsExplainedOf, IsSelection, IsSelectionOf}
 use Rattle.krates_questions.proofs.ReadIds.{each_read}

@@ -2,9 +2,7 @@ use Rattle.std.proofs.Common.{◌≡◌, ◌∙◌, List, ℕ, map, rules, sym, 
 use Rattle.std.proofs.lemmas.Iterator.{YieldsList-from_map, YieldsList-from_slice, items_from_collect}
 use Rattle.std.proofs.lemmas.Iterator.Consumers.{YieldsList-at}
 use Rattle.std.proofs.lemmas.Result.{IfOk-weaker}
-use Rattle.krates_queries.specs.Direct.{Joined}
-use Rattle.krates_queries.specs.Direct.{joined_view}
-use Rattle.krates_queries.specs.DirectDependents.{IsDependent}
+use Rattle.krates_queries.specs.Direct.{Joined, joined_view, IsDependent}
 use Rattle.krates_queries.specs.declared.queries.direct.JoinedKrate.{JoinedKrate}
 use Rattle.krates_answers.specs.DirectLinks.{AreExactly}
 use Rattle.krates_answers.proofs.DependentNumbers.{exact_dependents}

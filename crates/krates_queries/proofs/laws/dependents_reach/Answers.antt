@@ -1,4 +1,4 @@
-use Rattle.krates_queries.proofs.DependentLemmas.{dependents_reach, direct_are_among_all}
+use Rattle.krates_queries.proofs.ReachedLemmas.{dependents_reach, direct_are_among_all}
 use Rattle.krates_queries.proofs.laws.dependents_reach.Goals as goal
 
 pub returns-clause-reach : goal.returns-clause-reach

@@ -2,7 +2,7 @@ use Rattle.std.proofs.Common.{[], ◌∷◌, ◌++◌, List, sym, ap, ◌∙◌,
 use Rattle.std.proofs.lemmas.List.{take_all}
 use Rattle.krates_drawing.specs.Node.{crate_ids}
 use Rattle.krates_ids.specs.Identity.{Identity}
-use Rattle.krates_queries.proofs.CrateIds.{ids_more}
+use Rattle.krates_queries.proofs.NodeLemmas.{ids_more}
 use Rattle.krates_queries.proofs.numbers.lent_ids.Goals as goal
 
 pub loop-node-preserved : goal.loop-node-preserved

@@ -1,6 +1,6 @@
 use Rattle.std.proofs.Common.{rules, ◌≡◌}
 use Rattle.std.proofs.lemmas.Fn.{always_returns_same}
-use Rattle.krates_queries.specs.NodeOrder.{node_cmp}
+use Rattle.krates_queries.specs.Numbers.{node_cmp}
 use Rattle.krates_queries.proofs.NodeLemmas.{number_found, no_number}
 use Rattle.krates_rules.proofs.OrderedIds.{Compares}
 use Rattle.krates_queries.proofs.numbers.number_of.Goals as goal

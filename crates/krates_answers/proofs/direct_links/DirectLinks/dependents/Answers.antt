@@ -1,7 +1,7 @@
 use Rattle.std.proofs.Common.{◌≡◌, ◌∙◌, ◌∷◌, ◌++◌, [], List, ℕ, length, ap, subst}
 use Rattle.std.proofs.lemmas.List.{map-append}
 use Rattle.std.specs.Global.{Vec}
-use Rattle.krates_queries.specs.DirectDependents.{IsDependent}
+use Rattle.krates_queries.specs.Direct.{IsDependent}
 use Rattle.krates_queries.specs.Kept.{ids_of}
 use Rattle.krates_queries.specs.KrateNodes.{Match, match_view}
 use Rattle.krates_answers.specs.DirectLinks.{items_of}

@@ -1,5 +1,5 @@
 use Rattle.std.proofs.Common.{length}
-use Rattle.krates_queries.specs.DirectDependents.{IsDependent}
+use Rattle.krates_queries.specs.Direct.{IsDependent}
 use Rattle.krates_queries.specs.Kept.{ids_of}
 use Rattle.krates_answers.specs.DirectLinks.{items_of}
 use Rattle.krates_answers.proofs.DependentNumbers.{AreFound}

@@ -1,11 +1,10 @@
 use Rattle.std.proofs.Common.{◌∙◌, ◌↔◌, ℕ, List, Contains, sym, ap, subst}
 use Rattle.std.proofs.lemmas.Result.{IfOk-weaker}
 use Rattle.std.specs.List.{filter_map}
-use Rattle.krates_queries.specs.AllDependents.{AreAllDependents, match_at}
-use Rattle.krates_queries.specs.KrateNodes.{Match}
-use Rattle.krates_queries.specs.Reaches.{HasPath}
+use Rattle.krates_queries.specs.KrateNodes.{Match, match_at}
+use Rattle.krates_queries.specs.Reached.{AreAllDependents, HasPath}
 use Rattle.krates_drawing.specs.declared.node.Node.{Node}
-use Rattle.krates_queries.proofs.AllDependentsLemmas.{are_all_dependents}
+use Rattle.krates_queries.proofs.ReachedLemmas.{are_all_dependents}
 use Rattle.krates_queries.proofs.kept.Krates.all_dependents.Goals as goal
 
 pub returns : goal.returns

@@ -1,11 +1,9 @@
 use Rattle.std.proofs.Common.{◌≡◌, ◌↔◌, ◌∙◌, List, ℕ, Contains, map, sym, ap, subst}
 use Rattle.std.proofs.lemmas.Result.{IfOk-weaker}
-use Rattle.krates_queries.specs.Direct.{Joined, id_and_value_at, joined_all}
-use Rattle.krates_queries.specs.DirectDependents.{AreDependents, sources_into}
-use Rattle.krates_queries.specs.Neighbours.{first_edge}
+use Rattle.krates_queries.specs.Direct.{Joined, id_and_value_at, joined_all, AreDependents, sources_into, first_edge}
 use Rattle.krates_drawing.specs.declared.node.Node.{Node}
-use Rattle.krates_queries.specs.declared.queries.neighbours.Neighbour.{Neighbour}
-use Rattle.krates_queries.proofs.JoinedLemmas.{are_dependents}
+use Rattle.krates_queries.specs.declared.queries.direct.Neighbour.{Neighbour}
+use Rattle.krates_queries.proofs.DirectLemmas.{are_dependents}
 use Rattle.krates_queries.proofs.kept.Krates.direct_dependents.Goals as goal
 
 pub returns : goal.returns

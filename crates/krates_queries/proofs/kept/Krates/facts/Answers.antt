@@ -8,7 +8,7 @@ use Rattle.krates_rules.specs.declared.derivation.Fact.{Fact}
 use Rattle.krates_selection.specs.KeptFacts.{HasTheseIds, explained_steps, kids_of, facts_in}
 use Rattle.krates_selection.specs.declared.kept.Explanation.{Explanation}
 use Rattle.krates_queries.proofs.WhyLemmas.{is_explanation, same_steps}
-use Rattle.krates_queries.specs.KeptSteps.{AreExplained, steps_of}
+use Rattle.krates_queries.specs.Why.{AreExplained, steps_of}
 use Rattle.krates_queries.specs.Kept.{ids_of}
 use Rattle.krates_queries.proofs.kept.Krates.facts.Goals as goal
 

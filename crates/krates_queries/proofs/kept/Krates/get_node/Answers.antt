@@ -1,6 +1,6 @@
 use Rattle.std.proofs.Common.{◌≡◌, ℕ, Some, None, option_map, arith, refl, ap}
 use Rattle.krates_rules.specs.Resolved.{id_of}
-use Rattle.krates_queries.proofs.FeatureNodes.{enabled_told, number_among}
+use Rattle.krates_queries.proofs.NodeLemmas.{enabled_told, number_among}
 use Rattle.krates_queries.proofs.kept.Krates.get_node.Goals as goal
 
 pub overflow_cast-number : goal.overflow_cast-number

@@ -1,6 +1,6 @@
 use Rattle.std.proofs.Common.{ap, ◌∙◌, filter}
-use Rattle.krates_queries.specs.Matches.{is_named}
-use Rattle.krates_queries.proofs.MatchLemmas.{all_fit}
+use Rattle.krates_queries.specs.KrateNodes.{is_named}
+use Rattle.krates_queries.proofs.KrateNodeLemmas.{all_fit}
 use Rattle.krates_queries.proofs.kept.Krates.krates_by_name.Goals as goal
 
 pub returns : goal.returns

@@ -1,6 +1,6 @@
 use Rattle.std.proofs.Common.{◌≡◌, ◌==◌, ◌∙◌, ℕ, sym, ap}
 use Rattle.std.specs.List.{list_any}
-use Rattle.krates_queries.proofs.EdgePaths.{is_among}
+use Rattle.krates_queries.proofs.ReachedLemmas.{is_among}
 use Rattle.krates_queries.proofs.kept.Krates.reaches.Goals as goal
 
 pub returns : goal.returns

@@ -7,7 +7,7 @@ use Rattle.krates_selection.specs.KeptFacts.{IsStepOf, kids_of}
 use Rattle.krates_selection.specs.declared.kept.Explanation.{Explanation}
 use Rattle.krates_selection.specs.declared.kept.KeptStep.{KeptStep}
 use Rattle.krates_queries.proofs.WhyLemmas.{is_explanation, is_why}
-use Rattle.krates_queries.specs.KeptSteps.{AreExplained, node_says}
+use Rattle.krates_queries.specs.Why.{AreExplained, node_says}
 use Rattle.krates_queries.specs.Kept.{AreNodes, ids_of}
 use Rattle.krates_queries.proofs.kept.Krates.why.Goals as goal
 

@@ -1,6 +1,5 @@
 use Rattle.std.proofs.Common.{◌≡◌, ◌++◌, drop, map}
-use Rattle.krates_queries.specs.Direct.{id_and_value_at, joined_all, joined_view}
-use Rattle.krates_queries.specs.Neighbours.{first_edge}
+use Rattle.krates_queries.specs.Direct.{id_and_value_at, joined_all, joined_view, first_edge}
 use Rattle.krates_queries.proofs.queries.direct.joined_krates.Given as goal
 
 -- the neighbours found so far, then those of the numbers left, are those of all numbers

@@ -3,7 +3,7 @@ use Rattle.std.proofs.lemmas.List.Elements.{All-contains}
 use Rattle.std.proofs.lemmas.Option.{none-some}
 use Rattle.krates_graph.specs.Graph.{HasEnds}
 use Rattle.krates_queries.specs.Reached.{IsFarEnd}
-use Rattle.krates_queries.proofs.EdgeNumbers.{contains_got}
+use Rattle.krates_queries.proofs.DirectLemmas.{contains_got}
 use Rattle.krates_queries.proofs.ReachedLemmas.{end_here, end_passes, far_within, grows_none, put_grows}
 use Rattle.krates_queries.proofs.queries.reached.put_end.Goals as goal
 

@@ -1,7 +1,7 @@
 use Rattle.std.proofs.Common.{◌≡◌, ◌∙◌, ◌<◌, Some, length, slice_get, sym, ap, arith}
 use Rattle.std.proofs.lemmas.List.Elements.{All-contains}
 use Rattle.krates_graph.specs.Agenda.{PutNumbers}
-use Rattle.krates_queries.proofs.EdgeNumbers.{contains_got}
+use Rattle.krates_queries.proofs.DirectLemmas.{contains_got}
 use Rattle.krates_queries.proofs.ReachedLemmas.{exactly_put, followed_first, followed_more, past}
 use Rattle.krates_queries.proofs.queries.reached.put_reached.Goals as goal
 

@@ -1,0 +1,9 @@
+use Rattle.std.proofs.Common.{◌<◌, length}
+use Rattle.std.proofs.lemmas.List.Elements.{All-rest}
+use Rattle.krates_queries.proofs.queries.direct.DepsIterator.next.Goals as goal
+
+pub invariant_of-self : goal.invariant_of-self
+invariant_of-self g c = (
+  c.self.invariant.0,
+  All-rest (λ number. number < length c.self.inside.edges.now) c.in-Some.id.now c.in-Some.rest.now c.self.inside.left.now c.in-Some.ensures.cases.0 c.self.invariant.1,
+)
