@@ -1,14 +1,12 @@
 pub mod EdgeGrowth
 pub mod EntriesTried
-pub mod FeaturesAt
 pub mod Finding
 pub mod FirstKinds
 pub mod Growing
 pub mod Growth
-pub mod KeptEdges
 pub mod KeptFeatures
+pub mod KeptLists
 pub mod KeptSteps
-pub mod KeptToggled
 pub mod KindOrder
 pub mod LinkLemmas
 pub mod Putting

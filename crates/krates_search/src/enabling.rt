@@ -1,7 +1,7 @@
 //! What is enabled and kept: features, toggled features and edges.
 
 ghost use Rattle.krates_questions.specs.Context.{Derives, HasEntry, IsNodeAt, IsWantedAt, Lists, Refuses};
-ghost use Rattle.krates_search.specs.SearchContext.{Finds, FindsListed, FindsToggled, HasListed, IsNumberOf, MayEnableListed, crate_of, FindsUsed, IsNodeOf};
+ghost use Rattle.krates_search.specs.SearchContext.{Finds, FindsListed, FindsToggled, IsNumberOf, crate_of, FindsUsed, IsNodeOf};
 ghost use Rattle.krates_search.specs.SearchState.{HasFound, IsEdgeStep, HasEnabled, MayEnable, MayToggle, IsSound, Advances, HasEnabledFor, HasToggled, MayEnableFor};
 ghost use Rattle.krates_questions.specs.NodeEntry.{child_of, edge_of, parent_of};
 ghost use Rattle.std.specs.Prelude.{◌≡◌, IfErr, IfOk, OnOk};
@@ -9,7 +9,6 @@ ghost use Rattle.krates_cm.specs.Document.{dependency_view};
 ghost use Rattle.krates_rules.specs.Facts.{Crate, Feature, Kept};
 ghost use Rattle.krates_search.specs.Found.{IsFirstOf};
 ghost use Rattle.krates_search.specs.Links.{IsMarked};
-ghost use Rattle.krates_rules.specs.Rules.{default_name};
 
 use crate::found::{FoundToggle, found_edge};
 use crate::search_state::{SearchState, put_feature, put_krate, put_step};
@@ -95,31 +94,6 @@ fn listed_number<'a>(
     }
 }
 
-/// Enables the default feature of a kept crate, where it lists it.
-fn enable_default<'a>(
-    context: &Context<'a, '_>,
-    node: KeptNode<'a>,
-    reason: Reason,
-    found: &mut SearchState<'a>,
-) -> Result<(), Error>
-    requires node { IsNodeOf context.now node }
-    requires sound { IsSound context.now found.old }
-    requires kept { HasFound context.now found.old (Crate (crate_of node)) }
-    requires may { MayEnableListed context.now (crate_of node) default_name }
-    requires step { FindsListed context.now found.old reason (crate_of node) default_name }
-    ensures advanced { OnOk result (Advances context.now found.old found.new) }
-    ensures enabled { OnOk result (HasListed context.now found.new (crate_of node.entry) default_name) }
-    ensures same_links { OnOk result (found.new.links ≡ found.old.links) }
-    ensures refused { IfErr result (Refuses context.now) }
-{
-    laws::one_reading();
-    let Some(number) = context.document.feature_number(node.place, "default") else {
-        return Ok(());
-    };
-    put_feature(context, number, reason, found)?;
-    Ok(())
-}
-
 /// Toggles a feature of a kept crate by another crate: notes by whom, and enables it.
 pub fn toggle<'a>(
     context: &Context<'a, '_>,
@@ -162,7 +136,8 @@ pub fn toggle<'a>(
     Ok(())
 }
 
-/// Enables what a declared dependency asks of its crate: the features that it lists, and the default one where it uses defaults.
+/// Enables what a declared dependency asks of its crate: the features that it lists, and the default one where it uses defaults and the crate
+/// lists that.
 fn enable_declared<'a>(
     context: &Context<'a, '_>,
     dependency: &'a Dependency,
@@ -181,6 +156,7 @@ fn enable_declared<'a>(
     ensures same_links { OnOk result (found.new.links ≡ found.old.links) }
     ensures refused { IfErr result (Refuses context.now) }
 {
+    laws::one_reading();
     for name in &dependency.features {
         let feature = NamedFeature {
             name: name.as_str(),
@@ -188,9 +164,13 @@ fn enable_declared<'a>(
         };
         enable(context, node, feature, found)?;
     }
-    if dependency.uses_default_features {
-        enable_default(context, node, reason, found)?;
+    if !dependency.uses_default_features {
+        return Ok(());
     }
+    let Some(number) = context.document.feature_number(node.place, "default") else {
+        return Ok(());
+    };
+    put_feature(context, number, reason, found)?;
     Ok(())
 }
 
@@ -213,7 +193,7 @@ fn wake<'a>(
     ensures refused { IfErr result (Refuses context.now) }
 {
     laws::one_reading();
-    if found.links.is_kept(entry.place, entry.index) {
+    if found.links.kept(entry.place, entry.index).is_some() {
         return Ok(());
     }
     let waiters = found

@@ -2,7 +2,7 @@
 
 ghost use Rattle.std.specs.Prelude.{◌↔◌, IfOk, IsTrue, OnOk};
 ghost use Rattle.krates_cm.specs.Document.{node_view};
-ghost use Rattle.krates_search.specs.Links.{HasLink, HasLinks, IsMarked, TellsMark, NotesAsked, AreNewLinks, AreNew, HasMarked, WasAsked, HasWaiter};
+ghost use Rattle.krates_search.specs.Links.{HasLink, HasLinks, TellsMark, NotesAsked, AreNewLinks, AreNew, HasMarked, WasAsked, HasWaiter};
 ghost use Rattle.krates_questions.specs.Lookup.{resolved_view};
 
 use krates_cm::Node;
@@ -62,14 +62,6 @@ fn links_of_node<'a>(alloc: Global, node: &Node) -> Result<Vec<Link<'a>>, AllocE
 }
 
 impl<'a> Links<'a> {
-    /// Whether an edge by this dependency is kept.
-    pub(crate) fn is_kept(&self, place: NodePlace, index: usize) -> bool
-        requires { HasLink self.now place.index index }
-        ensures { IsTrue result ↔ IsMarked self.now place.index index }
-    {
-        self.kept(place, index).is_some()
-    }
-
     /// The step by which the first edge by this dependency is kept; none where none is.
     pub fn kept(&self, place: NodePlace, index: usize) -> Option<usize>
         requires { HasLink self.now place.index index }

@@ -4,6 +4,7 @@ use Rattle.std.proofs.Math.ListN.{set}
 use Rattle.std.proofs.lemmas.Bool.{cases_lt}
 use Rattle.std.proofs.lemmas.Option.{slice_get_within, get_or_from_slice_get, same_Some}
 use Rattle.std.specs.List.{AllZip, slice_get}
+use Rattle.krates_rules.proofs.Zips.{zip_there}
 use Rattle.krates_rules.specs.Uses.{number_in, numbers_used}
 use Rattle.krates_rules.specs.declared.uses.Uses.{Uses}
 use Rattle.krates_selection.specs.PartOfSteps.{IsMarked, HasChosen, IsChoice, HasNewNumber, IsNumbered, IsPartBelow, IsNewNumber, IsChosenStep, SameFact}
@@ -42,10 +43,7 @@ stands_grown : (facts chosen : List ℕ) (n before now : ℕ) → IsNewNumber (S
 stands_grown facts chosen n before now s = record { number = s.number; chosen_at = grown chosen (n ∷ []) now s.number s.chosen_at; earlier = s.earlier; same = s.same }
 
 uses_stand : (facts chosen : List ℕ) (n : ℕ) (before now : List ℕ) → AllZip (IsNewNumber (SameFact facts) chosen) before now → AllZip (IsNewNumber (SameFact facts) (chosen ++ n ∷ [])) before now
-uses_stand facts chosen n [] [] z = tt
-uses_stand facts chosen n [] (v ∷ vs) z = absurd z
-uses_stand facts chosen n (u ∷ us) [] z = absurd z
-uses_stand facts chosen n (u ∷ us) (v ∷ vs) z = (stands_grown facts chosen n u v z.0, uses_stand facts chosen n us vs z.1)
+uses_stand facts chosen n before now z = zip_there (IsNewNumber (SameFact facts) chosen) (IsNewNumber (SameFact facts) (chosen ++ n ∷ [])) before now (λ u m v. stands_grown facts chosen n u v) z
 
 chosen_grown : (facts : List ℕ) (steps : List Uses) (chosen : List ℕ) (n j : ℕ) (x : Uses) → IsChosenStep (SameFact facts) steps chosen j x → IsChosenStep (SameFact facts) steps (chosen ++ n ∷ []) j x
 chosen_grown facts steps chosen n j x r = record { before = r.before; chosen_at = grown chosen (n ∷ []) j r.before r.chosen_at; old = r.old; at = r.at; uses = uses_stand facts chosen n (numbers_used r.old) (numbers_used x) r.uses }

@@ -1,5 +1,5 @@
 -- The first steps of a trace, by the numbers of the kept crates.
-use Rattle.std.proofs.Common.{◌≡◌, ℕ, zero, suc, ◌<◌, List, [], ◌∷◌, All, Some, Contains, length, get_or, map, option_map, refl, sym, ap, ◌∙◌, subst, arith}
+use Rattle.std.proofs.Common.{◌≡◌, ℕ, ◌<◌, List, [], ◌∷◌, All, Some, Contains, length, get_or, map, option_map, refl, sym, ap, ◌∙◌, subst, arith}
 use Rattle.std.proofs.lemmas.List.{length-map}
 use Rattle.std.proofs.lemmas.Option.{get_or_from_slice_get, slice_get-map, slice_get-get_or, slice_get_within, same_Some}
 use Rattle.std.specs.List.{AllZip, slice_get}
@@ -11,7 +11,9 @@ use Rattle.krates_selection.specs.declared.kept.KeptStep.{KeptStep}
 use Rattle.krates_selection.specs.declared.key.KeptFactKey.{KeptFactKey}
 use Rattle.krates_selection.specs.declared.kept_tables.KeptTables.{KeptTables}
 use Rattle.krates_selection.proofs.KeptFactLemmas.{kept_crates, same_in}
+use Rattle.krates_selection.proofs.PickedParts.{own_firsts, part_picked, same_fact_tells}
 use Rattle.krates_selection.proofs.PickedSteps.{seen_back}
+use Rattle.krates_selection.proofs.Places.{there_is}
 use Rattle.krates_selection.proofs.ToldParts.{use_these}
 use Rattle.krates_ids.specs.Identity.{id_cmp}
 use Rattle.krates_selection.proofs.Steps.{names_once}
@@ -22,6 +24,7 @@ use Rattle.krates_rules.proofs.ListsOfSteps.{contained_derived}
 use Rattle.krates_rules.proofs.OnlyOne.{place_in}
 use Rattle.krates_rules.proofs.Readings.{ReadsOnce, left_of, right_of}
 use Rattle.krates_rules.proofs.Standings.{contains_at}
+use Rattle.krates_rules.specs.Checks.{PartsFollow}
 use Rattle.krates_rules.specs.Derivation.{Derivable}
 use Rattle.krates_rules.specs.Facts.{Id, Fact, Crate}
 use Rattle.krates_rules.specs.Questions.{questions}
@@ -31,7 +34,7 @@ use Rattle.krates_rules.specs.Setting.{SettingModel}
 use Rattle.krates_rules.specs.Steps.{EachFollows, IsEarlier, StepModel}
 use Rattle.krates_rules.specs.Uses.{numbers_used}
 use Rattle.krates_rules.specs.declared.uses.Uses.{Uses}
-use Rattle.krates_selection.specs.PartOfSteps.{AreBackward, HaveOwnNumbers, IsChosenFor, IsPartBy, SameFact, ArePicked, FirstsFollow, FirstsHaveOwnFacts, HaveTheseFacts, IsPicked, UseThese}
+use Rattle.krates_selection.specs.PartOfSteps.{AreBackward, HaveOwnNumbers, IsChosenFor, IsPartBy, SameFact, ArePicked, HaveTheseFacts, IsPicked, UseThese}
 
 abbrev pub uses_of : List NumberedStep → List Uses
 uses_of steps = map (λ (x : NumberedStep). x.reason.uses) steps
@@ -63,12 +66,6 @@ kept_facts t s steps tr crates k d lt =
     let derived = contained_derived (questions r s) tr.steps tr.follows w.0 (contains_at tr.steps k w.0 w.1) in
     record { fact = w.0.fact; names = w.2.fact; kept = kept_crates (questions r s) r (kids_in t) crates (λ i h. (h.node, h.has_node)) x.fact w.0.fact w.2.fact derived }
 
--- an element at a place
-kept_at : {A : Type 0} (xs : List A) (j : ℕ) → j < length xs → (y : A) × (slice_get xs j ≡ Some y)
-kept_at [] j low = absurd (omega (arith, low))
-kept_at (x ∷ xs) zero low = (x, refl)
-kept_at (x ∷ xs) (suc j) low = kept_at xs j (omega (arith, low))
-
 home_low : (n : ℕ) (f : KeptModel) → IsBelow n f → home f < n
 home_low n (KeepsCrate krate) low = low
 home_low n (Enables krate name) low = low
@@ -78,7 +75,7 @@ home_low n (Toggles by krate name) low = low.0
 -- the crate of each key has a number
 pub homes_low : (t : KeptTables) (facts : List NumberedFact) (keys : List KeptFactKey) → AllZip (IsKeyOf t) facts keys → All (λ f. home f < length (kids_in t)) (map key_view keys)
 homes_low t facts keys z k d lt =
-    let y = kept_at keys k (omega (arith, lt, length-map keys key_view)) in
+    let y = there_is keys k (omega (arith, lt, length-map keys key_view)) in
     let x = left_of (IsKeyOf t) facts keys k y.0 z y.1 in
     let there = get_or_from_slice_get (map key_view keys) k (key_view y.0) d (slice_get-map key_view keys k ∙ ap (option_map key_view) y.1) in
     subst (λ f. home f < length (kids_in t)) (sym there) (home_low (length (kids_in t)) (key_view y.0) x.2.below)
@@ -150,7 +147,7 @@ module _ (tells : OrderTellsSame) (t : KeptTables) (s : SettingModel) (steps : L
       let w = each k lt in
       let now = w.now in
       let within : now < length kept = omega (arith, c.long, slice_get_within chosen now w.stands.number w.stands.chosen_at) in
-      let z = kept_at kept now within in
+      let z = there_is kept now within in
       let p = picked_at part chosen now z.0 (c.each now z.0 z.1) in
       let number : p.before ≡ w.stands.number = same_Some p.before w.stands.number (sym p.chosen_at ∙ w.stands.chosen_at) in
       let old = ap (slice_get tr.steps) (sym number) ∙ p.at in
@@ -160,10 +157,10 @@ module _ (tells : OrderTellsSame) (t : KeptTables) (s : SettingModel) (steps : L
       (slice_get-map step (steps_in (kids_in t) kept) now ∙ ap (option_map step) (slice_get-map (step_in (kids_in t)) kept now ∙ ap (option_map (step_in (kids_in t))) z.1) ∙ ap (λ (g : Fact). Some g) (p.fact ∙ same ∙ is))
 
   -- the first steps explain all that the trace does
-  pub steps_are : ReadsOnce → FirstsFollow → FirstsHaveOwnFacts → (numbers : List ℕ) (uses part : List Uses) (chosen : List ℕ) (kept : List KeptStep) → AreFactNumbers (map key_view keys) numbers → uses ≡ uses_of steps
+  pub steps_are : ReadsOnce → PartsFollow → (numbers : List ℕ) (uses part : List Uses) (chosen : List ℕ) (kept : List KeptStep) → AreFactNumbers (map key_view keys) numbers → uses ≡ uses_of steps
       → IsPartBy (SameFact numbers) uses chosen part → HaveOwnNumbers numbers chosen → ((k : ℕ) → k < length uses → IsChosenFor numbers chosen k) → AreChosen keys steps chosen part kept
       → AreStepsOf (document_in t) s (kids_in t) steps kept
-  steps_are once follow own numbers uses part chosen kept n same p ownnumbers each c =
+  steps_are once follow numbers uses part chosen kept n same p own each c =
       let r = document_in t in
       let kids = kids_in t in
       let whole = tr.steps in
@@ -171,11 +168,11 @@ module _ (tells : OrderTellsSame) (t : KeptTables) (s : SettingModel) (steps : L
       let these : UseThese whole uses = subst (UseThese whole) (sym same) (shown_uses r steps whole tr.shown) in
       let have = have_facts numbers n in
       let picked = are_picked part chosen kept c in
-      let follows = follow r s whole small uses part numbers chosen these have p picked tr.follows in
+      let follows = follow r s whole chosen small (part_picked (SameFact numbers) whole small uses part chosen (same_fact_tells whole numbers have) these p picked) tr.follows in
       record {
         below = are_below part chosen kept c;
         backward = follow_backward (questions r s) small (uses_in kept) (use_these kids kept) follows;
-        own = own whole small part numbers chosen have ownnumbers picked;
+        own = own_firsts whole small part numbers chosen have own picked;
         follows = follows;
         facts = facts_there once numbers part chosen kept n (λ k lt. each k (subst (λ (us : List Uses). k < length us) (sym same) lt)) c;
       }

@@ -8,7 +8,7 @@ use Rattle.krates_cm.specs.Document.{NodeModel, NodeDepModel}
 use Rattle.krates_selection.specs.Selection.{id_at, no_id}
 use Rattle.krates_selection.specs.KeptTables.{IsChildAt, IsKeptChild, IsKeptIn, IsKeptNode, IsNumberAt, document_in, kids_in}
 use Rattle.krates_selection.specs.declared.kept_tables.KeptTables.{KeptTables}
-use Rattle.krates_selection.proofs.FactPlaces.{zip_long}
+use Rattle.std.proofs.lemmas.Slice.Zip.{AllZip-long}
 use Rattle.krates_ids.specs.Identity.{Identity}
 use Rattle.krates_questions.proofs.Lookups.{one_id}
 use Rattle.krates_document.specs.CrateTable.{IsNumberOf, at_number}
@@ -50,7 +50,7 @@ pub number_within : (t : KeptTables) (i : Id) (number : Option ℕ) → IsNumber
 number_within t i None n = tt
 number_within t i (Some m) n =
     let ids = t.context.document.now.ids.now.table.ids.items in
-    let long = zip_long (IsNumberOf (map id_of t.krates.now)) (map id_of ids) t.numbers.now t.numbered in
+    let long = AllZip-long (IsNumberOf (map id_of t.krates.now)) (map id_of ids) t.numbers.now t.numbered in
     omega (arith, slice_get_within (map id_of ids) m i n, length-map ids id_of, long)
 
 -- ---- what is at a place

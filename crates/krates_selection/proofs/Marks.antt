@@ -2,12 +2,13 @@
 use Rattle.std.proofs.Common.{◌≡◌, ◌↔◌, ◌⊎◌, inl, inr, ℕ, zero, suc, ◌+◌, ◌<◌, ◌≤◌, List, [], ◌∷◌, Bool, true, false, Option, Some, Contains, length, replicate, arith, refl, sym, ap, ◌∙◌, subst}
 use Rattle.std.proofs.Math.ListN.{set}
 use Rattle.std.proofs.lemmas.Bool.{cases_lt}
+use Rattle.std.proofs.lemmas.List.{length-replicate, length-set}
 use Rattle.std.proofs.lemmas.List.Elements.{Contains-append_left, Contains-append_right, Contains-append_cases}
 use Rattle.std.proofs.lemmas.Option.{same_Some}
 use Rattle.std.specs.List.{slice_get}
 use Rattle.krates_rules.specs.Uses.{number_in, numbers_used}
 use Rattle.krates_rules.specs.declared.uses.Uses.{Uses}
-use Rattle.krates_selection.specs.PartOfSteps.{IsMarked, HasMarkedUser, IsAloneMarked, AreMarkedFrom, AreBackward}
+use Rattle.krates_selection.specs.PartOfSteps.{IsMarked, HasMarkedUser, AreMarkedFrom, AreBackward}
 
 pub marked_set : (xs : List Bool) (i : ℕ) → i < length xs → (k : ℕ) → IsMarked (set xs i true) k ↔ (IsMarked xs k ⊎ (k ≡ i))
 marked_set [] i lt k = absurd (omega (arith, lt))
@@ -58,14 +59,24 @@ both_marked old mid new uses one two k =
 
 -- ---- going down from the last step
 
-pub marked_start : (steps : List Uses) (last from : ℕ) (marks : List Bool) → from ≡ last + 1 → length marks ≡ length steps → IsAloneMarked last marks → AreMarkedFrom steps last from marks
-marked_start steps last from marks is long alone = record {
-  long = long;
-  itself = (alone last).1 refl;
-  low = λ k m. omega (arith, (alone k).0 m);
-  closed = λ k x u le m at among. absurd (omega (arith, le, is, (alone k).0 m));
-  used = λ k m lt. absurd (omega (arith, lt, (alone k).0 m));
+-- the last step alone is marked
+pub marked_start : (steps : List Uses) (last : ℕ) (marks : List Bool) → last < length steps → marks ≡ replicate (length steps) false → AreMarkedFrom steps last (last + 1) (set marks last true)
+marked_start steps last marks lt none = record {
+  long = length-set marks last true ∙ long;
+  itself = (told last).1 (inr refl);
+  low = λ k m. omega (arith, alone k m);
+  closed = λ k x u le m at among. absurd (omega (arith, le, alone k m));
+  used = λ k m low. absurd (omega (arith, low, alone k m));
 }
+  where
+    long : length marks ≡ length steps
+    long = ap length none ∙ length-replicate (length steps) false
+
+    told : (k : ℕ) → IsMarked (set marks last true) k ↔ (IsMarked marks k ⊎ (k ≡ last))
+    told = marked_set marks last (omega (arith, lt, long))
+
+    alone : (k : ℕ) → IsMarked (set marks last true) k → k ≡ last
+    alone k m = elim ((told k).0 m) [ inl h ↦ absurd (none_marked (length steps) k (subst (λ (ms : List Bool). IsMarked ms k) none h)) | inr e ↦ e ]
 
 -- the step is marked, and so is now what it uses
 pub marked_down : (steps : List Uses) (last n : ℕ) (x : Uses) (old new : List Bool) → AreBackward steps → slice_get steps n ≡ Some x → IsMarked old n → length new ≡ length old

@@ -1,8 +1,13 @@
 -- The part of a list on which one step depends.
-use Rattle.std.proofs.Common.{◌≡◌, inl, inr, ℕ, zero, suc, ◌+◌, ◌<◌, ◌≤◌, List, [], ◌∷◌, ◌++◌, Some, Contains, length, get_or, length-append, arith, refl, sym, ap, ◌∙◌, subst}
+use Rattle.std.proofs.Common.{◌≡◌, inl, inr, ℕ, ◌+◌, ◌<◌, ◌≤◌, List, [], ◌∷◌, ◌++◌, Some, Contains, length, get_or, length-append, arith, refl, sym, ap, ◌∙◌, subst}
 use Rattle.std.proofs.lemmas.Bool.{cases_lt, cases_order}
 use Rattle.std.proofs.lemmas.Option.{slice_get_within, slice_get-get_or, same_Some}
 use Rattle.std.specs.List.{AllZip, slice_get}
+use Rattle.krates_rules.proofs.Members.{contains_of}
+use Rattle.krates_rules.proofs.OnlyOne.{place_in}
+use Rattle.krates_rules.proofs.Readings.{right_of}
+use Rattle.krates_rules.proofs.Standings.{contains_at}
+use Rattle.krates_rules.proofs.Zips.{zip_there}
 use Rattle.krates_rules.specs.StepParts.{Increase}
 use Rattle.krates_rules.specs.Uses.{numbers_used}
 use Rattle.krates_rules.specs.declared.uses.Uses.{Uses}
@@ -29,6 +34,9 @@ own_number numbers k h = record {
     long : (xs : List ℕ) (n : ℕ) → length xs ≡ n → length (xs ++ n ∷ []) ≡ n + 1
     long xs n e = omega (arith, e, length-append xs (n ∷ []))
 
+pub own_numbers : (k count : ℕ) (numbers seen : List ℕ) → k ≡ count → seen ≡ numbers → AreOwnNumbers k numbers → AreOwnNumbers count seen
+own_numbers k count numbers seen is same own = rw (sym is, same) own
+
 same_number : (count : ℕ) (facts : List ℕ) (j k : ℕ) → AreOwnNumbers count facts → j < count → k < count → SameFact facts j k → j ≡ k
 same_number count facts j k own one other same = same_Some j k (sym (own.each j one) ∙ same ∙ own.each k other)
 
@@ -53,12 +61,6 @@ needed_choice c last back own needed = record {
 
 -- ---- the part
 
-zip_in : {A B : Type 0} (R S : A → B → Type 0) (xs : List A) (ys : List B) → ((a : A) (b : B) → Contains xs a → R a b → S a b) → AllZip R xs ys → AllZip S xs ys
-zip_in R S [] [] f z = tt
-zip_in R S [] (y ∷ ys) f z = absurd z
-zip_in R S (x ∷ xs) [] f z = absurd z
-zip_in R S (x ∷ xs) (y ∷ ys) f z = (f x y (0, omega arith, refl) z.0, zip_in R S xs ys (λ a b c r. f a b (suc c.0, omega (arith, c.1), c.2) r) z.1)
-
 -- where each step has a fact of its own, a number stands for exactly that step
 pub own_part : (c : MarkedSteps) (chosen : List ℕ) (part : List Uses) → AreBackward c.steps.now → AreOwnNumbers (length c.steps.now) c.facts.now → IsPartBy (SameFact c.facts.now) c.steps.now chosen part → IsPartBy SameNumber c.steps.now chosen part
 own_part c chosen part back own p = record { increase = p.increase; long = p.long; each = each }
@@ -74,7 +76,7 @@ own_part c chosen part back own p = record { increase = p.increase; long = p.lon
           chosen_at = r.chosen_at;
           old = r.old;
           at = r.at;
-          uses = zip_in (IsNewNumber (SameFact c.facts.now) chosen) (IsNewNumber SameNumber chosen) (numbers_used r.old) (numbers_used x) very r.uses;
+          uses = zip_there (IsNewNumber (SameFact c.facts.now) chosen) (IsNewNumber SameNumber chosen) (numbers_used r.old) (numbers_used x) (λ a m b. very a b (contains_of (numbers_used r.old) a m)) r.uses;
         }
 
 -- the last step is chosen last
@@ -107,12 +109,10 @@ before_by chosen up j k a b one other lt = elim (cases_order j k) [
 ]
 
 among_zip : {A B : Type 0} (R : A → B → Type 0) (xs : List A) (ys : List B) (a : A) → AllZip R xs ys → Contains xs a → (b : B) × Contains ys b × R a b
-among_zip R [] ys a z (k, lt, is) = absurd (omega (arith, lt))
-among_zip R (x ∷ xs) [] a z c = absurd z
-among_zip R (x ∷ xs) (y ∷ ys) a z (zero, lt, is) = (y, (0, omega arith, refl), subst (λ t. R t y) is z.0)
-among_zip R (x ∷ xs) (y ∷ ys) a z (suc k, lt, is) =
-    let w = among_zip R xs ys a z.1 (k, omega (arith, lt), is) in
-    (w.0, (suc w.1.0, omega (arith, w.1.1), w.1.2), w.2)
+among_zip R xs ys a z c =
+    let at = place_in xs a c in
+    let b = right_of R xs ys at.0 a z at.1 in
+    (b.0, contains_at ys at.0 b.0 b.1, b.2)
 
 -- the new number of a chosen step is its place
 very_place : (chosen : List ℕ) → Increase chosen → (a now k : ℕ) → IsNewNumber SameNumber chosen a now → slice_get chosen k ≡ Some a → now ≡ k

@@ -1,5 +1,5 @@
 -- Steps that are picked one by one.
-use Rattle.std.proofs.Common.{◌≡◌, ◌⊎◌, inl, inr, ℕ, zero, suc, ◌+◌, ◌<◌, ◌≤◌, List, [], ◌∷◌, ◌++◌, All, length, get_or, map, Some, option_map, length-append, refl, sym, ap, ◌∙◌, subst, arith}
+use Rattle.std.proofs.Common.{◌≡◌, inl, inr, ℕ, zero, suc, ◌+◌, ◌<◌, ◌≤◌, List, [], ◌∷◌, ◌++◌, All, length, get_or, map, Some, option_map, length-append, refl, sym, ap, ◌∙◌, subst, arith}
 use Rattle.std.proofs.lemmas.List.{length-map}
 use Rattle.std.proofs.lemmas.Option.{slice_get-map, slice_get_read, slice_get-get_or, same_Some}
 use Rattle.std.specs.List.{slice_get}
@@ -10,15 +10,10 @@ use Rattle.krates_selection.specs.declared.kept.Explanation.{Explanation}
 use Rattle.krates_selection.specs.declared.kept.KeptStep.{KeptStep}
 use Rattle.krates_selection.specs.declared.key.KeptFactKey.{KeptFactKey}
 use Rattle.krates_selection.specs.declared.trace.NumberedStep.{NumberedStep}
+use Rattle.krates_selection.proofs.Places.{last_of}
 use Rattle.krates_rules.specs.Uses.{numbers_used}
 use Rattle.krates_rules.specs.declared.uses.Uses.{Uses}
 use Rattle.krates_selection.specs.PartOfSteps.{ArePicked, IsPicked}
-
-pub pushed_at : {A : Type 0} (xs : List A) (y : A) (k : ℕ) (x : A) → slice_get (xs ++ y ∷ []) k ≡ Some x → (slice_get xs k ≡ Some x) ⊎ ((k ≡ length xs) × (x ≡ y))
-pushed_at [] y zero x at = inr (refl, sym (same_Some y x at))
-pushed_at [] y (suc k) x at = absurd cc
-pushed_at (z ∷ zs) y zero x at = inl at
-pushed_at (z ∷ zs) y (suc k) x at = elim (pushed_at zs y k x at) [ inl h ↦ inl h | inr h ↦ inr (ap suc h.0, h.1) ]
 
 -- an element of the list of views is the view of an element
 pub seen_back : {A B : Type 0} (f : A → B) (xs : List A) (k : ℕ) (y : B) → slice_get (map f xs) k ≡ Some y → (x : A) × (slice_get xs k ≡ Some x) × (f x ≡ y)
@@ -37,7 +32,7 @@ none_yet P xs e = record { long = ap length e; each = λ k x at. absurd (let no 
 pub one_more : {A : Type 0} (P : ℕ → A → Type 0) (n : ℕ) (xs : List A) (y : A) → EachSoFar P n xs → P n y → EachSoFar P (n + 1) (xs ++ y ∷ [])
 one_more P n xs y h here = record {
   long = omega (arith, length-append xs (y ∷ []), h.long);
-  each = λ k x at. elim (pushed_at xs y k x at) [
+  each = λ k x at. elim (last_of xs y k x at) [
     | inl there ↦ h.each k x there
     | inr is ↦ (let k_is : k ≡ n = is.0 ∙ h.long in subst (λ j. P j x) (sym k_is) (subst (P n) (sym is.1) here))
   ];

@@ -1,13 +1,10 @@
 -- Parts of a list of steps, by number: which steps a part has, what each of them uses there, and how they are chosen.
 use Rattle.std.specs.Prelude.{◌≡◌, ℕ, ◌+◌, ◌<◌, ◌≤◌, List, Some, Contains, length, slice_get, ◌↔◌, map, Bool, true, Option, false}
 use Rattle.std.specs.List.{AllZip}
-use Rattle.krates_rules.specs.StepParts.{Increase, HaveOwnFacts, IsUsedLater}
+use Rattle.krates_rules.specs.StepParts.{Increase}
 use Rattle.krates_rules.specs.Uses.{numbers_used}
 use Rattle.krates_rules.specs.declared.uses.Uses.{Uses}
-use Rattle.krates_rules.specs.Questions.{questions}
-use Rattle.krates_rules.specs.Resolved.{Resolved}
-use Rattle.krates_rules.specs.Setting.{SettingModel}
-use Rattle.krates_rules.specs.Steps.{EachFollows, EndsIn, StepModel}
+use Rattle.krates_rules.specs.Steps.{StepModel}
 use Rattle.krates_selection.specs.declared.part_of_steps.MarkedSteps.{MarkedSteps}
 use Rattle.krates_selection.specs.declared.part_of_steps.Making.{Making}
 
@@ -71,7 +68,7 @@ pub record IsChosenFor (facts chosen : List ℕ) (number : ℕ) : Type 0 where
   pub now : ℕ
   pub stands : IsNewNumber (SameFact facts) chosen number now
 
--- ---- parts of steps with facts, and their laws
+-- ---- parts of steps with facts
 
 -- the steps use what the numbers say
 abbrev pub UseThese : List StepModel → List Uses → Type 0
@@ -98,40 +95,6 @@ pub record IsPicked (whole : List StepModel) (chosen : List ℕ) (part : List Us
 pub record ArePicked (whole : List StepModel) (chosen : List ℕ) (part : List Uses) (small : List StepModel) : Type 0 where
   pub long : length small ≡ length chosen
   pub each : (number : ℕ) (x : StepModel) → slice_get small number ≡ Some x → IsPicked whole chosen part number x
-
--- ---- laws
-
--- the steps of a part follow if those of the whole list do
-abbrev pub PartsFollow : Type 0
-PartsFollow = (r : Resolved) (s : SettingModel) (whole small : List StepModel) (steps part : List Uses) (chosen : List ℕ)
-    → UseThese whole steps → IsPartBy SameNumber steps chosen part → ArePicked whole chosen part small
-    → EachFollows (questions r s) whole → EachFollows (questions r s) small
-
--- no fact occurs twice in a part if none does in the whole list
-abbrev pub PartsHaveOwnFacts : Type 0
-PartsHaveOwnFacts = (whole small : List StepModel) (steps part : List Uses) (chosen : List ℕ)
-    → IsPartBy SameNumber steps chosen part → ArePicked whole chosen part small → HaveOwnFacts whole → HaveOwnFacts small
-
--- a part that ends at a step ends in its fact
-abbrev pub PartsEnd : Type 0
-PartsEnd = (whole small : List StepModel) (part : List Uses) (chosen : List ℕ) (last : ℕ) (x : StepModel)
-    → EndsAt chosen last → ArePicked whole chosen part small → slice_get whole last ≡ Some x → EndsIn small x.fact
-
--- and each other step is used by a later one
-abbrev pub PartsAreUsed : Type 0
-PartsAreUsed = (whole small : List StepModel) (part : List Uses) (chosen : List ℕ)
-    → length part ≡ length chosen → AreUsedBehind part → ArePicked whole chosen part small → (k : ℕ) → k + 1 < length small → IsUsedLater small k
-
--- the first steps of each fact follow if those of the whole list do
-abbrev pub FirstsFollow : Type 0
-FirstsFollow = (r : Resolved) (s : SettingModel) (whole small : List StepModel) (steps part : List Uses) (facts chosen : List ℕ)
-    → UseThese whole steps → HaveTheseFacts whole facts → IsPartBy (SameFact facts) steps chosen part → ArePicked whole chosen part small
-    → EachFollows (questions r s) whole → EachFollows (questions r s) small
-
--- and no fact occurs twice among them
-abbrev pub FirstsHaveOwnFacts : Type 0
-FirstsHaveOwnFacts = (whole small : List StepModel) (part : List Uses) (facts chosen : List ℕ)
-    → HaveTheseFacts whole facts → HaveOwnNumbers facts chosen → ArePicked whole chosen part small → HaveOwnFacts small
 
 -- ---- steps that are chosen one by one
 
@@ -202,9 +165,6 @@ pub record AreFirst (facts : List ℕ) (marks : List Bool) : Type 0 where
   pub reached : (k : ℕ) → k < length facts → HasChosen facts marks k
 
 -- ---- the steps that a step needs
-
-abbrev pub IsAloneMarked : ℕ → List Bool → Type 0
-IsAloneMarked last marks = (k : ℕ) → IsMarked marks k ↔ (k ≡ last)
 
 -- a marked step at the place or after it uses the other
 pub record HasMarkedUser (steps : List Uses) (marks : List Bool) (from number : ℕ) : Type 0 where

@@ -10,7 +10,6 @@ ghost use Rattle.krates_rules.specs.Facts.{Crate, Id};
 use crate::kept::KeptStep;
 use crate::kept_tables::KeptTables;
 use crate::key::{KeptFactKey, fact_numbers, fact_of};
-use crate::laws as step_laws;
 use crate::part_of_steps::{PartOfSteps, first_steps};
 use crate::trace::NumberedStep;
 use krates_ids::laws;
@@ -29,7 +28,7 @@ impl KeptTables<'_, '_> {
     {
         laws::one_reading();
         laws::comparison();
-        step_laws::firsts();
+        krates_rules::laws::parts_follow();
         let alloc = self.context.alloc;
         let keys = self.keys_of(steps)?;
         let numbers = fact_numbers(alloc, self.krates.len(), &keys)?;

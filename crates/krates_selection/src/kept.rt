@@ -9,7 +9,6 @@ ghost use Rattle.krates_selection.specs.Selection.{id_at};
 ghost use Rattle.krates_rules.specs.Resolved.{id_of};
 ghost use Rattle.krates_rules.specs.Uses.{numbers_used};
 
-use crate::laws;
 use crate::part_of_steps::{PartOfSteps, part_for};
 use krates_ids::Kid;
 use krates_rules::{DepKind, Derivation, Fact, Step, Uses};
@@ -117,7 +116,7 @@ impl<'a, 's> Explanation<'a, 's> {
         requires within { number < length self.now.steps.now }
         ensures { IfOk result (λ d. IsDerivationOf self.now number d.steps.items) }
     {
-        laws::parts();
+        krates_rules::laws::parts_follow();
         let uses = self.uses(alloc)?;
         let part = part_for(alloc, &uses, number)?;
         let steps = self.picked(alloc, &part)?;

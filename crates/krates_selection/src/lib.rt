@@ -13,7 +13,6 @@ mod explaining;
 pub mod kept;
 pub mod kept_tables;
 mod key;
-mod laws;
 mod part_of_steps;
 pub mod selection;
 pub mod trace;

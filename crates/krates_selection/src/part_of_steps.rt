@@ -1,7 +1,7 @@
 //! Parts of a list of steps: those on which one step depends, and the first step of each fact, chosen one by one and renumbered.
 
 ghost use Rattle.std.specs.Prelude.{◌<◌, IfOk, length, ◌≡◌, All, ℕ, ◌↔◌, ◌+◌, ◌⊎◌, Contains, OnOk};
-ghost use Rattle.krates_selection.specs.PartOfSteps.{AreOwnNumbers, AreBackward, AreUsedBehind, EndsAt, IsPartBy, SameNumber, AreFirst, HaveOwnNumbers, IsChosenFor, SameFact, IsMarked, AreMarkedFrom, AreNeeded, IsAloneMarked, HasNewNumber, IsChoice, IsMade, IsMadeBelow, IsNumbered};
+ghost use Rattle.krates_selection.specs.PartOfSteps.{AreBackward, AreUsedBehind, EndsAt, IsPartBy, SameNumber, AreFirst, HaveOwnNumbers, IsChosenFor, SameFact, IsMarked, AreMarkedFrom, AreNeeded, HasNewNumber, IsChoice, IsMade, IsMadeBelow, IsNumbered};
 ghost use Rattle.krates_rules.specs.Uses.{number_in, numbers_used};
 ghost use Rattle.std.specs.List.{AllZip};
 
@@ -33,24 +33,16 @@ pub(crate) fn part_for(
     ensures used { IfOk result (λ part. AreUsedBehind part.uses.items) }
 {
     let marks = needed_for(alloc, steps, last)?;
-    let numbers = numbers_below(alloc, steps.len())?;
+    let mut numbers = Vec::with_capacity(alloc, steps.len())?;
+    for number in 0..steps.len() {
+        numbers.push(number)?;
+    }
     let choice = MarkedSteps {
         steps,
         facts: &numbers,
         marks: &marks,
     };
     part_of(alloc, &choice, steps.len())
-}
-
-/// The numbers below the count, in order.
-fn numbers_below(alloc: Global, count: usize) -> Result<Vec<usize>, AllocError>
-    ensures { IfOk result (λ numbers. AreOwnNumbers count numbers.items) }
-{
-    let mut numbers = Vec::new(alloc);
-    for number in 0..count {
-        numbers.push(number)?;
-    }
-    Ok(numbers)
 }
 
 /// The part of a list of steps that has the first step of each fact, for steps whose facts have these numbers, below the count. Each
@@ -94,35 +86,20 @@ fn first_marks(alloc: Global, facts: &[usize], count: usize) -> Result<Vec<bool>
     Ok(marks)
 }
 
-/// Marks the steps on which a step depends, itself among them.
-pub(crate) fn needed_for(
-    alloc: Global,
-    steps: &[Uses],
-    last: usize,
-) -> Result<Vec<bool>, AllocError>
+/// Marks the steps on which a step depends, itself among them: goes down from it, and marks what each marked one uses.
+fn needed_for(alloc: Global, steps: &[Uses], last: usize) -> Result<Vec<bool>, AllocError>
     requires backward { AreBackward steps.now }
     requires within { last < length steps.now }
     ensures { IfOk result (λ marks. AreNeeded steps.now last marks.items) }
 {
     let mut marks: Vec<bool> = vec![in alloc; false; steps.len()]?;
     marks[last] = true;
-    mark_all(steps, last, &mut marks);
-    Ok(marks)
-}
-
-/// Goes down from the last step, and marks what each marked one uses.
-fn mark_all(steps: &[Uses], last: usize, marks: &mut [bool])
-    requires backward { AreBackward steps.now }
-    requires within { last < length steps.now }
-    requires long { length marks.old ≡ length steps.now }
-    requires alone { IsAloneMarked last marks.old }
-    ensures { AreNeeded steps.now last marks.new }
-{
     let mut left = last + 1;
     while left > 0 {
         left -= 1;
-        mark_step(steps, last, left, marks);
+        mark_step(steps, last, left, &mut marks);
     }
+    Ok(marks)
 }
 
 /// Marks what a step uses, if the step is marked.
@@ -133,18 +110,9 @@ fn mark_step(steps: &[Uses], last: usize, number: usize, marks: &mut [bool])
     ensures { AreMarkedFrom steps.now last number marks.new }
 {
     if marks[number] {
-        mark_uses(&steps[number], marks);
+        mark(steps[number].first, marks);
+        mark(steps[number].second, marks);
     }
-}
-
-/// Marks what a step uses.
-fn mark_uses(uses: &Uses, marks: &mut [bool])
-    requires { (k : ℕ) → Contains (numbers_used uses.now) k → k < length marks.old }
-    ensures long { length marks.new ≡ length marks.old }
-    ensures marked { (k : ℕ) → IsMarked marks.new k ↔ (IsMarked marks.old k ⊎ Contains (numbers_used uses.now) k) }
-{
-    mark(uses.first, marks);
-    mark(uses.second, marks);
 }
 
 /// Marks a step.
@@ -183,11 +151,7 @@ struct Making {
 /// The part of a list that has the chosen steps, whose facts have numbers below the count.
 ///
 /// Time: O(n).
-pub(crate) fn part_of(
-    alloc: Global,
-    choice: &MarkedSteps<'_>,
-    count: usize,
-) -> Result<PartOfSteps, AllocError>
+fn part_of(alloc: Global, choice: &MarkedSteps<'_>, count: usize) -> Result<PartOfSteps, AllocError>
     requires { IsChoice choice.now count }
     ensures { IfOk result (λ part. IsMade choice.now part.chosen.items part.uses.items) }
 {
@@ -197,23 +161,13 @@ pub(crate) fn part_of(
         uses: Vec::with_capacity(alloc, choice.steps.len())?,
         numbers,
     };
-    choose_all(choice, &mut making)?;
+    for number in 0..choice.steps.len() {
+        choose(choice, number, &mut making)?;
+    }
     Ok(PartOfSteps {
         chosen: making.chosen,
         uses: making.uses,
     })
-}
-
-/// Chooses each marked step.
-fn choose_all(choice: &MarkedSteps<'_>, making: &mut Making) -> Result<(), AllocError>
-    requires choice { IsChoice choice.now (length making.old.numbers.items) }
-    requires empty { IsMadeBelow choice.now 0 making.old }
-    ensures { OnOk result (IsMadeBelow choice.now (length choice.now.steps.now) making.new) }
-{
-    for number in 0..choice.steps.len() {
-        choose(choice, number, making)?;
-    }
-    Ok(())
 }
 
 /// Chooses the next step if it is marked.

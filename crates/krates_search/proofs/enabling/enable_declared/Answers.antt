@@ -1,16 +1,16 @@
 use Rattle.std.proofs.Common.{String, Global, Contains, map, refl, sym, ◌∙◌, subst, arith, string_bytes}
-use Rattle.krates_cm.specs.Document.{Text, text_view, dependency_view}
+use Rattle.krates_cm.specs.Document.{Text, text_view}
 use Rattle.krates_rules.specs.Facts.{Crate, Feature}
 use Rattle.krates_rules.specs.Rules.{default_name}
 use Rattle.krates_search.specs.SearchContext.{FindsListed}
 use Rattle.krates_rules.specs.Resolved.{id_of}
-use Rattle.krates_search.specs.declared.search_state.SearchState.{SearchState}
+use Rattle.krates_questions.proofs.FeatureNumbers.{listed_at}
 use Rattle.krates_questions.proofs.FeatureValues.{value_at}
+use Rattle.krates_questions.specs.Context.{document_of}
 use Rattle.krates_search.proofs.Finding.{finds_grow}
 use Rattle.krates_search.proofs.Growing.{advances_refl, advances_trans, named_grows}
 use Rattle.krates_rules.proofs.Seen.{seen_more, each_seen}
-use Rattle.krates_search.proofs.enabling.enable_declared.Goals.{then-dependency+in_ok-enable_default, else-dependency}
-use Rattle.krates_search.specs.SearchState.{HasEnabled, MayEnable, Advances, HasEnabledFor}
+use Rattle.krates_search.specs.SearchState.{HasEnabled, MayEnable}
 use Rattle.krates_search.proofs.enabling.enable_declared.Goals as goal
 
 pub loop-name-init : goal.loop-name-init
@@ -54,48 +54,56 @@ loop-name-preserved c =
       step.same_links ∙ inv.2,
     )
 
-pub enable_default-requires-clause-sound : goal.enable_default-requires-clause-sound
-enable_default-requires-clause-sound c = c.loop-name.invariant.0.sound
+pub put_feature-requires-clause-sound : goal.put_feature-requires-clause-sound
+put_feature-requires-clause-sound c = c.loop-name.invariant.0.sound
 
-pub enable_default-requires-clause-kept : goal.enable_default-requires-clause-kept
-enable_default-requires-clause-kept c = c.loop-name.invariant.0.grows.found (Crate (id_of c.args.node.id.now)) c.requires.kept
+pub put_feature-requires-clause-may : goal.put_feature-requires-clause-may
+put_feature-requires-clause-may c =
+    let b = c.args.context.now in
+    let i = id_of c.args.node.id.now in
+    let x = c.loop-name.found in
+    let grows = c.loop-name.invariant.0.grows in
+    let at = c.in-Some.ensures.number i c.requires.node.at in
+    let finds = c.requires.step.by_default c.if-not-dependency.false (listed_at (document_of b) i default_name c.in-Some.number at) in
+    record { krate = i; name = default_name; number_of = (at, c.in-Some.ensures.own); kept = grows.found (Crate i) c.requires.kept; finds = finds_grow b c.args.found.now x c.args.reason (Feature i default_name) grows finds }
 
-pub enable_default-requires-clause-step : goal.enable_default-requires-clause-step
-enable_default-requires-clause-step c lists =
-    finds_grow c.args.context.now c.args.found.now c.loop-name.found c.args.reason (Feature (id_of c.args.node.id.now) default_name) c.loop-name.invariant.0.grows
-    (c.requires.step.by_default c.if-dependency.true lists)
+pub returns-then-not-dependency-clause-advanced : goal.returns-then-not-dependency-clause-advanced
+returns-then-not-dependency-clause-advanced c = c.loop-name.invariant.0
+
+pub returns-then-not-dependency-clause-used : goal.returns-then-not-dependency-clause-used
+returns-then-not-dependency-clause-used c =
+    let b = c.args.context.now in
+    let i = id_of c.args.node.id.now in
+    record { declared = each_seen text_view (HasEnabled b c.loop-name.found i) c.deref-name-items.result.now c.args.dependency.now.features.items c.loop-name.name-index c.deref-name-items.ensures.value (omega arith) c.loop-name.invariant.1; by_default = λ uses lists. absurd (cc (uses, c.if-not-dependency.true)) }
+
+pub returns-then-not-dependency-clause-same_links : goal.returns-then-not-dependency-clause-same_links
+returns-then-not-dependency-clause-same_links c = c.loop-name.invariant.2
+
+pub returns-in_default-clause-advanced : goal.returns-in_default-clause-advanced
+returns-in_default-clause-advanced c = c.loop-name.invariant.0
+
+pub returns-in_default-clause-used : goal.returns-in_default-clause-used
+returns-in_default-clause-used c =
+    let b = c.args.context.now in
+    let i = id_of c.args.node.id.now in
+    record { declared = each_seen text_view (HasEnabled b c.loop-name.found i) c.deref-name-items.result.now c.args.dependency.now.features.items c.loop-name.name-index c.deref-name-items.ensures.value (omega arith) c.loop-name.invariant.1; by_default = λ uses lists. absurd (c.in_default.ensures.number i c.requires.node.at lists) }
+
+pub returns-in_default-clause-same_links : goal.returns-in_default-clause-same_links
+returns-in_default-clause-same_links c = c.loop-name.invariant.2
 
 pub returns-clause-advanced : goal.returns-clause-advanced
-returns-clause-advanced c =
-    let b = c.args.context.now in
-    let x = c.loop-name.found in
-    let inv = c.loop-name.invariant in
-    elim c.if-dependency.branch [
-      | then-dependency+in_ok-enable_default w ↦ subst (Advances b c.args.found.now) (sym w.found-is) (advances_trans b c.args.found.now x w.enable_default.new.found inv.0 w.in_ok-enable_default.ensures.advanced)
-      | else-dependency w ↦ subst (Advances b c.args.found.now) (sym w.found-is) inv.0
-    ]
+returns-clause-advanced c = advances_trans c.args.context.now c.args.found.now c.loop-name.found c.put_feature.new.found c.loop-name.invariant.0 c.in_ok-put_feature.ensures.advanced
 
 pub returns-clause-used : goal.returns-clause-used
 returns-clause-used c =
     let b = c.args.context.now in
     let i = id_of c.args.node.id.now in
-    let d = dependency_view c.args.dependency.now in
-    let x = c.loop-name.found in
-    let inv = c.loop-name.invariant in
-    let named : (g : Text) → Contains d.features g → HasEnabled b x i g =
-    each_seen text_view (HasEnabled b x i) c.deref-name-items.result.now c.args.dependency.now.features.items c.loop-name.name-index c.deref-name-items.ensures.value (omega arith) inv.1 in
-    elim c.if-dependency.branch [
-      | then-dependency+in_ok-enable_default w ↦ (
-          let y = w.enable_default.new.found in
-          let step = w.in_ok-enable_default.ensures in
-          subst (λ (z : SearchState). HasEnabledFor b z d i) (sym w.found-is) (record { declared = λ g among. named_grows b x y i g step.advanced.grows.found (named g among); by_default = λ uses lists. step.enabled lists }))
-      | else-dependency w ↦ subst (λ (z : SearchState). HasEnabledFor b z d i) (sym w.found-is) (record { declared = named; by_default = λ uses lists. absurd (cc (uses, w.if-dependency.false)) })
-    ]
+    let step = c.in_ok-put_feature.ensures in
+    let declared = each_seen text_view (HasEnabled b c.loop-name.found i) c.deref-name-items.result.now c.args.dependency.now.features.items c.loop-name.name-index c.deref-name-items.ensures.value (omega arith) c.loop-name.invariant.1 in
+    record {
+      declared = λ g among. named_grows b c.loop-name.found c.put_feature.new.found i g step.advanced.grows.found (declared g among);
+      by_default = λ uses lists. record { number = c.in-Some.number; among = step.put; at = c.in-Some.ensures.number i c.requires.node.at };
+    }
 
 pub returns-clause-same_links : goal.returns-clause-same_links
-returns-clause-same_links c =
-    let links = c.loop-name.invariant.2 in
-    elim c.if-dependency.branch [
-      | then-dependency+in_ok-enable_default w ↦ rw w.found-is (w.in_ok-enable_default.ensures.same_links ∙ links)
-      | else-dependency w ↦ rw w.found-is links
-    ]
+returns-clause-same_links c = c.in_ok-put_feature.ensures.same_links ∙ c.loop-name.invariant.2

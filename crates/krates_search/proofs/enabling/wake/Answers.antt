@@ -14,12 +14,18 @@ use Rattle.krates_search.proofs.Growth.{mark_sound, mark_grows, with_links}
 use Rattle.krates_rules.proofs.Elements.{contains_or}
 use Rattle.krates_selection.proofs.Steps.{one_way}
 use Rattle.krates_rules.proofs.Seen.{seen_more}
+use Rattle.krates_search.proofs.LinkLemmas.{is_marked}
 use Rattle.krates_search.proofs.Waking.{may_wake}
 use Rattle.krates_questions.specs.Context.{document_of, IsDepAt}
 use Rattle.krates_search.proofs.enabling.wake.Goals as goal
 
-pub is_kept-requires : goal.is_kept-requires
-is_kept-requires c = c.requires.sound.has_links (parent_of c.args.entry.now) (child_of c.args.entry.now) c.args.entry.now.place.index c.args.entry.now.index c.requires.entry.at
+pub kept-requires : goal.kept-requires
+kept-requires c = c.requires.sound.has_links (parent_of c.args.entry.now) (child_of c.args.entry.now) c.args.entry.now.place.index c.args.entry.now.index c.requires.entry.at
+
+pub returns-then-is_some-clause-marked : goal.returns-then-is_some-clause-marked
+returns-then-is_some-clause-marked c =
+    let e = c.args.entry.now in
+    (is_marked c.args.found.now.links e.place.index e.index c.kept.result c.kept.ensures).0 (sym c.is_some.ensures ∙ c.if-is_some.true)
 
 pub mark-waiters-requires : goal.mark-waiters-requires
 mark-waiters-requires c = c.requires.sound.has_links (parent_of c.args.entry.now) (child_of c.args.entry.now) c.args.entry.now.place.index c.args.entry.now.index c.requires.entry.at

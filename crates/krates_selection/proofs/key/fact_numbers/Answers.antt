@@ -1,7 +1,8 @@
 use Rattle.std.proofs.Common.{◌<◌, ◌∙◌, ℕ, IfSome, List, Option, length, map, subst, sym}
 use Rattle.std.proofs.lemmas.List.{length-set}
 use Rattle.krates_selection.specs.KeptFacts.{key_view}
-use Rattle.krates_selection.proofs.FactPlaces.{IsNumberFor, IsPlaceBelow, all_numbered, home_answers, low_home, no_places_yet, none_numbered, number_there, numbers_more, places_more}
+use Rattle.krates_selection.proofs.FactPlaces.{IsFirstPlace, IsNumberFor, IsPlaceBelow, all_numbered, home_answers, low_home, no_places_yet, number_there, numbers_more, places_more}
+use Rattle.krates_selection.proofs.PickedSteps.{none_yet}
 use Rattle.krates_questions.proofs.NodeParts.{within_vec}
 use Rattle.krates_selection.proofs.key.fact_numbers.Goals as goal
 
@@ -9,7 +10,7 @@ pub loop-place-init : goal.loop-place-init
 loop-place-init c = (
   c.in_ok-homes.ensures.long,
   no_places_yet c.args.keys.now c.args.count c.in_ok-homes.homes.items c.in_ok-homes.ensures,
-  none_numbered (map key_view c.args.keys.now) c.in_ok-numbers.numbers.items c.in_ok-numbers.ensures.items,
+  none_yet (IsFirstPlace (map key_view c.args.keys.now)) c.in_ok-numbers.numbers.items c.in_ok-numbers.ensures.items,
 )
 
 pub index_mut-requires : goal.index_mut-requires

@@ -1,6 +1,7 @@
 use Rattle.std.proofs.Common.{◌≡◌, ◌<◌, All, List, length, sym, ap, ◌∙◌, subst, arith}
 use Rattle.std.proofs.lemmas.List.{length-map}
 use Rattle.krates_rules.specs.StepViews.{step_view, steps_view}
+use Rattle.krates_selection.proofs.PickedParts.{end_picked, own_picked, part_picked, same_number_tells, used_picked}
 use Rattle.krates_selection.proofs.ToldParts.{chosen_low, use_these}
 use Rattle.krates_selection.specs.KeptFacts.{explained_steps, kids_of, uses_in}
 use Rattle.krates_selection.specs.declared.kept.KeptStep.{KeptStep}
@@ -34,9 +35,9 @@ returns c =
     let same : uses ≡ uses_in e.steps.now = c.deref.ensures.value ∙ c.in_ok-uses.ensures in
     let these : UseThese whole uses = subst (λ (us : List Uses). UseThese whole us) (sym same) (use_these (kids_of e) e.steps.now) in
     record {
-      ends = λ x at. c.parts.ensures.end whole small part chosen c.args.number x c.in_ok-part.ensures.last picked at;
-      own = λ h. c.parts.ensures.own whole small uses part chosen p picked h;
-      used = λ k lt. c.parts.ensures.used whole small part chosen p.long c.in_ok-part.ensures.used picked k (omega (arith, lt, length-map steps step_view));
-      accepted = λ r s each. record { some = omega (arith, picked.long, c.in_ok-part.ensures.last.count); each = c.parts.ensures.follow r s whole small uses part chosen these p picked each };
+      ends = λ x at. end_picked whole small part chosen c.args.number x c.in_ok-part.ensures.last picked at;
+      own = λ h. own_picked whole small uses part chosen p picked h;
+      used = λ k lt. used_picked whole small part chosen p.long c.in_ok-part.ensures.used picked k (omega (arith, lt, length-map steps step_view));
+      accepted = λ r s each. record { some = omega (arith, picked.long, c.in_ok-part.ensures.last.count); each = c.parts_follow.ensures r s whole chosen small (part_picked SameNumber whole small uses part chosen (same_number_tells whole) these p picked) each };
       ids = c.in_ok-steps.ensures.ids;
     }

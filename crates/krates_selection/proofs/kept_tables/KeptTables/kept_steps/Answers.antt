@@ -1,10 +1,10 @@
 use Rattle.std.proofs.Common.{◌≡◌, ◌<◌, ℕ, All, List, length, map, sym, ap, ◌∙◌, subst}
 use Rattle.std.proofs.lemmas.List.{length-map}
 use Rattle.std.proofs.lemmas.Result.{IfOk-weaker}
+use Rattle.std.proofs.lemmas.Slice.Zip.{AllZip-long}
 use Rattle.std.specs.Global.{Vec}
 use Rattle.std.specs.List.{AllZip}
 use Rattle.krates_selection.proofs.FirstSteps.{follow_backward, homes_low, kept_facts, shown_uses, steps_are, uses_of}
-use Rattle.krates_selection.proofs.FactPlaces.{zip_long}
 use Rattle.krates_selection.proofs.ToldParts.{chosen_low}
 use Rattle.krates_selection.specs.KeptFacts.{AreChosen, AreFactNumbers, home, key_view}
 use Rattle.krates_selection.specs.KeptTables.{AreStepsOf, IsKeyOf, numbered_facts}
@@ -36,7 +36,7 @@ first_steps-requires-clause-long c =
     let steps = c.args.steps.now in
     let t = c.args.self.now in
     let same : c.deref-2.result.now ≡ uses_of steps = c.deref-2.ensures.value ∙ c.in_ok-uses.ensures in
-    let keys = zip_long (IsKeyOf t) (numbered_facts steps) c.in_ok-keys.keys.items c.in_ok-keys.ensures in
+    let keys = AllZip-long (IsKeyOf t) (numbered_facts steps) c.in_ok-keys.keys.items c.in_ok-keys.ensures in
     ap length c.deref-3.ensures.value ∙ c.in_ok-numbers.ensures.long ∙ length-map c.deref.result.now key_view ∙ ap length c.deref.ensures.value ∙ keys ∙ length-map steps (λ (x : NumberedStep). x.fact)
     ∙ sym (ap length same ∙ length-map steps (λ (x : NumberedStep). x.reason.uses))
 
@@ -44,7 +44,7 @@ pub chosen-requires-clause-long : goal.chosen-requires-clause-long
 chosen-requires-clause-long c =
     let steps = c.args.steps.now in
     let t = c.args.self.now in
-    let keys = zip_long (IsKeyOf t) (numbered_facts steps) c.in_ok-keys.keys.items c.in_ok-keys.ensures in
+    let keys = AllZip-long (IsKeyOf t) (numbered_facts steps) c.in_ok-keys.keys.items c.in_ok-keys.ensures in
     ap length c.deref-4.ensures.value ∙ keys ∙ length-map steps (λ (x : NumberedStep). x.fact)
 
 pub chosen-requires-clause-within : goal.chosen-requires-clause-within
@@ -67,5 +67,5 @@ returns c =
     let counted = subst (λ (ns : List ℕ). AreFactNumbers (map key_view keys) ns) (sym c.deref-3.ensures.value) (subst (λ (ks : List KeptFactKey). AreFactNumbers (map key_view ks) c.in_ok-numbers.numbers.items) first c.in_ok-numbers.ensures) in
     let same : c.deref-2.result.now ≡ uses_of steps = c.deref-2.ensures.value ∙ c.in_ok-uses.ensures in
     IfOk-weaker c.chosen.result (λ (kept : Vec KeptStep). AreChosen keys steps chosen part kept.items) (λ (kept : Vec KeptStep). AreStepsOf (document_of b) b.setting.now c.args.self.now.krates.now steps kept.items)
-    (λ kept made. steps_are c.comparison.ensures.order t b.setting.now steps keys t.ascending c.requires.trace keyed c.one_reading.ensures.once c.firsts.ensures.follow c.firsts.ensures.own c.deref-3.result.now c.deref-2.result.now part chosen kept.items
+    (λ kept made. steps_are c.comparison.ensures.order t b.setting.now steps keys t.ascending c.requires.trace keyed c.one_reading.ensures.once c.parts_follow.ensures c.deref-3.result.now c.deref-2.result.now part chosen kept.items
     counted same c.in_ok-part.ensures.part c.in_ok-part.ensures.own c.in_ok-part.ensures.each made) c.chosen.ensures

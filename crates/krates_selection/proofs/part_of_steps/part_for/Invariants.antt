@@ -1,5 +1,5 @@
 use Rattle.krates_selection.specs.PartOfSteps.{AreOwnNumbers}
-use Rattle.krates_selection.proofs.part_of_steps.numbers_below.Given as goal
+use Rattle.krates_selection.proofs.part_of_steps.part_for.Given as goal
 
 -- the numbers so far
 abbrev pub invariant-loop-number : goal.invariant-loop-number
