@@ -5,29 +5,33 @@ use krates_certificate::{Certificate, CertificateError, CertificatePart};
 use krates_rules::Fact;
 use krates_samples::facts::{facts_of, steps_of};
 use krates_samples::settings::all_of;
-use krates_samples::table::{Question, Row, hold};
+use krates_samples::table::{Row, Tell, hold};
 use krates_samples::text::Text;
-use serde_json::{Value, json};
-use std::alloc::{AllocError, Global};
+use serde_json::json;
+use std::alloc::AllocError;
 use std::test::Fail;
 
-/// What is written for a certificate.
-fn written(alloc: Global, certificate: &Certificate) -> Result<String, AllocError> {
-    certificate.to_value(alloc)?.to_string(alloc)
+/// Adds what is written for a certificate.
+fn push_written(told: &mut Text, certificate: &Certificate) -> Result<(), Fail> {
+    let value = certificate.to_value(told.allocator())?;
+    write!(told, "{value}");
+    Ok(())
 }
 
 /// What is written for the steps of a line.
 struct OfSteps;
 
-impl Question for OfSteps {
-    fn told(alloc: Global, line: &str) -> Result<String, Fail> {
-        let derivation = steps_of(alloc, line)?;
-        let setting = all_of(alloc, "--ignore dev", ' ')?;
-        let certificate = Certificate::Derivation {
-            setting,
-            derivation,
-        };
-        Ok(written(alloc, &certificate)?)
+impl Tell for OfSteps {
+    fn tell(told: &mut Text, line: &str) -> Result<(), Fail> {
+        let derivation = steps_of(told.allocator(), line)?;
+        let setting = all_of(told.allocator(), "--ignore dev", ' ')?;
+        push_written(
+            told,
+            &Certificate::Derivation {
+                setting,
+                derivation,
+            },
+        )
     }
 }
 
@@ -45,11 +49,11 @@ const STEPS: &[Row] = &[
 /// What is written for the facts of a line.
 struct OfFacts;
 
-impl Question for OfFacts {
-    fn told(alloc: Global, line: &str) -> Result<String, Fail> {
-        let facts = facts_of(alloc, line)?;
-        let setting = Vec::new(alloc);
-        Ok(written(alloc, &Certificate::Closed { setting, facts })?)
+impl Tell for OfFacts {
+    fn tell(told: &mut Text, line: &str) -> Result<(), Fail> {
+        let facts = facts_of(told.allocator(), line)?;
+        let setting = Vec::new(told.allocator());
+        push_written(told, &Certificate::Closed { setting, facts })
     }
 }
 
@@ -66,9 +70,8 @@ const FACTS: &[Row] = &[
     ),
 ];
 
-/// The words of a setting, and what is printed of each fact or step.
-fn printed(alloc: Global, certificate: &Certificate) -> Result<String, AllocError> {
-    let mut lines = Text::new(alloc);
+/// Adds the words of a setting, and what is printed of each fact or step.
+fn push_printed(lines: &mut Text, certificate: &Certificate) {
     match certificate {
         Certificate::Derivation {
             setting,
@@ -81,27 +84,29 @@ fn printed(alloc: Global, certificate: &Certificate) -> Result<String, AllocErro
             }
         }
     }
-    lines.whole()
 }
 
-/// Why a part is refused. If memory ran out, that is returned, as elsewhere.
-fn refusal(alloc: Global, error: CertificateError) -> Result<String, AllocError> {
+/// Adds why a part is refused. If memory ran out, that is returned, as elsewhere.
+fn push_refusal(told: &mut Text, error: CertificateError) -> Result<(), Fail> {
     if error.is_memory() {
-        return Err(AllocError);
+        return Err(Fail::from(AllocError));
     }
-    format!(in alloc; "{error}")
+    write!(told, "{error}");
+    Ok(())
 }
 
 /// What is read of a text, or why it is refused.
 struct Read;
 
-impl Question for Read {
-    fn told(alloc: Global, text: &str) -> Result<String, Fail> {
-        let told = match Certificate::parse(alloc, text) {
-            Ok(certificate) => printed(alloc, &certificate),
-            Err(error) => refusal(alloc, error),
-        };
-        Ok(told?)
+impl Tell for Read {
+    fn tell(told: &mut Text, text: &str) -> Result<(), Fail> {
+        match Certificate::parse(told.allocator(), text) {
+            Ok(certificate) => {
+                push_printed(told, &certificate);
+                Ok(())
+            }
+            Err(error) => push_refusal(told, error),
+        }
     }
 }
 
@@ -168,30 +173,22 @@ const TEXTS: &[Row] = &[
 /// The id that is read of a text, as it is written.
 struct Id;
 
-/// The text that represents the id of a kept crate.
-fn id_in(alloc: Global, fact: &Fact) -> Result<String, AllocError> {
-    let value = fact.to_value(alloc)?;
+/// Adds the text that represents the id of a kept crate.
+fn push_id(told: &mut Text, fact: &Fact) -> Result<(), Fail> {
+    let value = fact.to_value(told.allocator())?;
     let text = value.get("krate").and_then(|id| id.as_str());
-    String::from_str(alloc, text.unwrap_or("none"))
+    told.push_str(text.unwrap_or("none"));
+    Ok(())
 }
 
-/// The fact that a crate is kept whose id is a text.
-fn kept_crate(alloc: Global, id: &str) -> Result<Value, AllocError> {
-    json!(in alloc; {"fact": "crate", "krate": id})
-}
-
-/// What is written, or why nothing is read.
-fn id_again(alloc: Global, read: Result<Fact, CertificateError>) -> Result<String, AllocError> {
-    match read {
-        Ok(fact) => id_in(alloc, &fact),
-        Err(error) => refusal(alloc, error),
-    }
-}
-
-impl Question for Id {
-    fn told(alloc: Global, id: &str) -> Result<String, Fail> {
-        let value = kept_crate(alloc, id)?;
-        Ok(id_again(alloc, Fact::from_value(alloc, &value))?)
+impl Tell for Id {
+    fn tell(told: &mut Text, id: &str) -> Result<(), Fail> {
+        let alloc = told.allocator();
+        let value = json!(in alloc; {"fact": "crate", "krate": id})?;
+        match Fact::from_value(alloc, &value) {
+            Ok(fact) => push_id(told, &fact),
+            Err(error) => push_refusal(told, error),
+        }
     }
 }
 

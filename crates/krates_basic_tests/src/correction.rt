@@ -5,7 +5,8 @@ use krates_cm::Package;
 use krates_ids::{
     BuildIndexCache, CachingIndex, IndexAnswer, IndexKrate, IndexKrateVersion, PackageNames,
 };
-use krates_samples::table::{Question, Row, hold};
+use krates_samples::table::{Row, Tell, hold};
+use krates_samples::text::Text;
 use semver::Version;
 use std::alloc::{AllocError, Global};
 use std::collections::{BTreeMap, BTreeSet};
@@ -75,44 +76,37 @@ fn index(alloc: Global, version: Option<&str>) -> Result<CachingIndex, Fail> {
     Ok(CachingIndex::new(build, names))
 }
 
-/// The features of a package after a correction.
-fn features(
-    alloc: Global,
+/// Adds the features of a package after a correction.
+fn push_features(
+    told: &mut Text,
     index: &CachingIndex,
     package: &mut Package,
-) -> Result<String, AllocError> {
-    index.correct(alloc, package)?;
-    format!(in alloc; "{:?}", package.features)
+) -> Result<(), AllocError> {
+    index.correct(told.allocator(), package)?;
+    write!(told, "{:?}", package.features);
+    Ok(())
 }
 
-/// The features of a package after one correction and after two.
-fn features_twice(
-    alloc: Global,
-    index: &CachingIndex,
-    package: &mut Package,
-) -> Result<String, AllocError> {
-    let once = features(alloc, index, package)?;
-    let twice = features(alloc, index, package)?;
-    format!(in alloc; "{once}, then {twice}")
-}
-
-/// The features of the package with this source as JSON, after one correction and after two.
-fn corrected_by(alloc: Global, index: &CachingIndex, source: &str) -> Result<String, Fail> {
-    let mut package = package(alloc, "1.0.0", source, r#"{"default":["std","foo"]}"#)?;
-    Ok(features_twice(alloc, index, &mut package)?)
+/// Adds the features of the package with this source as JSON, after one correction and after two.
+fn push_corrected(told: &mut Text, index: &CachingIndex, source: &str) -> Result<(), Fail> {
+    let features = r#"{"default":["std","foo"]}"#;
+    let mut package = package(told.allocator(), "1.0.0", source, features)?;
+    push_features(told, index, &mut package)?;
+    told.push_str(", then ");
+    Ok(push_features(told, index, &mut package)?)
 }
 
 /// The features of the package after one correction and after two.
 struct Corrected;
 
-impl Question for Corrected {
-    fn told(alloc: Global, line: &str) -> Result<String, Fail> {
+impl Tell for Corrected {
+    fn tell(told: &mut Text, line: &str) -> Result<(), Fail> {
         let (source, version) = match line.split_once(' ') {
             Some((source, version)) => (source, Some(version)),
             None => (line, None),
         };
-        let index = index(alloc, version)?;
-        corrected_by(alloc, &index, source)
+        let index = index(told.allocator(), version)?;
+        push_corrected(told, &index, source)
     }
 }
 

@@ -2,28 +2,26 @@
 
 use krates_rules::Fact;
 use krates_samples::facts::{facts_of, steps_of};
-use krates_samples::table::{Question, Row, hold};
+use krates_samples::table::{Row, Tell, hold};
 use krates_samples::text::Text;
-use std::alloc::{AllocError, Global};
 use std::fmt;
 use std::test::Fail;
 
-/// What is printed of each, with a line feed after it.
-fn lines_of<T: fmt::Display>(alloc: Global, all: &[T]) -> Result<String, AllocError> {
-    let mut lines = Text::new(alloc);
+/// Adds what is printed of each, with a line feed after it.
+fn push_lines<T: fmt::Display>(told: &mut Text, all: &[T]) {
     for it in all {
-        writeln!(lines, "{it}");
+        writeln!(told, "{it}");
     }
-    lines.whole()
 }
 
 /// The facts of a line.
 struct Facts;
 
-impl Question for Facts {
-    fn told(alloc: Global, line: &str) -> Result<String, Fail> {
-        let facts = facts_of(alloc, line)?;
-        Ok(lines_of::<Fact>(alloc, &facts)?)
+impl Tell for Facts {
+    fn tell(told: &mut Text, line: &str) -> Result<(), Fail> {
+        let facts = facts_of(told.allocator(), line)?;
+        push_lines::<Fact>(told, &facts);
+        Ok(())
     }
 }
 
@@ -66,10 +64,11 @@ const FACTS: &[Row] = &[
 /// The steps of a line, without their numbers.
 struct Steps;
 
-impl Question for Steps {
-    fn told(alloc: Global, line: &str) -> Result<String, Fail> {
-        let derivation = steps_of(alloc, line)?;
-        Ok(lines_of(alloc, &derivation.steps)?)
+impl Tell for Steps {
+    fn tell(told: &mut Text, line: &str) -> Result<(), Fail> {
+        let derivation = steps_of(told.allocator(), line)?;
+        push_lines(told, &derivation.steps);
+        Ok(())
     }
 }
 
@@ -90,10 +89,11 @@ const STEPS: &[Row] = &[
 /// The derivation of a line.
 struct Printed;
 
-impl Question for Printed {
-    fn told(alloc: Global, line: &str) -> Result<String, Fail> {
-        let derivation = steps_of(alloc, line)?;
-        Ok(format!(in alloc; "{derivation}")?)
+impl Tell for Printed {
+    fn tell(told: &mut Text, line: &str) -> Result<(), Fail> {
+        let derivation = steps_of(told.allocator(), line)?;
+        write!(told, "{derivation}");
+        Ok(())
     }
 }
 

@@ -1,7 +1,8 @@
 //! cfg expressions: their values at targets, what they count, and which text isn't one.
 
 use krates_samples::settings::FromText;
-use krates_samples::table::{Question, Row, hold};
+use krates_samples::table::{Row, Tell, hold};
+use krates_samples::text::Text;
 use krates_text::cfg::{CfgError, Expression};
 use krates_text::target::Target;
 use std::alloc::{AllocError, Global};
@@ -63,16 +64,13 @@ const SYNTAX: &str = "bad cfg expression";
 /// The refusal of one that nests too deep.
 const TOO_DEEP: &str = "cfg expression too deep";
 
-/// An expression, and how many words and pairs it has.
+/// An expression, and how many words and pairs it has, or why the text isn't one.
 const COUNTS: &[Row] = &[
     (r#"cfg(all(unix, true, target_os = "linux"))"#, "2"),
     ("cfg( unix ) ", "1"),
     ("cfg(\tall\n(\r ) )\n", "0"),
     ("cfg(all(a ,\tany( b, ) , not ( c = \"d e\" ) ,))", "3"),
-];
-
-/// Texts that are outside the grammar.
-const OUTSIDE: &[Row] = &[
+    // texts that are outside the grammar
     ("", SYNTAX),
     ("unix", SYNTAX),
     ("cfg(unix,)", SYNTAX),
@@ -114,41 +112,27 @@ const ERRORS: &[Row] = &[
 /// The value of an expression at a place.
 struct Value;
 
-impl Question for Value {
-    fn told(alloc: Global, line: &str) -> Result<String, Fail> {
+impl Tell for Value {
+    fn tell(told: &mut Text, line: &str) -> Result<(), Fail> {
         let (place, text) = line.split_once(' ').unwrap_or((line, ""));
-        let is_true = value_at(alloc, text, place)?;
-        Ok(format!(in alloc; "{is_true}")?)
+        let alloc = told.allocator();
+        let expression = Expression::parse(alloc, text)?;
+        let (target, features): (Target, Vec<String>) = FromText::from_text(alloc, place)?;
+        write!(told, "{}", expression.eval(&target, features.as_slice()));
+        Ok(())
     }
-}
-
-/// The value of an expression at a target.
-fn value_for(
-    alloc: Global,
-    text: &str,
-    target: &Target,
-    features: &[String],
-) -> Result<bool, CfgError> {
-    let expression = Expression::parse(alloc, text)?;
-    Ok(expression.eval(target, features))
-}
-
-/// The value of an expression at the target of a word, with its feature.
-fn value_at(alloc: Global, text: &str, place: &str) -> Result<bool, Fail> {
-    let (target, features): (Target, Vec<String>) = FromText::from_text(alloc, place)?;
-    Ok(value_for(alloc, text, &target, features.as_slice())?)
 }
 
 /// The words and pairs of an expression, counted, or why a text isn't one.
 struct Counted;
 
-impl Question for Counted {
-    fn told(alloc: Global, text: &str) -> Result<String, Fail> {
-        let told = match Expression::parse(alloc, text) {
-            Ok(expression) => format!(in alloc; "{}", expression.predicates()),
-            Err(error) => format!(in alloc; "{error}"),
-        };
-        Ok(told?)
+impl Tell for Counted {
+    fn tell(told: &mut Text, text: &str) -> Result<(), Fail> {
+        match Expression::parse(told.allocator(), text) {
+            Ok(expression) => write!(told, "{}", expression.predicates()),
+            Err(error) => write!(told, "{error}"),
+        }
+        Ok(())
     }
 }
 
@@ -158,45 +142,42 @@ pub(crate) fn opened(alloc: Global, times: usize) -> Result<String, AllocError> 
     format!(in alloc; "cfg({forms}")
 }
 
-/// An expression of this many nested forms, with a text in the innermost.
-fn nested(alloc: Global, times: usize, inner: &str) -> Result<String, AllocError> {
-    let opened = opened(alloc, times)?;
-    let closed = ")".repeat(alloc, times)?;
-    format!(in alloc; "{opened}{inner}{closed})")
-}
-
 /// The words and pairs of an expression of nested forms, counted.
 struct FormsInOneAnother;
 
-impl Question for FormsInOneAnother {
-    fn told(alloc: Global, line: &str) -> Result<String, Fail> {
+impl Tell for FormsInOneAnother {
+    fn tell(told: &mut Text, line: &str) -> Result<(), Fail> {
         let (times, inner) = line.split_once(' ').unwrap_or((line, ""));
-        let text = nested(alloc, times.parse()?, inner)?;
-        Counted::told(alloc, text.as_str())
+        let (times, alloc) = (times.parse()?, told.allocator());
+        let opened = opened(alloc, times)?;
+        let closed = ")".repeat(alloc, times)?;
+        let text = format!(in alloc; "{opened}{inner}{closed})")?;
+        Counted::tell(told, text.as_str())
     }
 }
 
 /// Why the beginning of an expression with too many forms isn't one.
 struct OpenedForms;
 
-impl Question for OpenedForms {
-    fn told(alloc: Global, times: &str) -> Result<String, Fail> {
-        let text = opened(alloc, times.parse()?)?;
-        Counted::told(alloc, text.as_str())
+impl Tell for OpenedForms {
+    fn tell(told: &mut Text, times: &str) -> Result<(), Fail> {
+        let text = opened(told.allocator(), times.parse()?)?;
+        Counted::tell(told, text.as_str())
     }
 }
 
 /// What an error prints.
 struct Printed;
 
-impl Question for Printed {
-    fn told(alloc: Global, name: &str) -> Result<String, Fail> {
+impl Tell for Printed {
+    fn tell(told: &mut Text, name: &str) -> Result<(), Fail> {
         let error = match name {
             "Syntax" => CfgError::Syntax,
             "TooDeep" => CfgError::TooDeep,
             _ => CfgError::Memory,
         };
-        Ok(error.to_string(alloc)?)
+        write!(told, "{error}");
+        Ok(())
     }
 }
 
@@ -204,7 +185,6 @@ impl Question for Printed {
 fn expressions_are_evaluated_counted_or_refused(rt: HostRuntime) -> Result<(), Fail> {
     hold::<Value>(rt.alloc(), VALUES)?;
     hold::<Counted>(rt.alloc(), COUNTS)?;
-    hold::<Counted>(rt.alloc(), OUTSIDE)?;
     hold::<FormsInOneAnother>(rt.alloc(), NESTED)?;
     hold::<OpenedForms>(rt.alloc(), OPENED)?;
     hold::<Printed>(rt.alloc(), ERRORS)

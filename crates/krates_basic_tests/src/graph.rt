@@ -1,17 +1,21 @@
-//! The graph: its limits, its edges by number, and what is read from it.
+//! The graph: its limits, its edges by number, and what is read from it; and the agenda.
 
+use krates_graph::agenda::{Agenda, Taken};
 use krates_graph::graph::{Direction, EdgeId, Graph, GraphError, NodeId};
-use krates_samples::table::{Question, Row, compare, hold};
+use krates_samples::table::{Row, Tell, compare, hold};
 use krates_samples::text::Text;
-use std::alloc::{AllocError, Global};
+use std::alloc::Global;
 use std::test::Fail;
 
 /// Two edges that join the same nodes, one back, one from a node to itself and one from a third node; of each the ends
 /// and the weight.
 const JOINED: &[(u32, u32, u8)] = &[(0, 1, 10), (1, 0, 11), (0, 1, 12), (1, 1, 13), (2, 1, 14)];
 
+/// The joined nodes.
+const JOINED_NODES: &[char] = &['a', 'b', 'c'];
+
 /// A node of a graph and the direction of its edges, and what is known of these: their numbers, and each edge with its ends and its
-/// weight. Here the graph is that of the joined nodes.
+/// weight.
 const EDGES: &[Row] = &[
     (
         "joined 0 out",
@@ -32,6 +36,15 @@ const EDGES: &[Row] = &[
         "joined 1 in",
         "[EdgeId(0), EdgeId(2), EdgeId(3), EdgeId(4)] (0, 0, 1, 10) (2, 0, 1, 12) (3, 1, 1, 13) (4, 2, 1, 14)",
     ),
+    // the edges that leave the one crate and those that enter the other
+    (
+        "features 0 out",
+        "[EdgeId(0), EdgeId(1)] (0, 0, 1, 0) (1, 0, 4, 1)",
+    ),
+    (
+        "features 1 in",
+        "[EdgeId(0), EdgeId(3), EdgeId(6)] (0, 0, 1, 0) (3, 2, 1, 1) (6, 4, 1, 1)",
+    ),
 ];
 
 /// Crates 0 and 1, the feature 4 of 1 that 0 turns on, and two features in between; the weight is 1 where a feature is an end.
@@ -45,24 +58,8 @@ const BETWEEN_FEATURES: &[(u32, u32, u8)] = &[
     (4, 1, 1),
 ];
 
-/// What `EDGES` says, of the edges that leave the one crate and of those that enter the other.
-const EDGES_BETWEEN_FEATURES: &[Row] = &[
-    (
-        "features 0 out",
-        "[EdgeId(0), EdgeId(1)] (0, 0, 1, 0) (1, 0, 4, 1)",
-    ),
-    (
-        "features 1 in",
-        "[EdgeId(0), EdgeId(3), EdgeId(6)] (0, 0, 1, 0) (3, 2, 1, 1) (6, 4, 1, 1)",
-    ),
-];
-
-/// An empty graph with room for this many nodes and edges, and for no more.
-fn empty_graph(alloc: Global, nodes: usize, edges: usize) -> Result<Graph<char, u8>, Fail> {
-    let mut graph = Graph::with_limits(alloc, u32::try_from(nodes)?, u32::try_from(edges)?);
-    graph.reserve(nodes, edges)?;
-    Ok(graph)
-}
+/// The nodes of that graph.
+const CRATES_AND_FEATURES: &[char] = &['a', 'b', 'b', 'w', 'j'];
 
 /// Adds these nodes.
 fn add_nodes(graph: &mut Graph<char, u8>, nodes: &[char]) -> Result<(), GraphError<char>> {
@@ -91,48 +88,39 @@ fn add_edges(graph: &mut Graph<char, u8>, edges: &[(u32, u32, u8)]) -> Result<()
     Ok(())
 }
 
-/// A graph of these nodes and edges, with room for no more.
-fn graph_of(
-    alloc: Global,
-    nodes: &[char],
-    edges: &[(u32, u32, u8)],
-) -> Result<Graph<char, u8>, Fail> {
-    let mut graph = empty_graph(alloc, nodes.len(), edges.len())?;
-    add_nodes(&mut graph, nodes)?;
-    add_edges(&mut graph, edges)?;
+/// Adds these nodes and edges, for which there is room then.
+fn fill(graph: &mut Graph<char, u8>, nodes: &[char], edges: &[(u32, u32, u8)]) -> Result<(), Fail> {
+    graph.reserve(nodes.len(), edges.len())?;
+    add_nodes(graph, nodes)?;
+    add_edges(graph, edges)
+}
+
+/// The graph of this name: that of the joined nodes, or the one with features between crates. It has room for no more.
+fn graph_named(alloc: Global, name: &str) -> Result<Graph<char, u8>, Fail> {
+    let (nodes, edges) = match name {
+        "joined" => (JOINED_NODES, JOINED),
+        _ => (CRATES_AND_FEATURES, BETWEEN_FEATURES),
+    };
+    let mut graph = Graph::with_limits(alloc, nodes.len() as u32, edges.len() as u32);
+    fill(&mut graph, nodes, edges)?;
     Ok(graph)
 }
 
-/// Of a node and a direction the numbers of the edges, and each edge with its ends and its weight.
-fn told_of_edges(
-    alloc: Global,
-    graph: &Graph<char, u8>,
-    node: NodeId,
-    direction: Direction,
-) -> Result<String, AllocError> {
-    let mut text = Text::new(alloc);
-    write!(text, "{:?}", graph.edge_numbers(node, direction));
+/// Adds of a node and a direction the numbers of the edges, and each edge with its ends and its weight.
+fn push_edges(told: &mut Text, graph: &Graph<char, u8>, node: NodeId, direction: Direction) {
+    write!(told, "{:?}", graph.edge_numbers(node, direction));
     for edge in graph.edges_directed(node, direction) {
         let (source, target) = (edge.source.index(), edge.target.index());
         let shown = (edge.id.index(), source, target, *edge.weight);
-        write!(text, " {shown:?}");
-    }
-    text.whole()
-}
-
-/// The graph of this name: that of the joined nodes, or the one with features between crates.
-fn graph_named(alloc: Global, name: &str) -> Result<Graph<char, u8>, Fail> {
-    match name {
-        "joined" => graph_of(alloc, &['a', 'b', 'c'], JOINED),
-        _ => graph_of(alloc, &['a', 'b', 'b', 'w', 'j'], BETWEEN_FEATURES),
+        write!(told, " {shown:?}");
     }
 }
 
 /// The edges of a node of a graph in a direction, `out` or `in`.
 struct Edges;
 
-impl Question for Edges {
-    fn told(alloc: Global, line: &str) -> Result<String, Fail> {
+impl Tell for Edges {
+    fn tell(told: &mut Text, line: &str) -> Result<(), Fail> {
         let (name, place) = line.split_once(' ').unwrap_or((line, ""));
         let (node, direction) = place.split_once(' ').unwrap_or((place, ""));
         let direction = match direction {
@@ -140,8 +128,9 @@ impl Question for Edges {
             _ => Direction::Incoming,
         };
         let node = NodeId::new(node.parse()?);
-        let graph = graph_named(alloc, name)?;
-        Ok(told_of_edges(alloc, &graph, node, direction)?)
+        let graph = graph_named(told.allocator(), name)?;
+        push_edges(told, &graph, node, direction);
+        Ok(())
     }
 }
 
@@ -179,14 +168,15 @@ const TEXTS: &[Row] = &[
 /// What a refusal prints.
 struct Printed;
 
-impl Question for Printed {
-    fn told(alloc: Global, name: &str) -> Result<String, Fail> {
+impl Tell for Printed {
+    fn tell(told: &mut Text, name: &str) -> Result<(), Fail> {
         let error = if name == "Full" {
             GraphError::Full('x')
         } else {
             GraphError::Memory('x')
         };
-        Ok(format!(in alloc; "{error}")?)
+        write!(told, "{error}");
+        Ok(())
     }
 }
 
@@ -203,7 +193,6 @@ fn no_limit_takes_nothing(rt: HostRuntime) {
 #[test]
 fn edges_of_a_node_come_by_number_and_refusals_are_printed(rt: HostRuntime) -> Result<(), Fail> {
     hold::<Edges>(rt.alloc(), EDGES)?;
-    hold::<Edges>(rt.alloc(), EDGES_BETWEEN_FEATURES)?;
     hold::<Printed>(rt.alloc(), TEXTS)
 }
 
@@ -235,23 +224,19 @@ fn a_refused_growth_changes_nothing(rt: HostRuntime) {
 }
 
 /// The nodes of a graph, the number of its edges, and the ends of two of them.
-fn lists_and_ends(alloc: Global, graph: &Graph<char, u8>) -> Result<String, AllocError> {
-    let ends = (
+#[test]
+fn lists_and_ends_are_read(rt: HostRuntime) -> Result<(), Fail> {
+    let mut graph = graph_named(rt.alloc(), "joined")?;
+    graph.reserve(9, 9)?;
+    let told = (
         graph.raw_nodes(),
         graph.raw_edges().len(),
         graph.edge_endpoints(EdgeId::new(4)),
         graph.edge_endpoints(EdgeId::new(5)),
     );
-    format!(in alloc; "{ends:?}")
-}
-
-#[test]
-fn lists_and_ends_are_read(rt: HostRuntime) -> Result<(), Fail> {
-    let mut graph = graph_named(rt.alloc(), "joined")?;
-    graph.reserve(9, 9)?;
-    let told = lists_and_ends(rt.alloc(), &graph)?;
-    let expected = "(['a', 'b', 'c'], 5, Some((NodeId(2), NodeId(1))), None)";
-    compare("the joined nodes", told.as_str(), expected)
+    let ends = Some((NodeId::new(2), NodeId::new(1)));
+    assert_eq!(rt; told, (JOINED_NODES, 5, ends, None));
+    Ok(())
 }
 
 /// Adds two nodes, and reads the second by its number.
@@ -277,4 +262,38 @@ fn ids_go_by_number(rt: HostRuntime) {
         EdgeId::new(7) != EdgeId::new(8),
     ];
     assert_eq!(rt; by_number, [true; 4]);
+}
+
+/// The number that was taken, if one was.
+fn number(taken: Option<Taken>) -> Option<usize> {
+    taken.map(|taken| taken.number())
+}
+
+#[test]
+fn numbers_are_taken_once_in_the_order_of_their_puts(rt: HostRuntime) -> Result<(), Fail> {
+    let mut agenda = Agenda::new(rt.alloc(), 4)?;
+    let first_puts = [agenda.put(3), agenda.put(1), agenda.put(3)];
+    let taken_at_first = agenda.taken();
+    let first = number(agenda.take());
+    let later_puts = [agenda.put(3), agenda.put(0)];
+    let later = [
+        number(agenda.take()),
+        number(agenda.take()),
+        number(agenda.take()),
+    ];
+    assert_eq!(rt;
+        (first_puts, taken_at_first, first, later_puts, later),
+        (
+            [true, true, false],
+            0,
+            Some(3),
+            [false, true],
+            [Some(1), Some(0), None]
+        )
+    );
+    assert_eq!(rt;
+        (agenda.taken(), agenda.numbers()),
+        (3, [3, 1, 0].as_slice())
+    );
+    Ok(())
 }

@@ -6,14 +6,15 @@ ghost use Rattle.krates_ids.specs.Identity.{id_cmp};
 
 use krates_cm::PackageId;
 use krates_ids::{IdError, Kid};
-use krates_samples::table::{Question, Row, compare, hold};
+use krates_samples::table::{Row, Tell, compare, hold};
+use krates_samples::text::Text;
 use std::alloc::{AllocError, Global};
 use std::collections::BTreeMap;
 use std::hash::{DefaultHasher, Hash, Hasher};
 use std::test::Fail;
 
-/// Ids of the stable form, and the name, version and source of each.
-const STABLE: &[Row] = &[
+/// Ids of the stable form and others, and the name, version and source of each.
+const READ: &[Row] = &[
     (
         "registry+https://github.com/rust-lang/crates.io-index#ab_glyph@0.2.22",
         "stable, as written: ab_glyph | 0.2.22 | registry+https://github.com/rust-lang/crates.io-index",
@@ -39,10 +40,7 @@ const STABLE: &[Row] = &[
         "path+file:///w/%2f#a@1.0.0",
         "stable, as written: a | 1.0.0 | path+file:///w/%2f",
     ),
-];
-
-/// Ids of git sources; only the query is decoded.
-const GIT: &[Row] = &[
+    // ids of git sources; only the query is decoded
     (
         "git+https://github.com/a/b?branch=c%2Fd#0.1.0",
         "stable, decoded: b | 0.1.0 | git+https://github.com/a/b?branch=c/d",
@@ -67,10 +65,7 @@ const GIT: &[Row] = &[
         "git+x?a%23b#n@1.0.0",
         "stable, decoded: n | 1.0.0 | git+x?a#b",
     ),
-];
-
-/// Ids of git sources as cargo wrote them.
-const GIT_OF_A_DOCUMENT: &[Row] = &[
+    // ids of git sources as cargo wrote them
     (
         "git+file:///w/gitrepo/many?branch=feat%2Fsome%2Bthing%402#0.1.0",
         "stable, decoded: many | 0.1.0 | git+file:///w/gitrepo/many?branch=feat/some+thing@2",
@@ -91,10 +86,7 @@ const GIT_OF_A_DOCUMENT: &[Row] = &[
         "git+file:///w/gitrepo/many#sub@0.1.0",
         "stable, as written: sub | 0.1.0 | git+file:///w/gitrepo/many",
     ),
-];
-
-/// Ids of packages that exist: each way in which cargo names a source, in both forms.
-const OF_PACKAGES_THAT_EXIST: &[Row] = &[
+    // ids of packages that exist: each way in which cargo names a source, in both forms
     (
         "git+https://github.com/EmbarkStudios/egui-stylist?rev=3900e8aedc5801e42c1bb747cfd025615bf3b832#0.2.0",
         "stable, as written: egui-stylist | 0.2.0 | git+https://github.com/EmbarkStudios/egui-stylist?rev=3900e8aedc5801e42c1bb747cfd025615bf3b832",
@@ -131,10 +123,7 @@ const OF_PACKAGES_THAT_EXIST: &[Row] = &[
         "bindgen 0.59.2 (registry+https://github.com/rust-lang/crates.io-index)",
         "opaque, as written: bindgen | 0.59.2 | registry+https://github.com/rust-lang/crates.io-index",
     ),
-];
-
-/// Ids of the opaque form, whose texts are kept.
-const OPAQUE: &[Row] = &[
+    // ids of the opaque form, whose texts are kept
     (
         "fuser 0.4.1 (git+https://github.com/cberner/fuser?branch=master#b2e7622942e52a28ffa85cdaf48e28e982bb6923)",
         "opaque, as written: fuser | 0.4.1 | git+https://github.com/cberner/fuser?branch=master",
@@ -152,10 +141,7 @@ const OPAQUE: &[Row] = &[
         "opaque, as written: a | 0.1.0 | git+https://x.org/a?rev=%2f#b",
     ),
     ("a 0.1.0 ()", "opaque, as written: a | 0.1.0 | "),
-];
-
-/// Texts that aren't ids, and why.
-const REFUSED: &[Row] = &[
+    // texts that aren't ids, and why
     ("a 0.1.0 (", "bad opaque id: a 0.1.0 ("),
     ("a 0.1.0", "bad opaque id: a 0.1.0"),
     ("a 0.1.0 (b#c", "bad opaque id: a 0.1.0 (b#c"),
@@ -185,8 +171,9 @@ const EQUAL: &str = "Equal, Some(Equal), equal with equal hashes";
 /// How two ids compare of which the first is less.
 const LESS: &str = "Less, Some(Less), less";
 
-/// Two ids with equal parts: of one package at two commits, which don't count, and in the stable form.
-const OF_EQUAL_PARTS: &[Row] = &[
+/// Two ids, and how they compare.
+const COMPARED: &[Row] = &[
+    // with equal parts: of one package at two commits, which don't count, and in the stable form
     (
         "fuser 0.4.1 (git+https://x.org/fuser?branch=master#b2e76229) | fuser 0.4.1 (git+https://x.org/fuser?branch=master#0a1b2c3d)",
         EQUAL,
@@ -199,10 +186,7 @@ const OF_EQUAL_PARTS: &[Row] = &[
         "fuser 0.4.1 (git+https://x.org/fuser?branch=master#b2e76229) | git+https://x.org/fuser?branch=master#0.4.1",
         EQUAL,
     ),
-];
-
-/// Two ids in their order: by name, then by version as text, then by source.
-const ORDERED: &[Row] = &[
+    // in their order: by name, then by version as text, then by source
     ("path+file:///w/d#d@0.10.0 | path+file:///w/d#d@0.9.0", LESS),
     ("path+file:///w/e#a@1.0.0 | path+file:///w/d#d@0.10.0", LESS),
     (
@@ -231,8 +215,8 @@ pub(crate) fn kid(alloc: Global, text: &str) -> Result<Kid, Fail> {
     Ok(Kid::try_from(package_id(alloc, text)?)?)
 }
 
-/// The form of an id, whether its text is kept, and its name, version and source.
-fn described(alloc: Global, kid: &Kid, text: &str) -> Result<String, AllocError> {
+/// Adds the form of an id, whether its text is kept, and its name, version and source.
+fn push_described(told: &mut Text, kid: &Kid, text: &str) {
     let form = if kid.is_opaque() { "opaque" } else { "stable" };
     let repr = if kid.repr() == text {
         "as written"
@@ -240,29 +224,25 @@ fn described(alloc: Global, kid: &Kid, text: &str) -> Result<String, AllocError>
         "decoded"
     };
     let (name, version, source) = (kid.name(), kid.version(), kid.source());
-    format!(in alloc; "{form}, {repr}: {name} | {version} | {source}")
+    write!(told, "{form}, {repr}: {name} | {version} | {source}")
 }
 
 /// The description of the id that a text is, or why it isn't one.
 struct Read;
 
-impl Question for Read {
-    fn told(alloc: Global, text: &str) -> Result<String, Fail> {
-        match Kid::try_from(package_id(alloc, text)?) {
-            Ok(kid) => Ok(described(alloc, &kid, text)?),
-            Err(error) => Ok(error.to_string(alloc)?),
+impl Tell for Read {
+    fn tell(told: &mut Text, text: &str) -> Result<(), Fail> {
+        match Kid::try_from(package_id(told.allocator(), text)?) {
+            Ok(kid) => push_described(told, &kid, text),
+            Err(error) => write!(told, "{error}"),
         }
+        Ok(())
     }
 }
 
 #[test]
 fn reads_each_form_and_refuses_other_texts(rt: HostRuntime) -> Result<(), Fail> {
-    hold::<Read>(rt.alloc(), STABLE)?;
-    hold::<Read>(rt.alloc(), GIT)?;
-    hold::<Read>(rt.alloc(), OPAQUE)?;
-    hold::<Read>(rt.alloc(), REFUSED)?;
-    hold::<Read>(rt.alloc(), GIT_OF_A_DOCUMENT)?;
-    hold::<Read>(rt.alloc(), OF_PACKAGES_THAT_EXIST)
+    hold::<Read>(rt.alloc(), READ)
 }
 
 #[test]
@@ -288,22 +268,17 @@ fn relation(left: &Kid, right: &Kid) -> &'static str {
     }
 }
 
-/// How two ids are ordered, and how they compare.
-fn compared_ids(alloc: Global, left: &Kid, right: &Kid) -> Result<String, AllocError> {
-    let (order, partial) = (left.cmp(right), left.partial_cmp(right));
-    let relation = relation(left, right);
-    format!(in alloc; "{order:?}, {partial:?}, {relation}")
-}
-
 /// How two ids compare, which a bar separates, and whether they hash alike where they are equal.
 struct Compared;
 
-impl Question for Compared {
-    fn told(alloc: Global, line: &str) -> Result<String, Fail> {
+impl Tell for Compared {
+    fn tell(told: &mut Text, line: &str) -> Result<(), Fail> {
         let (left, right) = line.split_once(" | ").unwrap_or((line, ""));
-        let left = kid(alloc, left)?;
-        let right = kid(alloc, right)?;
-        Ok(compared_ids(alloc, &left, &right)?)
+        let left = kid(told.allocator(), left)?;
+        let right = kid(told.allocator(), right)?;
+        let (order, partial) = (left.cmp(&right), left.partial_cmp(&right));
+        write!(told, "{order:?}, {partial:?}, {}", relation(&left, &right));
+        Ok(())
     }
 }
 
@@ -316,13 +291,13 @@ fn number_of(numbers: &BTreeMap<Kid, u32>, kid: &Kid) -> Option<u32>
 /// What a map has for an id.
 struct Key;
 
-impl Question for Key {
-    fn told(alloc: Global, text: &str) -> Result<String, Fail> {
-        let mut numbers = BTreeMap::new(alloc);
-        let commit = kid(alloc, "a 0.1.0 (git+https://x.org/a#1)")?;
-        numbers.insert(commit.clone()?, 7)?;
-        let number = number_of(&numbers, &kid(alloc, text)?);
-        Ok(format!(in alloc; "{number:?}")?)
+impl Tell for Key {
+    fn tell(told: &mut Text, text: &str) -> Result<(), Fail> {
+        let mut numbers = BTreeMap::new(told.allocator());
+        numbers.insert(kid(told.allocator(), "a 0.1.0 (git+https://x.org/a#1)")?, 7)?;
+        let number = number_of(&numbers, &kid(told.allocator(), text)?);
+        write!(told, "{number:?}");
+        Ok(())
     }
 }
 
@@ -333,33 +308,30 @@ const COPIED: &[Row] = &[(
 )];
 
 /// What an id prints, its text, and the text and the version of a copy of it; the text, the name and the source of the empty id.
-fn with_copy(alloc: Global, kid: &Kid) -> Result<String, AllocError> {
-    let copy = kid.clone()?;
-    let empty = Kid::empty(alloc);
-    format!(in alloc;
-        "{kid} | {} | {} | {} | {} | {} | {}",
-        kid.repr(),
-        copy.repr(),
-        copy.version(),
-        empty.repr(),
-        empty.name(),
-        empty.source()
-    )
-}
-
-/// What an id, a copy of it and the empty id print and answer.
 struct Copied;
 
-impl Question for Copied {
-    fn told(alloc: Global, text: &str) -> Result<String, Fail> {
-        Ok(with_copy(alloc, &kid(alloc, text)?)?)
+impl Tell for Copied {
+    fn tell(told: &mut Text, text: &str) -> Result<(), Fail> {
+        let kid = kid(told.allocator(), text)?;
+        let copy = kid.clone()?;
+        let empty = Kid::empty(told.allocator());
+        write!(
+            told,
+            "{kid} | {} | {} | {} | {} | {} | {}",
+            kid.repr(),
+            copy.repr(),
+            copy.version(),
+            empty.repr(),
+            empty.name(),
+            empty.source()
+        );
+        Ok(())
     }
 }
 
 #[test]
 fn compares_by_parts_is_a_key_prints_and_copies(rt: HostRuntime) -> Result<(), Fail> {
-    hold::<Compared>(rt.alloc(), OF_EQUAL_PARTS)?;
-    hold::<Compared>(rt.alloc(), ORDERED)?;
+    hold::<Compared>(rt.alloc(), COMPARED)?;
     hold::<Key>(rt.alloc(), KEYS)?;
     hold::<Copied>(rt.alloc(), COPIED)
 }

@@ -2,7 +2,8 @@
 
 use json::Scratch;
 use krates_cm_json::{JsonRef, Owned, Parsed};
-use krates_samples::table::{Question, Row, hold};
+use krates_samples::table::{Row, Tell, compare, hold};
+use krates_samples::text::Text;
 use serde_json::Value;
 use std::alloc::{AllocError, Global};
 use std::test::Fail;
@@ -41,83 +42,61 @@ const DEPTHS: &[Row] = &[("1", "read"), ("127", "read"), ("128", "not read")];
 /// What a text is.
 struct InPlace;
 
-impl Question for InPlace {
-    fn told(alloc: Global, text: &str) -> Result<String, Fail> {
-        let mut scratch = Scratch::new(alloc);
-        let Some(parsed) = Parsed::parse(alloc, text, &mut scratch)? else {
-            return Ok(String::from_str(alloc, "not read")?);
+impl Tell for InPlace {
+    fn tell(told: &mut Text, text: &str) -> Result<(), Fail> {
+        let mut scratch = Scratch::new(told.allocator());
+        let Some(parsed) = Parsed::parse(told.allocator(), text, &mut scratch)? else {
+            told.push_str("not read");
+            return Ok(());
         };
-        let value = parsed.root().to_value(alloc)?;
-        same_parts(alloc, parsed.root(), Owned { value: &value }, text)?;
-        Ok(value.to_string(alloc)?)
+        let value = parsed.root().to_value(told.allocator())?;
+        write!(told, "{value}");
+        same_parts(
+            told.allocator(),
+            parsed.root(),
+            Owned { value: &value },
+            text,
+        )
     }
 }
 
-/// Whether two values are of the same kind, and alike as plain values.
-fn is_alike<J: JsonRef, K: JsonRef>(a: J, b: K) -> bool {
-    a.is_null() == b.is_null()
-        && a.is_object() == b.is_object()
-        && a.as_bool() == b.as_bool()
-        && a.as_str() == b.as_str()
-        && a.len() == b.len()
+/// Adds a part after its name, where there is one, and a line feed.
+fn push_part<J: JsonRef>(told: &mut Text, name: &str, part: Option<J>) -> Result<(), AllocError> {
+    if let Some(part) = part {
+        let value = part.to_value(told.allocator())?;
+        write!(told, "{name}{value}");
+    }
+    told.push_str("\n");
+    Ok(())
 }
 
-/// Whether two parts are printed alike.
-fn is_printed_alike<J: JsonRef, K: JsonRef>(
-    alloc: Global,
-    a: Option<J>,
-    b: Option<K>,
-) -> Result<bool, AllocError> {
-    Ok(printed(alloc, a)? == printed(alloc, b)?)
-}
-
-/// Whether two values have the same parts.
-fn has_same_parts<J: JsonRef, K: JsonRef>(alloc: Global, a: J, b: K) -> Result<bool, AllocError> {
-    Ok(
-        is_printed_alike(alloc, a.item(1), b.item(1))?
-            && is_printed_alike(alloc, a.get("a"), b.get("a"))?
-            && names(alloc, a)? == names(alloc, b)?,
-    )
-}
-
-/// Compares what two equal values answer.
-fn same_parts<J: JsonRef, K: JsonRef>(alloc: Global, a: J, b: K, text: &str) -> Result<(), Fail> {
-    if is_alike(a, b) && has_same_parts(alloc, a, b)? {
+/// Adds the members of an object; nothing where it has none.
+fn push_members<J: JsonRef>(told: &mut Text, value: J) -> Result<(), AllocError> {
+    let Some(members) = value.members(told.allocator())? else {
         return Ok(());
-    }
-    Err(Fail::new(format_args!("{text}: other parts in its text")))
-}
-
-/// A part, printed; empty where there is none.
-fn printed<J: JsonRef>(alloc: Global, part: Option<J>) -> Result<String, AllocError> {
-    let Some(part) = part else {
-        return Ok(String::new(alloc));
-    };
-    let value = part.to_value(alloc)?;
-    value.to_string(alloc)
-}
-
-/// Writes a member of an object, as a line.
-fn push_member<J: JsonRef>(
-    lines: &mut String,
-    alloc: Global,
-    name: &str,
-    member: J,
-) -> Result<(), AllocError> {
-    let printed = printed(alloc, Some(member))?;
-    write!(lines, "{name}{printed}\n")
-}
-
-/// The members of an object, one per line; empty where it has none.
-fn names<J: JsonRef>(alloc: Global, value: J) -> Result<String, AllocError> {
-    let mut lines = String::new(alloc);
-    let Some(members) = value.members(alloc)? else {
-        return Ok(lines);
     };
     for (name, member) in members.iter() {
-        push_member(&mut lines, alloc, name, *member)?;
+        push_part(told, name, Some(*member))?;
     }
-    Ok(lines)
+    Ok(())
+}
+
+/// Adds of what kind a value is, what it is as a plain value, its second item, its member `a`, and all members.
+fn push_parts<J: JsonRef>(told: &mut Text, value: J) -> Result<(), AllocError> {
+    let is = (value.is_null(), value.is_object(), value.as_bool());
+    write!(told, "{is:?} {:?} {:?}\n", value.as_str(), value.len());
+    push_part(told, "", value.item(1))?;
+    push_part(told, "", value.get("a"))?;
+    push_members(told, value)
+}
+
+/// Compares what two equal values answer, and names their text where that differs.
+fn same_parts<J: JsonRef, K: JsonRef>(alloc: Global, a: J, b: K, text: &str) -> Result<(), Fail> {
+    let mut told = Text::new(alloc);
+    let mut known = Text::new(alloc);
+    push_parts(&mut told, a)?;
+    push_parts(&mut known, b)?;
+    compare(text, told.whole()?.as_str(), known.whole()?.as_str())
 }
 
 /// Arrays that nest this deep.
@@ -130,28 +109,26 @@ fn arrays(alloc: Global, depth: usize) -> Result<String, AllocError> {
 /// Whether arrays that nest this deep are read.
 struct Nested;
 
-impl Question for Nested {
-    fn told(alloc: Global, depth: &str) -> Result<String, Fail> {
-        let text = arrays(alloc, depth.parse()?)?;
-        let mut scratch = Scratch::new(alloc);
-        let told = match Parsed::parse(alloc, text.as_str(), &mut scratch)? {
-            Some(_) => "read",
-            None => "not read",
-        };
-        Ok(String::from_str(alloc, told)?)
+impl Tell for Nested {
+    fn tell(told: &mut Text, depth: &str) -> Result<(), Fail> {
+        let text = arrays(told.allocator(), depth.parse()?)?;
+        let mut scratch = Scratch::new(told.allocator());
+        let parsed = Parsed::parse(told.allocator(), text.as_str(), &mut scratch)?;
+        told.push_str(if parsed.is_some() { "read" } else { "not read" });
+        Ok(())
     }
 }
 
 /// What `serde_json` reads a text as, which refuses what isn't read in place.
 struct AsValue;
 
-impl Question for AsValue {
-    fn told(alloc: Global, text: &str) -> Result<String, Fail> {
-        let told = match Value::from_str(alloc, text) {
-            Ok(value) => value.to_string(alloc),
-            Err(_) => String::from_str(alloc, "not read"),
-        };
-        Ok(told?)
+impl Tell for AsValue {
+    fn tell(told: &mut Text, text: &str) -> Result<(), Fail> {
+        match Value::from_str(told.allocator(), text) {
+            Ok(value) => write!(told, "{value}"),
+            Err(_) => told.push_str("not read"),
+        }
+        Ok(())
     }
 }
 

@@ -6,8 +6,6 @@
 #![tactic(auto)]
 
 #[cfg(test)]
-mod agenda;
-#[cfg(test)]
 mod certificates;
 #[cfg(test)]
 mod correction;

@@ -5,6 +5,7 @@ use krates_cm_json::FromValue;
 use krates_samples::table::{Question, Row, compare};
 use serde_json::Value;
 use std::alloc::Global;
+use std::fmt::Debug;
 use std::test::Fail;
 
 /// The value that JSON is.
@@ -41,6 +42,18 @@ pub(crate) fn hold_within<Q: Question>(
         hold_row_within::<Q>(alloc, around, row)?;
     }
     Ok(())
+}
+
+/// Fails where another value shows other fields than the one that was read of a text.
+pub(crate) fn same_fields<T: Debug>(
+    alloc: Global,
+    json: &str,
+    other: &T,
+    read: &T,
+) -> Result<(), Fail> {
+    let other = format!(in alloc; "{other:?}")?;
+    let read = format!(in alloc; "{read:?}")?;
+    compare(json, other.as_str(), read.as_str())
 }
 
 /// The package `cargo` of this version, with this source and these features as JSON.

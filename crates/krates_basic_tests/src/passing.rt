@@ -2,9 +2,9 @@
 
 use crate::expressions::opened;
 use krates_samples::settings::targets_of;
-use krates_samples::table::{Question, Row, hold};
+use krates_samples::table::{Row, Tell, hold};
+use krates_samples::text::Text;
 use krates_text::passing::passes;
-use std::alloc::Global;
 use std::test::Fail;
 
 /// Targets, each with the feature that is enabled there after a plus sign, and after a bar a target text, if there is one; and whether
@@ -91,21 +91,22 @@ const WITHOUT_END: &[Row] = &[
     ("x86_64-pc-windows-msvc x86_64-unknown-linux-musl", "false"),
 ];
 
-/// Whether a text passes at the targets of these words.
-fn is_passing(alloc: Global, targets: &str, text: Option<&str>) -> Result<String, Fail> {
-    let targets = targets_of(alloc, targets)?;
-    let is_passing = passes(alloc, text, targets.as_slice())?;
-    Ok(format!(in alloc; "{is_passing}")?)
+/// Adds whether a text passes at the targets of these words.
+fn push_passing(told: &mut Text, targets: &str, text: Option<&str>) -> Result<(), Fail> {
+    let targets = targets_of(told.allocator(), targets)?;
+    let is_passing = passes(told.allocator(), text, targets.as_slice())?;
+    write!(told, "{is_passing}");
+    Ok(())
 }
 
 /// Whether the text of a line passes at its targets.
 struct Passing;
 
-impl Question for Passing {
-    fn told(alloc: Global, line: &str) -> Result<String, Fail> {
+impl Tell for Passing {
+    fn tell(told: &mut Text, line: &str) -> Result<(), Fail> {
         match line.split_once(" | ") {
-            Some((targets, text)) => is_passing(alloc, targets, Some(text)),
-            None => is_passing(alloc, line, None),
+            Some((targets, text)) => push_passing(told, targets, Some(text)),
+            None => push_passing(told, line, None),
         }
     }
 }
@@ -113,10 +114,10 @@ impl Question for Passing {
 /// Whether the beginning of an expression with too many forms passes at the targets of a line.
 struct TooDeep;
 
-impl Question for TooDeep {
-    fn told(alloc: Global, targets: &str) -> Result<String, Fail> {
-        let text = opened(alloc, 100_000)?;
-        is_passing(alloc, targets, Some(text.as_str()))
+impl Tell for TooDeep {
+    fn tell(told: &mut Text, targets: &str) -> Result<(), Fail> {
+        let text = opened(told.allocator(), 100_000)?;
+        push_passing(told, targets, Some(text.as_str()))
     }
 }
 

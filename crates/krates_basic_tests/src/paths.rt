@@ -1,9 +1,8 @@
 //! Paths: their components, their parents, and how they are joined and compared.
 
-use krates_samples::table::{Question, Row, hold};
+use krates_samples::table::{Row, Tell, hold};
 use krates_samples::text::Text;
 use krates_text::path::{components, ends_with, join, parent, same};
-use std::alloc::Global;
 use std::test::Fail;
 
 /// A path and its components, in order, each after a bar.
@@ -15,13 +14,12 @@ const COMPONENTS: &[Row] = &[
 /// The components of a path.
 struct Components;
 
-impl Question for Components {
-    fn told(alloc: Global, path: &str) -> Result<String, Fail> {
-        let mut told = Text::new(alloc);
+impl Tell for Components {
+    fn tell(told: &mut Text, path: &str) -> Result<(), Fail> {
         for component in components(path) {
             write!(told, "|{}", component.as_os_str());
         }
-        Ok(told.whole()?)
+        Ok(())
     }
 }
 
@@ -42,9 +40,10 @@ const PARENTS: &[Row] = &[
 /// The parent of a path.
 struct Parent;
 
-impl Question for Parent {
-    fn told(alloc: Global, path: &str) -> Result<String, Fail> {
-        Ok(format!(in alloc; "{:?}", parent(path))?)
+impl Tell for Parent {
+    fn tell(told: &mut Text, path: &str) -> Result<(), Fail> {
+        write!(told, "{:?}", parent(path));
+        Ok(())
     }
 }
 
@@ -60,10 +59,12 @@ const JOINED: &[Row] = &[
 /// A base and a path, joined.
 struct Joined;
 
-impl Question for Joined {
-    fn told(alloc: Global, line: &str) -> Result<String, Fail> {
+impl Tell for Joined {
+    fn tell(told: &mut Text, line: &str) -> Result<(), Fail> {
         let (base, path) = line.split_once('|').unwrap_or((line, ""));
-        Ok(join(alloc, base, path)?)
+        let joined = join(told.allocator(), base, path)?;
+        told.push_str(joined.as_str());
+        Ok(())
     }
 }
 
@@ -81,10 +82,11 @@ const COMPARED: &[Row] = &[
 /// How two paths compare.
 struct Compared;
 
-impl Question for Compared {
-    fn told(alloc: Global, line: &str) -> Result<String, Fail> {
+impl Tell for Compared {
+    fn tell(told: &mut Text, line: &str) -> Result<(), Fail> {
         let (path, other) = line.split_once('|').unwrap_or((line, ""));
-        Ok(format!(in alloc; "{:?}", (ends_with(path, other), same(path, other)))?)
+        write!(told, "{:?}", (ends_with(path, other), same(path, other)));
+        Ok(())
     }
 }
 

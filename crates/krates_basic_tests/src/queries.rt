@@ -1,13 +1,13 @@
 //! What a document answers, what its kinds and ids print, and copies of its types.
 
 use crate::ids::package_id;
-use crate::packages::{hold_within, package, read};
+use crate::packages::{hold_within, package, read, same_fields};
 use krates_cm::{
     DepKindInfo, Dependency, DependencyKind, Edition, Metadata, Package, PackageId, Source, Target,
     TargetKind, WorkspaceDefaultMembers,
 };
 use krates_cm_json::FromValue;
-use krates_samples::table::{Question, Row, compare, hold};
+use krates_samples::table::{Row, Tell, compare, hold};
 use krates_samples::text::Text;
 use std::alloc::{AllocError, Global};
 use std::fmt::Debug;
@@ -128,95 +128,73 @@ const SOURCES: &[Row] = &[
     (r#""""#, "Some(Other), local: false"),
 ];
 
-/// The names of packages.
-fn names<'a>(alloc: Global, packages: &[&'a Package]) -> Result<Vec<&'a str>, AllocError> {
-    let mut names = Vec::new(alloc);
-    for &package in packages {
-        names.push(package.name.as_str())?;
+/// Adds the names of packages, as a list.
+fn push_names(told: &mut Text, packages: &[&Package]) {
+    let mut mark = "[";
+    for package in packages {
+        write!(told, "{mark}{:?}", package.name);
+        mark = ", ";
     }
-    Ok(names)
-}
-
-/// The names of the default packages of the workspace, where it names them.
-fn default_names<'a>(
-    alloc: Global,
-    metadata: &'a Metadata,
-) -> Result<Option<Vec<&'a str>>, AllocError> {
-    match metadata.workspace_default_packages(alloc)? {
-        Some(packages) => Ok(Some(names(alloc, packages.as_slice())?)),
-        None => Ok(None),
-    }
-}
-
-/// What a document answers.
-fn document_answers(alloc: Global, metadata: &Metadata) -> Result<String, AllocError> {
-    let root = metadata.root_package().map(|p| p.name.as_str());
-    let members = metadata.workspace_packages(alloc)?;
-    let members = names(alloc, members.as_slice())?;
-    let defaults = default_names(alloc, metadata)?;
-    let id = package_id(alloc, "B")?;
-    let b = metadata.package(&id).map(|p| p.name.as_str());
-    format!(in alloc; "root {root:?}, members {members:?}, default {defaults:?}, B is {b:?}")
-}
-
-/// Where the licence file and the readme of a package are.
-fn files(alloc: Global, package: &Package) -> Result<String, AllocError> {
-    let license = package.license_file(alloc)?;
-    let readme = package.readme(alloc)?;
-    format!(in alloc; "{license:?}, {readme:?}")
-}
-
-/// Of what kind the source of a package is, and whether the package is local.
-fn source_answers(alloc: Global, package: &Package) -> Result<String, AllocError> {
-    let kind = package.source.as_ref().map(|source| source.kind());
-    let is_local = package.is_local();
-    format!(in alloc; "{kind:?}, local: {is_local}")
-}
-
-/// The tests that say yes of a target.
-fn tests(alloc: Global, target: &Target) -> Result<String, AllocError> {
-    let all = [
-        (target.is_lib(), "lib "),
-        (target.is_bin(), "bin "),
-        (target.is_example(), "example "),
-        (target.is_test(), "test "),
-        (target.is_bench(), "bench "),
-        (target.is_custom_build(), "custom-build "),
-        (target.is_proc_macro(), "proc-macro "),
-    ];
-    let mut told = Text::new(alloc);
-    for &(is, name) in all.as_slice() {
-        if is {
-            told.push_str(name);
-        }
-    }
-    told.whole()
+    told.push_str(if packages.is_empty() { "[]" } else { "]" })
 }
 
 /// A value that answers small questions.
 trait Answers: FromValue {
-    /// What it answers.
-    fn answers(&self, alloc: Global) -> Result<String, AllocError>;
+    /// Adds what it answers.
+    fn push_answers(&self, told: &mut Text) -> Result<(), AllocError>;
 }
 
 /// What a document answers.
 impl Answers for Metadata {
-    fn answers(&self, alloc: Global) -> Result<String, AllocError> {
-        document_answers(alloc, self)
+    fn push_answers(&self, told: &mut Text) -> Result<(), AllocError> {
+        let alloc = told.allocator();
+        let root = self.root_package().map(|p| p.name.as_str());
+        write!(told, "root {root:?}, members ");
+        push_names(told, &self.workspace_packages(alloc)?);
+        told.push_str(", default ");
+        match self.workspace_default_packages(alloc)? {
+            Some(packages) => {
+                told.push_str("Some(");
+                push_names(told, &packages);
+                told.push_str(")")
+            }
+            None => told.push_str("None"),
+        }
+        let id = package_id(alloc, "B")?;
+        let b = self.package(&id).map(|p| p.name.as_str());
+        write!(told, ", B is {b:?}");
+        Ok(())
     }
 }
 
-/// Where the files of a package are.
+/// Where the licence file and the readme of a package are.
 impl Answers for Package {
-    fn answers(&self, alloc: Global) -> Result<String, AllocError> {
-        files(alloc, self)
+    fn push_answers(&self, told: &mut Text) -> Result<(), AllocError> {
+        let license = self.license_file(told.allocator())?;
+        let readme = self.readme(told.allocator())?;
+        write!(told, "{license:?}, {readme:?}");
+        Ok(())
     }
 }
 
 /// The tests that say yes of a target.
 impl Answers for Target {
-    fn answers(&self, alloc: Global) -> Result<String, AllocError> {
-        tests(alloc, self)
+    fn push_answers(&self, told: &mut Text) -> Result<(), AllocError> {
+        let all = [
+            (self.is_lib(), "lib "),
+            (self.is_bin(), "bin "),
+            (self.is_example(), "example "),
+            (self.is_test(), "test "),
+            (self.is_bench(), "bench "),
+            (self.is_custom_build(), "custom-build "),
+            (self.is_proc_macro(), "proc-macro "),
+        ];
+        for &(is, name) in all.as_slice() {
+            if is {
+                told.push_str(name);
+            }
+        }
+        Ok(())
     }
 }
 
@@ -225,20 +203,22 @@ struct AnswersOf<T: Answers> {
     of: PhantomData<T>,
 }
 
-impl<T: Answers> Question for AnswersOf<T> {
-    fn told(alloc: Global, json: &str) -> Result<String, Fail> {
-        let value: T = read(alloc, json)?;
-        Ok(value.answers(alloc)?)
+impl<T: Answers> Tell for AnswersOf<T> {
+    fn tell(told: &mut Text, json: &str) -> Result<(), Fail> {
+        let value: T = read(told.allocator(), json)?;
+        Ok(value.push_answers(told)?)
     }
 }
 
 /// Of what kind a source is that JSON is, and whether a package of it is local.
 struct Origin;
 
-impl Question for Origin {
-    fn told(alloc: Global, source: &str) -> Result<String, Fail> {
-        let package = package(alloc, "1.0.0", source, "{}")?;
-        Ok(source_answers(alloc, &package)?)
+impl Tell for Origin {
+    fn tell(told: &mut Text, source: &str) -> Result<(), Fail> {
+        let package = package(told.allocator(), "1.0.0", source, "{}")?;
+        let kind = package.source.as_ref().map(|source| source.kind());
+        write!(told, "{kind:?}, local: {}", package.is_local());
+        Ok(())
     }
 }
 
@@ -266,13 +246,6 @@ const COPIED_PACKAGE: &str =
 
 const COPIED_DOCUMENT: &str =
     r#"{"packages":[],"workspace_members":["a"],"workspace_default_members":["b"],"workspace_root":"/w","target_directory":"/t","build_directory":"/b","metadata":{"k":[true]},"version":1,"resolve":{"nodes":[{"id":"a","deps":[{"name":"b","pkg":"c","dep_kinds":[{"kind":"build","target":"t"}]}],"dependencies":["c"],"features":["f"]}],"root":"a"}}"#;
-
-/// Fails where a copy shows other fields than what was read of a text.
-fn same_fields<T: Debug>(alloc: Global, json: &str, copy: &T, read: &T) -> Result<(), Fail> {
-    let copy = format!(in alloc; "{copy:?}")?;
-    let read = format!(in alloc; "{read:?}")?;
-    compare(json, copy.as_str(), read.as_str())
-}
 
 /// Fails where a copy of what is read of a text shows other fields.
 fn copied<T: FromValue + Clone + Debug>(alloc: Global, json: &str) -> Result<(), Fail> {
@@ -350,10 +323,11 @@ const CRATES_IO: &[Row] = &[
 /// Whether the source of a text is crates.io.
 struct IsCratesIo;
 
-impl Question for IsCratesIo {
-    fn told(alloc: Global, text: &str) -> Result<String, Fail> {
-        let source = source(alloc, text)?;
-        Ok(format!(in alloc; "{}", source.is_crates_io())?)
+impl Tell for IsCratesIo {
+    fn tell(told: &mut Text, text: &str) -> Result<(), Fail> {
+        let source = source(told.allocator(), text)?;
+        write!(told, "{}", source.is_crates_io());
+        Ok(())
     }
 }
 

@@ -1,8 +1,8 @@
 //! Feature references: which form each text has.
 
-use krates_samples::table::{Question, Row, hold};
+use krates_samples::table::{Row, Tell, hold};
+use krates_samples::text::Text;
 use krates_text::features::ParsedFeature;
-use std::alloc::Global;
 use std::test::Fail;
 
 /// A text and the form that it has.
@@ -24,10 +24,10 @@ const FORMS: &[Row] = &[
 /// The form of a text.
 struct Form;
 
-impl Question for Form {
-    fn told(alloc: Global, text: &str) -> Result<String, Fail> {
-        let form = ParsedFeature::from(text).feat();
-        Ok(format!(in alloc; "{form:?}")?)
+impl Tell for Form {
+    fn tell(told: &mut Text, text: &str) -> Result<(), Fail> {
+        write!(told, "{:?}", ParsedFeature::from(text).feat());
+        Ok(())
     }
 }
 

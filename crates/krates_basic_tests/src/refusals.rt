@@ -4,8 +4,9 @@
 use crate::ids::kid;
 use krates_cm::{Error as MetadataError, ReadError, UnknownName};
 use krates_ids::{Error, Kid, Lost};
-use krates_samples::table::{Question, Row, compare, hold};
-use std::alloc::{AllocError, Global};
+use krates_samples::table::{Question, Row, Tell, compare, hold};
+use krates_samples::text::Text;
+use std::alloc::Global;
 use std::test::Fail;
 use std::{io, str};
 
@@ -118,54 +119,51 @@ fn of_metadata(alloc: Global, name: &str) -> Result<MetadataError, Fail> {
 /// What the refusal of a build with this name prints.
 struct OfBuild;
 
-impl Question for OfBuild {
-    fn told(alloc: Global, name: &str) -> Result<String, Fail> {
-        Ok(of_build(alloc, name)?.to_string(alloc)?)
+impl Tell for OfBuild {
+    fn tell(told: &mut Text, name: &str) -> Result<(), Fail> {
+        let refusal = of_build(told.allocator(), name)?;
+        write!(told, "{refusal}");
+        Ok(())
     }
 }
 
 /// What the refusal of metadata with this name prints.
 struct OfMetadata;
 
-impl Question for OfMetadata {
-    fn told(alloc: Global, name: &str) -> Result<String, Fail> {
-        Ok(of_metadata(alloc, name)?.to_string(alloc)?)
+impl Tell for OfMetadata {
+    fn tell(told: &mut Text, name: &str) -> Result<(), Fail> {
+        let refusal = of_metadata(told.allocator(), name)?;
+        write!(told, "{refusal}");
+        Ok(())
     }
 }
 
 /// What the refusal prints up to the first colon and the space after that, where it has one.
 struct Begun;
 
-impl Question for Begun {
-    fn told(alloc: Global, name: &str) -> Result<String, Fail> {
-        let printed = OfMetadata::told(alloc, name)?;
+impl Tell for Begun {
+    fn tell(told: &mut Text, name: &str) -> Result<(), Fail> {
+        let printed = OfMetadata::told(told.allocator(), name)?;
         match printed.split_once(": ") {
-            Some((begun, _)) => Ok(format!(in alloc; "{begun}: ")?),
-            None => Ok(printed),
+            Some((begun, _)) => write!(told, "{begun}: "),
+            None => told.push_str(printed.as_str()),
         }
+        Ok(())
     }
 }
 
 #[test]
-fn refusals_of_builds_and_of_metadata(rt: HostRuntime) -> Result<(), Fail> {
+fn refusals_of_builds_of_metadata_and_of_names(rt: HostRuntime) -> Result<(), Fail> {
     hold::<OfBuild>(rt.alloc(), OF_BUILDS)?;
     hold::<OfMetadata>(rt.alloc(), OF_METADATA)?;
-    hold::<Begun>(rt.alloc(), OF_CAUSES)
-}
-
-/// What the refusals of names print, and that of a value without memory.
-fn of_names(alloc: Global) -> Result<String, AllocError> {
-    let kind = UnknownName::TargetKind;
-    let crate_type = UnknownName::CrateType;
-    let edition = UnknownName::Edition;
-    format!(in alloc; "{kind} | {crate_type} | {edition} | {}", ReadError::Memory)
-}
-
-#[test]
-fn refusals_of_names(rt: HostRuntime) -> Result<(), Fail> {
-    compare(
-        "names",
-        of_names(rt.alloc())?.as_str(),
-        "unknown target kind | unknown crate type | unknown edition | out of memory",
-    )
+    hold::<Begun>(rt.alloc(), OF_CAUSES)?;
+    let told = format!(in rt.alloc();
+        "{} | {} | {} | {}",
+        UnknownName::TargetKind,
+        UnknownName::CrateType,
+        UnknownName::Edition,
+        ReadError::Memory
+    )?;
+    let expected = "unknown target kind | unknown crate type | unknown edition | out of memory";
+    compare("names", told.as_str(), expected)
 }

@@ -1,10 +1,9 @@
 //! Package specifications: what they are read as, why a text isn't one, and which packages they match.
 
 use crate::packages::package;
-use krates_cm::Package;
 use krates_ids::PkgSpec;
-use krates_samples::table::{Question, Row, hold};
-use std::alloc::{AllocError, Global};
+use krates_samples::table::{Question, Row, Tell, hold};
+use krates_samples::text::Text;
 use std::test::Fail;
 
 /// Texts, and the name, version and url of the specification that each is.
@@ -172,84 +171,75 @@ const MATCHES: &[Row] = &[
     ),
 ];
 
-/// The name, version and url of a specification.
-fn described(alloc: Global, spec: &PkgSpec) -> Result<String, AllocError> {
+/// Adds the name, version and url of a specification.
+fn push_described(told: &mut Text, spec: &PkgSpec) {
     let name = &spec.name;
     let url = match &spec.url {
         Some(url) => url.as_str(),
         None => "any url",
     };
     match &spec.version {
-        Some(version) => format!(in alloc; "{name}, {version}, {url}"),
-        None => format!(in alloc; "{name}, any version, {url}"),
+        Some(version) => write!(told, "{name}, {version}, {url}"),
+        None => write!(told, "{name}, any version, {url}"),
     }
 }
 
 /// The specification that a text is, or why it isn't one.
 struct Read;
 
-impl Question for Read {
-    fn told(alloc: Global, text: &str) -> Result<String, Fail> {
-        let told = match PkgSpec::from_str(alloc, text) {
-            Ok(spec) => described(alloc, &spec),
-            Err(error) => error.to_string(alloc),
-        };
-        Ok(told?)
+impl Tell for Read {
+    fn tell(told: &mut Text, text: &str) -> Result<(), Fail> {
+        match PkgSpec::from_str(told.allocator(), text) {
+            Ok(spec) => push_described(told, &spec),
+            Err(error) => write!(told, "{error}"),
+        }
+        Ok(())
     }
-}
-
-/// What a copy of a specification is.
-fn copy_of(alloc: Global, spec: &PkgSpec) -> Result<String, AllocError> {
-    let copy = spec.clone()?;
-    described(alloc, &copy)
 }
 
 /// The copy of the specification that a text is.
 struct Copied;
 
-impl Question for Copied {
-    fn told(alloc: Global, text: &str) -> Result<String, Fail> {
-        let spec = PkgSpec::from_str(alloc, text)?;
-        Ok(copy_of(alloc, &spec)?)
+impl Tell for Copied {
+    fn tell(told: &mut Text, text: &str) -> Result<(), Fail> {
+        let spec = PkgSpec::from_str(told.allocator(), text)?;
+        push_described(told, &spec.clone()?);
+        Ok(())
     }
 }
 
 /// How the specification that a text is prints.
 struct Printed;
 
-impl Question for Printed {
-    fn told(alloc: Global, text: &str) -> Result<String, Fail> {
-        let spec = PkgSpec::from_str(alloc, text)?;
-        Ok(spec.to_string(alloc)?)
+impl Tell for Printed {
+    fn tell(told: &mut Text, text: &str) -> Result<(), Fail> {
+        let spec = PkgSpec::from_str(told.allocator(), text)?;
+        write!(told, "{spec}");
+        Ok(())
     }
 }
 
 /// The specification that its printed text is.
 struct PrintedAndRead;
 
-impl Question for PrintedAndRead {
-    fn told(alloc: Global, text: &str) -> Result<String, Fail> {
-        let printed = Printed::told(alloc, text)?;
-        Read::told(alloc, printed.as_str())
+impl Tell for PrintedAndRead {
+    fn tell(told: &mut Text, text: &str) -> Result<(), Fail> {
+        let printed = Printed::told(told.allocator(), text)?;
+        Read::tell(told, printed.as_str())
     }
-}
-
-/// Whether the specification that a text is matches a package.
-fn is_match(alloc: Global, spec: &str, package: &Package) -> Result<bool, Fail> {
-    let spec = PkgSpec::from_str(alloc, spec)?;
-    Ok(spec.matches(package))
 }
 
 /// Whether the specification of a line matches the package `cargo` of its version, with its source as JSON.
 struct Matches;
 
-impl Question for Matches {
-    fn told(alloc: Global, line: &str) -> Result<String, Fail> {
+impl Tell for Matches {
+    fn tell(told: &mut Text, line: &str) -> Result<(), Fail> {
         let (spec, line) = line.split_once(' ').unwrap_or((line, ""));
         let (version, source) = line.split_once(' ').unwrap_or((line, ""));
-        let package = package(alloc, version, source, "{}")?;
-        let is_match = is_match(alloc, spec, &package)?;
-        Ok(format!(in alloc; "{is_match}")?)
+        let spec = PkgSpec::from_str(told.allocator(), spec)?;
+        let package = package(told.allocator(), version, source, "{}")?;
+        write!(told, "{}", spec.matches(&package));
+        Ok(())
     }
 }
 

@@ -1,8 +1,8 @@
 //! Targets: the table row by row, and how a target is printed.
 
-use krates_samples::table::{Question, Row, hold};
-use krates_text::target::{Target, TargetInfo, builtin};
-use std::alloc::{AllocError, Global};
+use krates_samples::table::{Row, Tell, hold};
+use krates_samples::text::Text;
+use krates_text::target::{Target, builtin};
 use std::test::Fail;
 
 /// A triple and the description of its target, with each of its fields.
@@ -54,66 +54,51 @@ const KNOWN: &[Row] = &[
     ("", "false"),
 ];
 
-/// A description with each of its fields, or that there is none.
-fn shown(alloc: Global, info: Option<&TargetInfo>) -> Result<String, AllocError> {
-    match info {
-        Some(info) => format!(in alloc; "{info:?}"),
-        None => String::from_str(alloc, "no row"),
-    }
-}
-
-/// A copy of a description with each of its fields, or that there is none.
-fn shown_copy(alloc: Global, info: Option<&TargetInfo>) -> Result<String, AllocError> {
-    let Some(info) = info else {
-        return shown(alloc, None);
-    };
-    let copy = info.clone()?;
-    shown(alloc, Some(&copy))
-}
-
-/// The description of a target.
+/// The description of a target with each of its fields, or that there is none.
 struct Described;
 
-impl Question for Described {
-    fn told(alloc: Global, triple: &str) -> Result<String, Fail> {
-        let info = builtin(alloc, triple)?;
-        Ok(shown(alloc, info.as_ref())?)
+impl Tell for Described {
+    fn tell(told: &mut Text, triple: &str) -> Result<(), Fail> {
+        match builtin(told.allocator(), triple)? {
+            Some(info) => write!(told, "{info:?}"),
+            None => told.push_str("no row"),
+        }
+        Ok(())
     }
 }
 
 /// That of a copy of it.
 struct Copied;
 
-impl Question for Copied {
-    fn told(alloc: Global, triple: &str) -> Result<String, Fail> {
-        let info = builtin(alloc, triple)?;
-        Ok(shown_copy(alloc, info.as_ref())?)
+impl Tell for Copied {
+    fn tell(told: &mut Text, triple: &str) -> Result<(), Fail> {
+        match builtin(told.allocator(), triple)? {
+            Some(info) => write!(told, "{:?}", info.clone()?),
+            None => told.push_str("no row"),
+        }
+        Ok(())
     }
-}
-
-/// What a copy of a target prints.
-fn printed_copy(alloc: Global, target: &Target) -> Result<String, AllocError> {
-    let copy = target.clone()?;
-    copy.to_string(alloc)
 }
 
 /// What a copy of the target of a text prints.
 struct Printed;
 
-impl Question for Printed {
-    fn told(alloc: Global, text: &str) -> Result<String, Fail> {
-        let target = Target::new(alloc, text)?;
-        Ok(printed_copy(alloc, &target)?)
+impl Tell for Printed {
+    fn tell(told: &mut Text, text: &str) -> Result<(), Fail> {
+        let target = Target::new(told.allocator(), text)?;
+        write!(told, "{}", target.clone()?);
+        Ok(())
     }
 }
 
 /// Whether the target of a text is described.
 struct Known;
 
-impl Question for Known {
-    fn told(alloc: Global, text: &str) -> Result<String, Fail> {
-        let target = Target::new(alloc, text)?;
-        Ok(format!(in alloc; "{}", target.is_known())?)
+impl Tell for Known {
+    fn tell(told: &mut Text, text: &str) -> Result<(), Fail> {
+        let target = Target::new(told.allocator(), text)?;
+        write!(told, "{}", target.is_known());
+        Ok(())
     }
 }
 

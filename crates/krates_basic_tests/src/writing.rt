@@ -1,10 +1,10 @@
 //! What each type is written as, and that what was written is read as it was.
 
-use crate::packages::{read, told_within};
+use crate::packages::{read, same_fields, told_within};
 use krates_cm::{Dependency, Metadata, Node, Package, PackageId, Resolve, Source, Target};
 use krates_cm_json::{FromValue, ToValue};
-use krates_samples::table::{Question, Row, compare, hold};
-use std::alloc::Global;
+use krates_samples::table::{Row, Tell, hold};
+use krates_samples::text::Text;
 use std::fmt::Debug;
 use std::test::Fail;
 
@@ -94,24 +94,18 @@ const DOCUMENTS: &[Row] = &[
     ),
 ];
 
-/// What is read of a text, with all its fields.
-fn fields<T: FromValue + Debug>(alloc: Global, json: &str) -> Result<String, Fail> {
-    let value: T = read(alloc, json)?;
-    Ok(format!(in alloc; "{value:?}")?)
-}
-
 /// What is written for what is read of a text as this type. Fails where that is read as another value.
 struct Written<T> {
     value: T,
 }
 
-impl<T: FromValue + ToValue + Debug> Question for Written<T> {
-    fn told(alloc: Global, json: &str) -> Result<String, Fail> {
+impl<T: FromValue + ToValue + Debug> Tell for Written<T> {
+    fn tell(told: &mut Text, json: &str) -> Result<(), Fail> {
+        let alloc = told.allocator();
         let value: T = read(alloc, json)?;
-        let told = value.to_value(alloc)?.to_string(alloc)?;
-        let again = fields::<T>(alloc, told.as_str())?;
-        compare(json, again.as_str(), fields::<T>(alloc, json)?.as_str())?;
-        Ok(told)
+        write!(told, "{}", value.to_value(alloc)?);
+        let again: T = read(alloc, told.as_str())?;
+        same_fields(alloc, json, &again, &value)
     }
 }
 
@@ -126,10 +120,11 @@ fn between(written: &str) -> &str {
 /// What is written for the version of Rust that a package needs, between everything else that is written for the package.
 struct RustVersion;
 
-impl Question for RustVersion {
-    fn told(alloc: Global, json: &str) -> Result<String, Fail> {
-        let told = told_within::<Written<Package>>(alloc, (BEFORE, "}"), json)?;
-        Ok(String::from_str(alloc, between(told.as_str()))?)
+impl Tell for RustVersion {
+    fn tell(told: &mut Text, json: &str) -> Result<(), Fail> {
+        let written = told_within::<Written<Package>>(told.allocator(), (BEFORE, "}"), json)?;
+        told.push_str(between(written.as_str()));
+        Ok(())
     }
 }
 

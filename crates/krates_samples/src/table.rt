@@ -1,5 +1,6 @@
 //! Tables of worked examples, which one function walks.
 
+use crate::text::Text;
 use std::alloc::Global;
 use std::test::Fail;
 
@@ -10,6 +11,20 @@ pub type Row = (&'static str, &'static str);
 pub trait Question {
     /// The answer to a line.
     fn told(alloc: Global, line: &str) -> Result<String, Fail>;
+}
+
+/// What the lines of a table ask whose answers are written to one text, by calls that have no error to return.
+pub trait Tell {
+    /// Writes the answer to a line.
+    fn tell(told: &mut Text, line: &str) -> Result<(), Fail>;
+}
+
+impl<T: Tell> Question for T {
+    fn told(alloc: Global, line: &str) -> Result<String, Fail> {
+        let mut told = Text::new(alloc);
+        T::tell(&mut told, line)?;
+        Ok(told.whole()?)
+    }
 }
 
 /// Compares the answer to each line with the one that is known; fails at the first row where they differ, and names it.
