@@ -1,6 +1,5 @@
 -- Builds of documents that differ only in order.
-use Rattle.std.proofs.Common.{◌≡◌, ◌↔◌, List, [], ◌∷◌, Bool, true, false, ◌||◌, Option, refl, sym, ap, ◌∙◌, subst, inl, inr}
-use Rattle.std.proofs.Math.Bool.{or_comm}
+use Rattle.std.proofs.Common.{◌≡◌, ◌↔◌, Bool, true, Option, sym, ap, ◌∙◌, subst, inl, inr}
 use Rattle.std.proofs.lemmas.Option.{same_Some}
 use Rattle.std.specs.Cmp.{IsTotalOrder}
 use Rattle.std.specs.List.{list_any}
@@ -28,47 +27,25 @@ use Rattle.krates.proofs.AdmittedAlike.{turned, resolvable_there}
 use Rattle.krates.proofs.CorrectedAlike.{OneCorrection, seen_alike}
 use Rattle.krates_drawing.proofs.DivisionLemmas.{ReadsOnce}
 use Rattle.krates.proofs.ListedAlike.{same_there, list_alike}
-use Rattle.krates_rules.proofs.Members.{Member}
+use Rattle.krates_rules.proofs.Members.{member_any, passing_of}
 use Rattle.krates.proofs.SeenLemmas.{resolvable_seen}
+use Rattle.krates_drawing.proofs.Tests.{bools_same}
 
 -- ---- the names that an index is asked about
-
-record Found {X : Type 0} (test : X → Bool) (xs : List X) : Type 0 where
-  item : X
-  member : Member xs item
-  passes : test item ≡ true
-
-found_step : {X : Type 0} (test : X → Bool) (x : X) (xs : List X) (b : Bool) → test x ≡ b → (list_any test xs ≡ true → Found test xs) → (b || list_any test xs) ≡ true → Found test (x ∷ xs)
-found_step test x xs true e more h = record { item = x; member = inl refl; passes = e }
-found_step test x xs false e more h = let w = more h in record { item = w.item; member = inr w.member; passes = w.passes }
-
-found : {X : Type 0} (test : X → Bool) (xs : List X) → list_any test xs ≡ true → Found test xs
-found test [] h = absurd cc
-found test (x ∷ xs) h = found_step test x xs (test x) refl (found test xs) h
-
-any_of : {X : Type 0} (test : X → Bool) (xs : List X) (x : X) → Member xs x → test x ≡ true → list_any test xs ≡ true
-any_of test [] x m h = absurd m
-any_of test (y ∷ ys) x (inl e) h = ap (λ b. b || list_any test ys) (ap test e ∙ h)
-any_of test (y ∷ ys) x (inr m) h = rw (any_of test ys x m h) (or_comm (test y) true)
-
-same_truth : (a b : Bool) → (a ≡ true → b ≡ true) → (b ≡ true → a ≡ true) → a ≡ b
-same_truth true b there back = sym (there refl)
-same_truth false true there back = back refl
-same_truth false false there back = refl
 
 name_there : (m n : Metadata) (t : Text) → Reorders (metadata_view m) (metadata_view n) → list_any (λ p. bytes_eq (text_view p.name) t) m.packages.items ≡ true
     → list_any (λ p. bytes_eq (text_view p.name) t) n.packages.items ≡ true
 name_there m n t w h =
     let test : Package → Bool = λ p. bytes_eq (text_view p.name) t in
-    let x = found test m.packages.items h in
-    let y = same_there m n x.item w x.member in
-    let name : text_view y.pkg.name ≡ text_view x.item.name = ap (λ (p : PackageModel). p.name) y.same.rest in
-    any_of test n.packages.items y.pkg y.member (ap (λ s. bytes_eq s t) name ∙ x.passes)
+    let x = passing_of test m.packages.items h in
+    let y = same_there m n x.from w x.member in
+    let name : text_view y.pkg.name ≡ text_view x.from.name = ap (λ (p : PackageModel). p.name) y.same.rest in
+    member_any test n.packages.items y.pkg y.member (ap (λ s. bytes_eq s t) name ∙ x.passes)
 
 names_same : (m n : Metadata) → Reorders (metadata_view m) (metadata_view n) → (names : PackageNames) → HasNames m.packages.items names ↔ HasNames n.packages.items names
 names_same m n w names =
     let same : (t : Text) → list_any (λ p. bytes_eq (text_view p.name) t) m.packages.items ≡ list_any (λ p. bytes_eq (text_view p.name) t) n.packages.items = λ t.
-    same_truth _ _ (name_there m n t w) (name_there n m t (turned (metadata_view m) (metadata_view n) w)) in
+    bools_same _ _ (name_there m n t w) (name_there n m t (turned (metadata_view m) (metadata_view n) w)) in
     (λ h t. h t ∙ same t, λ h t. h t ∙ sym (same t))
 
 -- ---- refusals

@@ -25,13 +25,6 @@ use Rattle.krates_drawing.specs.declared.node.Node.{Node}
 use Rattle.krates_drawing.specs.declared.node.Node.TheVariants.{Krate, Feature}
 use Rattle.krates_queries.proofs.DirectLemmas.{got}
 
--- matching lists have the same length
-pub zip_length : {A B : Type 0} (R : A → B → Type 0) (xs : List A) (ys : List B) → AllZip R xs ys → length xs ≡ length ys
-zip_length R [] [] z = refl
-zip_length R [] (y ∷ ys) z = absurd z
-zip_length R (x ∷ xs) [] z = absurd z
-zip_length R (x ∷ xs) (y ∷ ys) z = ap suc (zip_length R xs ys z.1)
-
 -- ---- connected
 
 value_there : {N : Type 0} (o : Option (Node N)) (id : Id) (m : List (Option ℕ)) → option_map planned_node o ≡ Some (PlannedCrate id m) → (x : N) × (value_in o ≡ Some x)

@@ -37,7 +37,7 @@ use Rattle.krates_selection.specs.declared.kept.KeptStep.{KeptStep}
 use Rattle.krates_queries.specs.Why.{IsExplainedBy}
 use Rattle.krates_queries.specs.Drawn.{IsNumbered, IsOutlineFor}
 use Rattle.krates.specs.Enabled.{AreEnabledSets, numbered}
-use Rattle.krates_queries.proofs.NodeLemmas.{enabled_listed}
+use Rattle.krates_queries.proofs.NodeLemmas.{enabled_listed, crate_id}
 use Rattle.krates_queries.specs.Kept.{AreFeatures, AreNodes, IsEnabledIn, IsNameAt, names_in_each}
 use Rattle.krates.specs.KeptGraph.{IsGraphOf, named_fact}
 use Rattle.krates.specs.MadeNodes.{IsMade}
@@ -49,7 +49,7 @@ use Rattle.krates.proofs.BuildLemmas.{Builds, builds, enabled}
 use Rattle.krates.proofs.MadeLemmas.{AreDrawnNodes, alike, first_alike, mapped_length}
 use Rattle.krates_rules.proofs.Members.{Member, member_of, contains_of, mapped_of, member_map}
 use Rattle.krates.proofs.EnabledLemmas.{listed_at}
-use Rattle.krates.proofs.FeaturesDrawn.{are_features, id_here, stands_here, viewed_ids}
+use Rattle.krates.proofs.FeaturesDrawn.{are_features, stands_here, viewed_ids}
 use Rattle.krates_drawing.proofs.DivisionLemmas.{ReadsOnce}
 use Rattle.krates_rules.proofs.OrderedIds.{Compares, HasLike, one_order}
 use Rattle.krates.proofs.OutlineFacts.{kept_among}
@@ -81,7 +81,7 @@ enabled_by_id ids lists features same so i f = (
       let w = mapped_of numbered features (h.theirs.place, f) (member_of _ (h.theirs.place, f) ((so h.theirs.place f).0 (record { names = h.names; at = h.theirs.at; among = h.among }))) in
       let place : w.from.krate ≡ h.theirs.place = ap (λ (p : ℕ × Text). p.0) w.is in
       let name : text_view w.from.name ≡ f = ap (λ (p : ℕ × Text). p.1) w.is in
-      let id : id_at ids w.from.krate ≡ i = ap (id_at ids) place ∙ (id_here ids h.theirs.place stands.there stands.at ∙ stands.same) in
+      let id : id_at ids w.from.krate ≡ i = ap (id_at ids) place ∙ (crate_id ids h.theirs.place stands.there stands.at ∙ stands.same) in
       let fact : feature_fact ids w.from ≡ Feature i f = ap (λ j. Feature j (text_view w.from.name)) id ∙ ap (Feature i) name in (
         contains_of (map id_of ids) i (subst (λ z. Member (map id_of ids) z) stands.same (listed_at ids h.theirs.place stands.there stands.at)),
         contains_of (map (feature_fact ids) features) (Feature i f) (subst (Member (map (feature_fact ids) features)) fact (member_map (feature_fact ids) features w.from w.member)),

@@ -17,7 +17,7 @@ use Rattle.krates_ids.specs.Identity.{Identity, empty_identity, id_cmp}
 use Rattle.krates_rules.proofs.SeenInOrder.{sorted_same}
 use Rattle.krates_selection.proofs.CrateNumbers.{seen_id}
 use Rattle.krates_selection.specs.Selection.{HasHome, id_at, no_id, feature_cmp}
-use Rattle.krates_rules.specs.Facts.{Id, Fact}
+use Rattle.krates_rules.specs.Facts.{Id}
 use Rattle.krates_rules.specs.Facts as facts
 use Rattle.krates_rules.specs.Resolved.{id_of, StandsAt}
 use Rattle.krates_drawing.specs.Division.{IsAmong, outline_ids}
@@ -91,10 +91,6 @@ number_is o (x ∷ ids) (k ∷ ks) i (suc n) e s h =
 pub viewed_ids : (ks : List CrateRow) → map id_of (outline_ids ks) ≡ map (λ (k : outline.CrateRow). k.id) (map crate_row_view ks)
 viewed_ids [] = refl
 viewed_ids (k ∷ ks) = ap (λ js. id_of k.id ∷ js) (viewed_ids ks)
-
--- the id of a number is that of the crate at the place
-pub id_here : (ids : List Identity) (n : ℕ) (x : Identity) → slice_get ids n ≡ Some x → id_at ids n ≡ id_of x
-id_here ids n x at = seen_id ids n (slice_get_within ids n x at) ∙ ap id_of (get_or_from_slice_get ids n x empty_identity at)
 
 pub stands_here : (ids : List Identity) (n : ℕ) (i : Id) → n < length ids → id_at ids n ≡ i → StandsAt ids i n
 stands_here ids n i lt e = record { there = get_or ids n empty_identity; at = slice_get-get_or ids n empty_identity lt; same = sym (seen_id ids n lt) ∙ e }

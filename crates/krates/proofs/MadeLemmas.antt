@@ -1,7 +1,6 @@
 -- Nodes made from what was drawn and from packages, one by one and as lists.
-use Rattle.std.proofs.Common.{◌≡◌, ◌∙◌, ℕ, suc, List, [], ◌∷◌, ◌++◌, length, map, Option, refl, sym, ap, subst}
-use Rattle.std.specs.BTreeSet.{BTreeSet}
-use Rattle.std.specs.Global.{Vec}
+use Rattle.std.proofs.Common.{◌≡◌, ◌≤◌, ◌∙◌, ℕ, suc, arith, List, [], ◌∷◌, ◌++◌, length, map, refl, sym, ap, subst}
+use Rattle.std.proofs.lemmas.List.{length-map}
 use Rattle.std.specs.List.{AllZip, zip}
 use Rattle.std.specs.Prelude.{String}
 use Rattle.std.specs.declared.alloc.Global.{Global}
@@ -13,44 +12,33 @@ use Rattle.krates_drawing.specs.Outline as outline
 use Rattle.krates_drawing.specs.Outline.{Outline}
 use Rattle.krates_drawing.specs.Views.{ArePlannedNodes, planned_feature_view}
 use Rattle.krates_ids.specs.Identity.{Identity}
+use Rattle.krates_ids.specs.declared.error.Error.{Error}
+use Rattle.krates_ids.specs.declared.error.Error.TheVariants as errors
 use Rattle.krates_rules.specs.Facts.{Id}
 use Rattle.krates_rules.specs.Resolved.{id_of}
 use Rattle.krates_queries.specs.Drawn.{planned_node}
 use Rattle.krates_drawing.specs.Division.{krate_ids, krate_packages}
-use Rattle.krates.specs.MadeNodes.{IsMade, crate_node, feature_node}
+use Rattle.krates.specs.MadeNodes.{CountRefusal, IsMade, Mapping, Set, crate_node, feature_node, nodes_in}
 use Rattle.krates_drawing.specs.Node.{crate_ids, crate_values, crate_features, CratesFirst, names_in}
 use Rattle.krates_drawing.specs.declared.division.Krate.{Krate}
 use Rattle.krates_drawing.specs.declared.nodes.PlannedFeature.{PlannedFeature}
 use Rattle.krates_drawing.specs.declared.nodes.PlannedNodes.{PlannedNodes}
 use Rattle.krates_drawing.specs.declared.node.Node.{Node}
 use Rattle.krates_drawing.specs.declared.node.Node.TheVariants as node
-
--- one more pair
-pub zip_push : {A B : Type 0} (R : A → B → Type 0) (xs : List A) (ys : List B) (x : A) (y : B) → AllZip R xs ys → R x y → AllZip R (xs ++ x ∷ []) (ys ++ y ∷ [])
-zip_push R [] [] x y h r = (r, tt)
-zip_push R [] (b ∷ ys) x y h r = absurd h
-zip_push R (a ∷ xs) [] x y h r = absurd h
-zip_push R (a ∷ xs) (b ∷ ys) x y h r = (h.0, zip_push R xs ys x y h.1 r)
-
--- two parts, one after the other
-pub zip_joined : {A B : Type 0} (R : A → B → Type 0) (xs us : List A) (ys vs : List B) → AllZip R xs ys → AllZip R us vs → AllZip R (xs ++ us) (ys ++ vs)
-zip_joined R [] us [] vs h r = r
-zip_joined R [] us (y ∷ ys) vs h r = absurd h
-zip_joined R (x ∷ xs) us [] vs h r = absurd h
-zip_joined R (x ∷ xs) us (y ∷ ys) vs h r = (h.0, zip_joined R xs us ys vs h.1 r)
+use Rattle.krates_selection.proofs.Places.{zip_append}
 
 -- the node of a feature has no package, so it stays as it is
-pub features_made : {N : Type 0} (made : Package → N → Type 0) (fs : List PlannedFeature) → AllZip (IsMade made) (map feature_node fs) (map feature_node fs)
+features_made : {N : Type 0} (made : Package → N → Type 0) (fs : List PlannedFeature) → AllZip (IsMade made) (map feature_node fs) (map feature_node fs)
 features_made made [] = tt
 features_made made (f ∷ fs) = ((refl, refl), features_made made fs)
 
+-- the nodes of the features come after those of the crates
+pub nodes_made : {N : Type 0} (made : Package → N → Type 0) (crates : List (Node Package)) (features : List PlannedFeature) (nodes after : List (Node N)) → AllZip (IsMade made) crates nodes
+    → after ≡ nodes ++ map feature_node features → AllZip (IsMade made) (nodes_in crates features) after
+nodes_made made crates features nodes after h is =
+    subst (AllZip (IsMade made) (nodes_in crates features)) (sym is) (zip_append (IsMade made) crates (map feature_node features) nodes (map feature_node features) h (features_made made features))
+
 -- ---- what was planned
-
-abbrev Set : Type 0
-Set = BTreeSet (String Global)
-
-abbrev Mapping : Type 0
-Mapping = Vec (Option ℕ)
 
 abbrev nodes_for : List PlannedFeature → List (Node Package)
 nodes_for fs = map feature_node fs
@@ -112,14 +100,10 @@ planned_joined t (k ∷ ks) (q ∷ krates) (s ∷ sets) (n ∷ maps) rest fs e m
     ap (λ ss. model.PlannedCrate (id_of q.id) n.items ∷ ss) more ∙ ap (λ (a : Id). model.PlannedCrate a n.items ∷ (map (planned_crate t) ks ++ fs)) id ∙ ap (λ b. model.PlannedCrate k.id b ∷ (map (planned_crate t) ks ++ fs)) head
 
 same_length : {A B C : Type 0} (f : A → C) (g : B → C) (xs : List A) (ys : List B) → map f xs ≡ map g ys → length xs ≡ length ys
-same_length f g [] [] e = refl
-same_length f g [] (y ∷ ys) e = absurd cc
-same_length f g (x ∷ xs) [] e = absurd cc
-same_length f g (x ∷ xs) (y ∷ ys) e = let rest : map f xs ≡ map g ys = cc in ap suc (same_length f g xs ys rest)
+same_length f g xs ys e = sym (length-map xs f) ∙ ap length e ∙ length-map ys g
 
 pub mapped_length : (krates : List Krate) → length (krate_ids krates) ≡ length krates
-mapped_length [] = refl
-mapped_length (k ∷ krates) = ap suc (mapped_length krates)
+mapped_length krates = length-map krates (λ (k : Krate). k.id)
 
 pub record AreDrawnNodes (t : Outline) (krates : List Krate) (sets : List Set) (nodes : List (Node Package)) : Type 0 where
   pub made : AreMadeOf t krates sets nodes
@@ -140,12 +124,8 @@ drawn_nodes t krates sets planned nodes e d i are =
       planned_are = ap (λ (ns : List (Node Package)). map planned_node ns) are ∙ there;
     }
 
-many : {X Y : Type 0} (f : X → Y) (xs : List X) → length xs ≡ length (map f xs)
-many f [] = refl
-many f (x ∷ xs) = ap suc (many f xs)
-
 pub count_of : {X Y : Type 0} (f : X → Y) (xs : List X) (ys : List Y) → map f xs ≡ ys → length xs ≡ length ys
-count_of f xs ys e = many f xs ∙ ap length e
+count_of f xs ys e = sym (length-map xs f) ∙ ap length e
 
 -- ---- other values in place of packages
 
@@ -181,11 +161,25 @@ alike made (node.Feature krate_index name ∷ xs) (node.Feature k n ∷ ys) h =
       count = ap suc w.count;
     }
 
--- as many as there were, with the features
-pub as_many : {N : Type 0} (made : Package → N → Type 0) (crates : List (Node Package)) (nodes : List (Node N)) (features : List PlannedFeature) → AllZip (IsMade made) crates nodes
-    → length (nodes ++ map feature_node features) ≡ length (crates ++ map feature_node features)
-as_many made crates nodes features h =
-    (alike made (crates ++ map feature_node features) (nodes ++ map feature_node features) (zip_joined (IsMade made) crates (map feature_node features) nodes (map feature_node features) h (features_made made features))).count
+-- why a node was refused, if no more are there than are allowed
+for_memory : (limit count : ℕ) (e : Error) → count ≤ limit → CountRefusal limit count e → e ≡ errors.Memory
+for_memory limit count errors.NoResolveGraph le h = absurd h
+for_memory limit count (errors.Metadata inner) le h = absurd h
+for_memory limit count (errors.InvalidPkgSpec text) le h = absurd h
+for_memory limit count errors.NoRootKrates le h = absurd h
+for_memory limit count (errors.InvalidId text) le h = absurd h
+for_memory limit count (errors.Doubled kid) le h = absurd h
+for_memory limit count (errors.Lost what) le h = absurd h
+for_memory limit count errors.TooMany le h = absurd (omega (arith, le, h))
+for_memory limit count errors.Memory le h = refl
+
+-- the same of the features, after the nodes of the crates
+pub features_refused : {N : Type 0} (made : Package → N → Type 0) (crates : List (Node Package)) (features : List PlannedFeature) (nodes : List (Node N)) (limit most : ℕ) (e : Error)
+    → AllZip (IsMade made) crates nodes → limit ≡ most → length (nodes_in crates features) ≤ most → CountRefusal limit (length (nodes ++ map (feature_node {P = N}) features)) e → e ≡ errors.Memory
+features_refused made crates features nodes limit most e h same le refused =
+    let w = alike made (nodes_in crates features) (nodes ++ map feature_node features) (nodes_made made crates features nodes _ h refl) in
+    let count : length (nodes ++ map feature_node features) ≡ length (nodes_in crates features) = w.count in
+    for_memory limit _ e (omega (arith, count, same, le)) refused
 
 pub first_alike : {N : Type 0} (made : Package → N → Type 0) (xs : List (Node Package)) (ys : List (Node N)) → AllZip (IsMade made) xs ys → CratesFirst xs → CratesFirst ys
 first_alike made [] [] h first = tt

@@ -1,7 +1,8 @@
 -- Two matching lists, the first of which is permuted: the second can be permuted to match it.
-use Rattle.std.proofs.Common.{◌≡◌, ℕ, zero, suc, ◌<◌, List, [], ◌∷◌, length, get_or, IsPermutation, refl, ap, arith}
+use Rattle.std.proofs.Common.{◌≡◌, ℕ, zero, suc, ◌<◌, List, [], ◌∷◌, length, get_or, IsPermutation, ap, arith}
 use Rattle.std.proofs.lemmas.List.Sorted.{IsPermutation-keeps, IsPermutation-refl, length_permutation as length_moved}
 use Rattle.std.specs.List.{AllZip, slice_set, swap}
+use Rattle.krates_selection.proofs.FactPlaces.{zip_long}
 
 get_zip : {A B : Type 0} (R : A → B → Type 0) (xs : List A) (us : List B) (i : ℕ) (d : A) (e : B) → AllZip R xs us → i < length xs → R (get_or xs i d) (get_or us i e)
 get_zip R [] us i d e z lt = absurd (omega arith)
@@ -24,12 +25,6 @@ swap_zip R (x ∷ xs) (u ∷ us) i j li lj z =
     let one = set_zip R (x ∷ xs) (u ∷ us) i (get_or (x ∷ xs) j x) (get_or (u ∷ us) j u) z (get_zip R (x ∷ xs) (u ∷ us) j x u z lj) in
     set_zip R (slice_set (x ∷ xs) i (get_or (x ∷ xs) j x)) (slice_set (u ∷ us) i (get_or (u ∷ us) j u)) j (get_or (x ∷ xs) i x) (get_or (u ∷ us) i u) one (get_zip R (x ∷ xs) (u ∷ us) i x u z li)
 
-pub same_length : {A B : Type 0} (R : A → B → Type 0) (xs : List A) (us : List B) → AllZip R xs us → length us ≡ length xs
-same_length R [] [] z = refl
-same_length R [] (u ∷ us) z = absurd z
-same_length R (x ∷ xs) [] z = absurd z
-same_length R (x ∷ xs) (u ∷ us) z = ap suc (same_length R xs us z.1)
-
 -- the second list, permuted to match `ys`
 pub record MovedZip {A B : Type 0} (R : A → B → Type 0) (ys : List A) (us : List B) : Type 0 where
   pub list : List B
@@ -40,7 +35,7 @@ pub moved_zip : {A B : Type 0} (R : A → B → Type 0) (xs ys : List A) (us : L
 moved_zip {B = B} R xs ys us moved z =
     let start : MovedZip R xs us = record { list = us; zip = z; moved = IsPermutation-refl us } in
     IsPermutation-keeps xs (λ l. MovedZip R l us) start (λ l i j li lj w.
-    let long = same_length R l w.list w.zip in
+    let long = zip_long R l w.list w.zip in
     let shorter : length w.list ≡ length us = length_moved us w.list w.moved in
     record {
       list = swap w.list i j;

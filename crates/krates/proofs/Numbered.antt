@@ -1,5 +1,5 @@
 -- What is drawn within the limits of numbers, and what isn't.
-use Rattle.std.proofs.Common.{◌≡◌, ℕ, suc, ◌-◌, ◌<◌, ◌≤◌, ◌^◌, List, [], ◌∷◌, Result, Ok, Err, IfOk, IfErr, length, refl, sym, ap, subst, inl, inr, arith}
+use Rattle.std.proofs.Common.{◌≡◌, ℕ, ◌-◌, ◌<◌, ◌≤◌, ◌^◌, List, Result, Ok, Err, IfOk, IfErr, length, sym, subst, inl, inr, arith}
 use Rattle.std.specs.List.{AllZip}
 use Rattle.krates_cm.specs.Document.{MetadataModel}
 use Rattle.krates_drawing.specs.Drawing.{planned_edges, planned_nodes}
@@ -26,11 +26,12 @@ use Rattle.krates_cm.specs.declared.package.Package.{Package}
 use Rattle.krates_drawing.specs.Views.{outline_view}
 use Rattle.krates_drawing.specs.declared.outline.Outline.{Outline as OutlineOf}
 use Rattle.krates_drawing.specs.declared.node.Node.{Node}
-use Rattle.krates_drawing.specs.declared.node.Node.TheVariants as node
 use Rattle.krates.proofs.DrawnLemmas.{counted, graph_nodes}
 use Rattle.krates.proofs.BuildLemmas.{Builds}
 use Rattle.krates_rules.proofs.OrderedIds.{Compares}
 use Rattle.krates.proofs.MadeLemmas.{count_of}
+use Rattle.krates_queries.proofs.NodeLemmas.{crates_within}
+use Rattle.krates_selection.proofs.FactPlaces.{zip_long}
 
 -- the limits of numbers
 abbrev pub numbers : Limits
@@ -67,19 +68,13 @@ undrawn_names m t errors.Memory d = tt
 
 -- ---- within them
 
-zipped : {A B : Type 0} (R : A → B → Type 0) (xs : List A) (ys : List B) → AllZip R xs ys → length ys ≡ length xs
-zipped R [] [] z = refl
-zipped R [] (y ∷ ys) z = absurd z
-zipped R (x ∷ xs) [] z = absurd z
-zipped R (x ∷ xs) (y ∷ ys) z = ap suc (zipped R xs ys z.1)
-
 below : (n m : ℕ) → n ≡ m → m ≤ 2 ^ 32 - 1 → n < 2 ^ 32
 below n m e le = omega (arith, e, le)
 
 pub numbered : {N E : Type 0} (made : Edge → E → Type 0) (t : Outline) (g : StoredGraph (Node N) E) → IsDrawing made t g → IsWithin numbers t → HasLimits numbers g → IsNumbered g
 numbered made t g d w limits = record {
   nodes = below (length g.nodes) (length (planned_nodes t)) (count_of planned_node g.nodes (planned_nodes t) d.nodes) w.nodes;
-  edges = below (length g.edges) (length (planned_edges t)) (zipped (IsStoredAs made) (planned_edges t) g.edges d.edges) w.edges;
+  edges = below (length g.edges) (length (planned_edges t)) (zip_long (IsStoredAs made) (planned_edges t) g.edges d.edges) w.edges;
   node_limit = limits.nodes;
   edge_limit = limits.edges;
 }
@@ -94,14 +89,8 @@ pub if_memory : {X : Type 0} (limits : Limits) (t : Outline) (result : Result X 
 if_memory limits t (Ok x) h = tt
 if_memory limits t (Err e) h = subst (DrawingRefusal limits t) (sym h) tt
 
--- there are no more crates than nodes
-no_more_crates : {N : Type 0} (nodes : List (Node N)) → length (crate_ids nodes) ≤ length nodes
-no_more_crates [] = omega arith
-no_more_crates (node.Krate id krate features mapping ∷ nodes) = let le = no_more_crates nodes in omega (arith, le)
-no_more_crates (node.Feature krate_index name ∷ nodes) = let le = no_more_crates nodes in omega (arith, le)
-
 few_crates : {N : Type 0} (nodes : List (Node N)) (n : ℕ) → n ≡ length (crate_ids nodes) → length nodes < 2 ^ 32 → n < 2 ^ 32
-few_crates nodes n e lt = let le = no_more_crates nodes in omega (arith, e, le, lt)
+few_crates nodes n e lt = let le = crates_within nodes in omega (arith, e, le, lt)
 
 -- if the nodes can be numbered, so can the crates, and the nodes are sorted
 pub numbered_graph : Compares → {N E : Type 0} (made : Package → N → Type 0) (made_edge : Edge → E → Type 0) (m : Metadata) (s : SettingModel) (t : OutlineOf) (d : Division) (g : StoredGraph (Node N) E)

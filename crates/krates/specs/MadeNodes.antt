@@ -8,23 +8,22 @@ use Rattle.krates_ids.specs.declared.error.Error.{Error}
 use Rattle.krates_ids.specs.declared.error.Error.TheVariants as errors
 use Rattle.krates_drawing.specs.declared.division.Krate.{Krate}
 use Rattle.krates_drawing.specs.declared.nodes.PlannedFeature.{PlannedFeature}
-use Rattle.krates.specs.declared.nodes.DrawnNodes.{DrawnNodes}
 use Rattle.krates_drawing.specs.declared.node.Node.{Node}
 use Rattle.krates_drawing.specs.declared.node.Node.TheVariants as node
 
-abbrev Set : Type 0
+abbrev pub Set : Type 0
 Set = BTreeSet (String Global)
 
-abbrev Mapping : Type 0
+abbrev pub Mapping : Type 0
 Mapping = Vec (Option ℕ)
 
 -- the node of a feature
 abbrev pub feature_node : {P : Type 0} → PlannedFeature → Node P
 feature_node f = node.Feature f.krate_index f.name
 
--- the nodes that were drawn
-abbrev pub nodes_in : DrawnNodes → List (Node Package)
-nodes_in nodes = nodes.crates.items ++ map feature_node nodes.features.items
+-- the nodes that were drawn: first those of the crates, and then the features
+abbrev pub nodes_in : List (Node Package) → List PlannedFeature → List (Node Package)
+nodes_in crates features = crates ++ map feature_node features
 
 -- ---- with packages
 

@@ -12,23 +12,34 @@ ghost use Rattle.krates_rules.specs.PlainSetting.{plain_setting};
 ghost use Rattle.krates.specs.Build.{IsResolvable, IsBuilt, GraphRefusal, BuildRefusal};
 ghost use Rattle.krates.specs.Builder.{RestsUnchanged};
 ghost use Rattle.krates.specs.BuilderModel.{AsksForCrates, at_targets, excluding, ignoring, with_setting};
-ghost use Rattle.krates.specs.Indexed.{IsAskable, Sees};
+ghost use Rattle.krates.specs.Cargo.{CargoBuildRefusal, IsWritten, NamesWrittenIds};
+ghost use Rattle.krates.specs.Indexed.{HasNames, IsAskable, IsSeen, Sees};
+ghost use Rattle.krates_cargo.specs.Running.{IsSomeAnswer};
 
-use crate::drawn::{Sketch, graph_of, sketch_of};
-use crate::indexed::{IndexSource, seen_through};
-use crate::members::members_of;
+use crate::drawn::{Sketch, graph_of, members_of, sketch_of};
+use krates_cargo::MetadataCommand;
 use krates_cm::{Metadata, Package};
+use krates_document::corrected_document::corrected;
 use krates_drawing::division::{Division, OnFilter, divide, handed_over};
 use krates_drawing::laws as drawing_laws;
 use krates_drawing::limits::Limits;
 use krates_drawing::store::FromEdge;
-use krates_ids::{BuildIndexCache, Error, Kid, PkgSpec, laws};
+use krates_ids::{BuildIndexCache, CachingIndex, Error, Kid, PackageNames, PkgSpec, laws};
 use krates_queries::from_package::FromPackage;
 use krates_queries::kept::{Findings, Krates};
 use krates_resolve::{DepKind, Ids, Scope, Setting, admit};
 use krates_text::target::Target;
 use std::alloc::{AllocError, Global};
+use std::collections::BTreeSet;
 use std::marker::Model;
+use std::process::Processes;
+
+/// Where packages are looked up by name: the index that a builder is given.
+#[derive(Drop)]
+pub struct IndexSource {
+    /// The cache, which a build asks once.
+    pub build: BuildIndexCache,
+}
 
 /// Builds the graph of crates of a document under a setting.
 ///
@@ -310,6 +321,73 @@ impl Builder {
         let metadata = seen_through(alloc, index, metadata)?;
         build_admitted(alloc, &setting, metadata, ids, filter)
     }
+
+    /// Runs the command, and builds from the document that cargo writes what `build_with_metadata` builds from it. The
+    /// program is the one that the command sets, else the one that is passed in, for example from the variable `CARGO`, else
+    /// `cargo`.
+    ///
+    /// It is refused as `Metadata` where there is no document, for the reason that `MetadataCommand::exec` gives; else
+    /// as the build of the document is. It may instead return `Memory`. Each id that a refusal names is read from a
+    /// text of the document, and keeps that text. After each refusal the filter is as it was. Time: that of the
+    /// run, and of the build.
+    ///
+    /// An index has to be callable on the names of each document that cargo may write.
+    ///
+    /// ```text
+    /// let command = Cmd::new(alloc).into_command()?;
+    /// let krates: Krates = Builder::new(alloc).build(command, Some("cargo"), rt, &mut NoneFilter)?;
+    /// ```
+    pub fn build<N: FromPackage + Drop, E: FromEdge + Drop, F: OnFilter>(
+        self,
+        command: MetadataCommand,
+        cargo: Option<&str>,
+        processes: &impl Processes,
+        filter: &mut F,
+    ) -> Result<Krates<N, E>, Error>
+        requires askable { (m : Metadata) → IsSomeAnswer (metadata_view m) → IsResolvable (metadata_view m)
+            → IsAskable (λ source. BuildIndexCache.pre source.build) self.index m }
+        requires callable { F.can_filter filter.old }
+        ensures built { IfOk result (λ krates. IsWritten (λ m. IsResolvable (metadata_view m)
+            × Sees (λ source. BuildIndexCache.post source.build) self.index m
+            (λ seen. IsBuilt F.filters N.made_from E.made_from_edge seen self.setting filter.old filter.new krates))) }
+        ensures callable { F.can_filter filter.new }
+        ensures refused { IfErr result
+            (CargoBuildRefusal (λ source. BuildIndexCache.post source.build) self.index self.setting) }
+        ensures named { IfErr result NamesWrittenIds }
+        ensures unchanged { OnErr result (filter.new ≡ filter.old) }
+    {
+        let metadata = command.exec(cargo, processes)?;
+        self.build_with_metadata(metadata, filter)
+    }
+}
+
+/// The document that a build looks at: with an index, which is asked once for the names of all packages, each package is
+/// corrected by its answer; without one, the document as it is. Returns `AllocError` if memory runs out. Time O(n log n) in the
+/// size of the packages, plus the time of the index.
+fn seen_through(
+    alloc: Global,
+    index: Option<IndexSource>,
+    metadata: Metadata,
+) -> Result<Metadata, AllocError>
+    requires askable { IsAskable (λ source. BuildIndexCache.pre source.build) index metadata }
+    ensures seen { IfOk result (IsSeen (λ source. BuildIndexCache.post source.build) index metadata) }
+{
+    let Some(IndexSource { build }) = index else {
+        return Ok(metadata);
+    };
+    let names = package_names(alloc, &metadata.packages)?;
+    corrected(alloc, &CachingIndex::new(build, names), metadata)
+}
+
+/// The names of the packages.
+fn package_names(alloc: Global, packages: &[Package]) -> Result<PackageNames, AllocError>
+    ensures { IfOk result (HasNames packages.now) }
+{
+    let mut names = BTreeSet::new(alloc);
+    for pkg in packages {
+        names.insert(pkg.name.clone()?)?;
+    }
+    Ok(PackageNames { names })
 }
 
 /// Builds the graph of a document that was admitted with these ids.
@@ -344,12 +422,7 @@ fn build_admitted<N: FromPackage + Drop, E: FromEdge + Drop, F: OnFilter>(
         work,
     } = sketch;
     let rest = rest_of(metadata, ids);
-    let Rest {
-        packages,
-        kids,
-        members,
-        workspace_root,
-    } = rest;
+    let (packages, kids, members, workspace_root) = rest;
     let division = divide(alloc, packages, kids, &outline.krates)?;
     let Division { kept, others } = division;
     let count = kept.len();
@@ -360,30 +433,15 @@ fn build_admitted<N: FromPackage + Drop, E: FromEdge + Drop, F: OnFilter>(
     Ok(Krates::new(graph, count, members, workspace_root, findings))
 }
 
-/// What a build still needs of a document, once that has been sketched.
-#[derive(Drop)]
-struct Rest {
-    packages: Vec<Package>,
-    /// The ids of the packages.
-    kids: Vec<Kid>,
-    /// The ids of the workspace's members.
-    members: Vec<Kid>,
-    workspace_root: String,
-}
-
-/// Takes this out of a document and its ids. Everything else is dropped here, once, rather than at each refusal of a build.
-fn rest_of(metadata: Metadata, ids: Ids) -> Rest
-    ensures { result ≡ record {
-      packages = metadata.packages;
-      kids = ids.packages;
-      members = ids.members;
-      workspace_root = metadata.workspace_root;
-    } }
+/// The packages of a document, their ids, those of the workspace's members, and its root: what a build still needs, once the document
+/// has been sketched. Everything else is dropped here, once, rather than at each refusal of a build.
+fn rest_of(metadata: Metadata, ids: Ids) -> (Vec<Package>, Vec<Kid>, Vec<Kid>, String)
+    ensures { result ≡ (metadata.packages, ids.packages, ids.members, metadata.workspace_root) }
 {
-    Rest {
-        packages: metadata.packages,
-        kids: ids.packages,
-        members: ids.members,
-        workspace_root: metadata.workspace_root,
-    }
+    (
+        metadata.packages,
+        ids.packages,
+        ids.members,
+        metadata.workspace_root,
+    )
 }

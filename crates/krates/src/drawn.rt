@@ -1,42 +1,53 @@
-//! The graph of the part of a document that is kept.
+//! The graph of the part of a document that is kept, and which of its crates are members of the workspace.
+//!
+//! A node is as large as a package with its crate's features and mapping. So only the crates are built as nodes before they
+//! are stored; a feature, of which there may be many, becomes a node where it is stored.
 
-ghost use Rattle.std.specs.Prelude.{◌≡◌, ◌≤◌, All, IfErr, IfOk, length, map};
-ghost use Rattle.std.specs.List.{AllZip};
+ghost use Rattle.std.specs.Prelude.{◌≡◌, ◌≤◌, ◌++◌, [], All, IfErr, IfOk, OnOk, length, map};
+ghost use Rattle.std.specs.BTreeSet.{keys};
+ghost use Rattle.std.specs.List.{AllZip, zip};
+ghost use Rattle.std.specs.List.Sorted.{IsStrictlyIncreasing};
 ghost use Rattle.krates_cm.specs.Document.{metadata_view};
 ghost use Rattle.krates_document.specs.Ids.{ids_view};
 ghost use Rattle.krates_drawing.specs.Drawing.{planned_edges, planned_nodes};
 ghost use Rattle.krates_drawing.specs.Ends.{HasEnds};
+ghost use Rattle.krates_drawing.specs.Division.{krate_ids};
 ghost use Rattle.krates_drawing.specs.Limits.{DrawingRefusal, HasLimits, IsWithin};
+ghost use Rattle.krates_drawing.specs.Node.{crate_ids};
 ghost use Rattle.krates_drawing.specs.Stored.{IsStoredAs};
 ghost use Rattle.krates_drawing.specs.Views.{planned_edge_view, outline_view};
 ghost use Rattle.krates_ids.specs.declared.error.Error.TheVariants.{Memory};
+ghost use Rattle.krates_queries.specs.Kept.{AreNodes};
 ghost use Rattle.krates_rules.specs.Admission.{IsAdmitted};
 ghost use Rattle.krates_rules.specs.NamedIds.{NamesReadIds};
 ghost use Rattle.krates_rules.specs.Resolution.{RefusesSelection};
 ghost use Rattle.krates_rules.specs.Resolved.{id_of};
+ghost use Rattle.krates_selection.specs.Selection.{HasHome};
+ghost use Rattle.krates.specs.Enabled.{AreEnabledSets, IsPut};
 ghost use Rattle.krates.specs.KeptGraph.{IsGraphOf};
-ghost use Rattle.krates_drawing.specs.Division.{krate_ids};
-ghost use Rattle.krates.specs.MadeNodes.{IsMade, nodes_in};
+ghost use Rattle.krates.specs.MadeNodes.{CountRefusal, IsMade, crate_node, feature_node, nodes_in};
+ghost use Rattle.krates.specs.Members.{AreNumbersOf};
 ghost use Rattle.krates.specs.Sketch.{IsSketchOf};
 
-use crate::enabled::enabled_of;
-use crate::nodes::{DrawnNodes, nodes_of, store_nodes};
-use krates_cm::Metadata;
+use krates_cm::{Metadata, Package};
 use krates_drawing::division::Krate;
 use krates_drawing::edge::PlannedEdge;
 use krates_drawing::gather::outline_of;
 use krates_drawing::limits::{Limits, Plan, plan_within};
-use krates_drawing::node::Node;
+use krates_drawing::node::{EnabledFeatures, Node};
+use krates_drawing::nodes::{PlannedFeature, PlannedNodes};
 use krates_drawing::outline::Outline;
 use krates_drawing::store::{FromEdge, store_edges};
-use krates_graph::graph::Graph;
-use krates_ids::Error;
+use krates_graph::graph::{Graph, GraphError, NodeId};
+use krates_ids::{Error, Kid};
 use krates_queries::from_package::FromPackage;
+use krates_queries::numbers::number_of;
 use krates_questions::context::Context;
 use krates_resolve::{Document, EnabledFeature, Ids, NumberedSelection, Setting, Work, select_in};
 use krates_selection::KeptStep;
 use krates_selection::kept_tables::KeptTables;
 use std::alloc::{AllocError, Global};
+use std::collections::BTreeSet;
 
 /// What is drawn of a selection, the steps that explain it, and the work that it took.
 #[derive(Drop)]
@@ -78,39 +89,154 @@ pub(crate) fn sketch_of(
     })
 }
 
-/// The enabled features of an outline.
-fn features_in(alloc: Global, outline: Outline) -> Result<Vec<EnabledFeature>, AllocError>
-    ensures { IfOk result (λ features. features.items ≡ map (λ n. n.feature) outline.features.items) }
+/// The enabled features of an outline, in a set for each of its crates, in their order.
+fn enabled_of(
+    alloc: Global,
+    krates: usize,
+    outline: Outline,
+) -> Result<Vec<EnabledFeatures>, AllocError>
+    requires { All (λ row. HasHome krates row.feature) outline.features.items }
+    ensures matched { IfOk result (λ sets. length sets.items ≡ krates) }
+    ensures enabled { IfOk result
+        (λ sets. AreEnabledSets (map (λ row. row.feature) outline.features.items) sets.items) }
 {
-    outline
-        .features
+    let mut sets = empty_sets(alloc, krates)?;
+    for row in outline.features {
+        put(&mut sets, row.feature)?;
+    }
+    Ok(sets)
+}
+
+/// This many empty sets.
+fn empty_sets(alloc: Global, krates: usize) -> Result<Vec<EnabledFeatures>, AllocError>
+    ensures matched { IfOk result (λ sets. length sets.items ≡ krates) }
+    ensures empty { IfOk result (λ sets. All (λ set. keys set ≡ []) sets.items) }
+{
+    let mut sets = Vec::with_capacity(alloc, krates)?;
+    for _krate in 0..krates {
+        sets.push(BTreeSet::new(alloc))?;
+    }
+    Ok(sets)
+}
+
+/// Puts a feature into the set of its crate.
+fn put(sets: &mut [EnabledFeatures], feature: EnabledFeature) -> Result<(), AllocError>
+    requires { HasHome (length sets.old) feature }
+    ensures matched { length sets.new ≡ length sets.old }
+    ensures put { OnOk result (IsPut feature sets.old sets.new) }
+{
+    let EnabledFeature { krate, name } = feature;
+    sets[krate].insert(name)?;
+    Ok(())
+}
+
+/// The node of each crate, with the features and the mapping at its place.
+fn crates_with(
+    alloc: Global,
+    krates: Vec<Krate>,
+    sets: Vec<EnabledFeatures>,
+    mappings: Vec<Vec<Option<NodeId>>>,
+) -> Result<Vec<Node<Package>>, AllocError>
+    ensures { IfOk result
+        (λ nodes. nodes.items ≡ map crate_node (zip krates.items (zip sets.items mappings.items))) }
+{
+    krates
         .into_iter()
-        .map(|named| named.feature)
+        .zip(sets.into_iter().zip(mappings))
+        .map(|(krate, (features, dep_mapping))| Node::Krate {
+            id: krate.id,
+            krate: krate.pkg,
+            features,
+            dep_mapping,
+        })
         .collect(alloc)
+}
+
+/// The node with a value instead of its package.
+fn made<N: FromPackage + Drop>(alloc: Global, node: Node<Package>) -> Result<Node<N>, AllocError>
+    ensures { IfOk result (IsMade N.made_from node) }
+{
+    match node {
+        Node::Krate {
+            id,
+            krate,
+            features,
+            dep_mapping,
+        } => Ok(Node::Krate {
+            id,
+            krate: N::from_package(alloc, krate)?,
+            features,
+            dep_mapping,
+        }),
+        Node::Feature { krate_index, name } => Ok(Node::Feature { krate_index, name }),
+    }
+}
+
+/// Adds the crates to a graph that has no node, in their order, with a value instead of each package.
+fn store_crates<N: FromPackage + Drop, E: Drop>(
+    alloc: Global,
+    nodes: Vec<Node<Package>>,
+    graph: &mut Graph<Node<N>, E>,
+) -> Result<(), Error>
+    requires empty { graph.old.nodes ≡ [] }
+    ensures stored { OnOk result (AllZip (IsMade N.made_from) nodes.items graph.new.nodes) }
+    ensures rest { graph.new ≡ record graph.old { nodes = graph.new.nodes } }
+    ensures refused { IfErr result (CountRefusal graph.old.node_limit (length nodes.items)) }
+{
+    for node in nodes {
+        match graph.add_node(made(alloc, node)?) {
+            Ok(_) => {}
+            Err(GraphError::Full(_)) => return Err(Error::TooMany),
+            Err(GraphError::Memory(_)) => return Err(Error::Memory),
+        }
+    }
+    Ok(())
+}
+
+/// Adds the features to a graph, in their order, after the nodes that it has.
+fn store_features<N: Drop, E: Drop>(
+    features: Vec<PlannedFeature>,
+    graph: &mut Graph<Node<N>, E>,
+) -> Result<(), Error>
+    ensures stored { OnOk result (graph.new.nodes ≡ graph.old.nodes ++ map feature_node features.items) }
+    ensures rest { graph.new ≡ record graph.old { nodes = graph.new.nodes } }
+    ensures refused { IfErr result (CountRefusal graph.old.node_limit
+        (length (graph.old.nodes ++ map (feature_node {P = N}) features.items))) }
+{
+    for feature in features {
+        let PlannedFeature { krate_index, name } = feature;
+        match graph.add_node(Node::Feature { krate_index, name }) {
+            Ok(_) => {}
+            Err(GraphError::Full(_)) => return Err(Error::TooMany),
+            Err(GraphError::Memory(_)) => return Err(Error::Memory),
+        }
+    }
+    Ok(())
 }
 
 /// Puts nodes, with values instead of packages, and edges into a graph with these limits.
 fn stored<N: FromPackage + Drop, E: FromEdge + Drop>(
     alloc: Global,
     limits: Limits,
-    nodes: DrawnNodes,
+    crates: Vec<Node<Package>>,
+    features: Vec<PlannedFeature>,
     planned_edges: &[PlannedEdge],
 ) -> Result<Graph<Node<N>, E>, Error>
-    requires nodes { length (nodes_in nodes) ≤ limits.nodes }
+    requires nodes { length (nodes_in crates.items features.items) ≤ limits.nodes }
     requires edges { length planned_edges.now ≤ limits.edges }
-    requires stand { All (HasEnds (length (nodes_in nodes))) (map planned_edge_view planned_edges.now) }
-    ensures nodes { IfOk result (λ graph. AllZip (IsMade N.made_from) (nodes_in nodes) graph.nodes) }
+    requires stand { All (HasEnds (length (nodes_in crates.items features.items)))
+        (map planned_edge_view planned_edges.now) }
+    ensures nodes { IfOk result
+        (λ graph. AllZip (IsMade N.made_from) (nodes_in crates.items features.items) graph.nodes) }
     ensures edges { IfOk result (λ graph. AllZip (IsStoredAs E.made_from_edge)
         (map planned_edge_view planned_edges.now) graph.edges) }
     ensures limits { IfOk result (HasLimits limits) }
     ensures refused { IfErr result (λ e. e ≡ Memory) }
 {
     let mut graph = Graph::with_limits(alloc, limits.nodes, limits.edges);
-    graph.reserve(
-        nodes.crates.len() + nodes.features.len(),
-        planned_edges.len(),
-    )?;
-    store_nodes(alloc, nodes, &mut graph)?;
+    graph.reserve(crates.len() + features.len(), planned_edges.len())?;
+    store_crates(alloc, crates, &mut graph)?;
+    store_features(features, &mut graph)?;
     store_edges(alloc, planned_edges, &mut graph)?;
     Ok(graph)
 }
@@ -136,8 +262,29 @@ pub(crate) fn graph_of<N: FromPackage + Drop, E: FromEdge + Drop>(
         planned_nodes,
         planned_edges,
     } = plan;
-    let features = features_in(alloc, outline)?;
-    let sets = enabled_of(alloc, krates.len(), features)?;
-    let nodes = nodes_of(alloc, krates, sets, planned_nodes)?;
-    stored(alloc, limits, nodes, &planned_edges)
+    let PlannedNodes { mappings, features } = planned_nodes;
+    let sets = enabled_of(alloc, krates.len(), outline)?;
+    let crates = crates_with(alloc, krates, sets, mappings)?;
+    stored(alloc, limits, crates, features, &planned_edges)
+}
+
+/// The numbers of the crates that have one of these ids, ascending, each once. Ids of other crates are left out.
+pub(crate) fn members_of<N>(
+    alloc: Global,
+    nodes: &[Node<N>],
+    ids: &[Kid],
+) -> Result<Vec<NodeId>, AllocError>
+    requires { AreNodes nodes.now }
+    ensures ascending { IfOk result (λ numbers. IsStrictlyIncreasing numbers.items) }
+    ensures exactly { IfOk result (λ numbers. AreNumbersOf (crate_ids nodes.now) ids.now numbers.items) }
+{
+    let mut numbers = Vec::new(alloc);
+    for id in ids {
+        if let Some(number) = number_of(nodes, id) {
+            numbers.push(NodeId::new(number as u32))?;
+        }
+    }
+    numbers.sort_unstable();
+    numbers.dedup();
+    Ok(numbers)
 }

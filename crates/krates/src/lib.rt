@@ -12,17 +12,11 @@
 #![tactic(auto)]
 
 mod builder;
-mod cargo;
 pub mod derive;
 mod drawn;
-mod enabled;
-mod indexed;
 pub mod laws;
-mod members;
-mod nodes;
 
-pub use builder::Builder;
-pub use indexed::IndexSource;
+pub use builder::{Builder, IndexSource};
 pub use krates_cargo::{Cmd, LockOptions};
 pub use krates_cm::{Metadata, Package, PackageId};
 pub use krates_drawing::edge::Edge;

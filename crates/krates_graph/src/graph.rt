@@ -8,14 +8,12 @@ ghost use Rattle.krates_graph.specs.Graph.{IsFull, edges_at, numbers_at, value_i
 
 mod adjacency;
 mod edge;
-mod edge_id;
 mod edges_directed;
 mod graph_error;
 mod node_id;
 
 use adjacency::Adjacency;
-pub use edge::{Direction, GraphEdge};
-pub use edge_id::EdgeId;
+pub use edge::{Direction, EdgeId, GraphEdge};
 pub use edges_directed::{EdgeReference, EdgesDirected};
 pub use graph_error::GraphError;
 pub use node_id::NodeId;

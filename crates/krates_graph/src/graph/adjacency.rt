@@ -2,7 +2,7 @@
 ghost use Rattle.std.specs.Prelude.{◌≡◌, [], ◌∷◌, ◌++◌, ◌<◌, length, OnOk, slice_index_or, slice_set};
 ghost use Rattle.krates_graph.specs.Adjacency.{HasEdgeRoom, HasNodeRoom, lists_of};
 
-use crate::graph::edge_id::EdgeId;
+use crate::graph::edge::EdgeId;
 use std::alloc::{AllocError, Global};
 
 /// For each node, the numbers of its edges in one direction, in the order in which they were added.

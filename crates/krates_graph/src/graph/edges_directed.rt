@@ -1,10 +1,8 @@
 //! A walk over the edges of a node.
-ghost use Rattle.std.specs.Prelude.{◌≡◌, ◌<◌, Some, length, slice_get};
 ghost use Rattle.std.specs.Iterator.{YieldsFirstBy, item_count};
-ghost use Rattle.krates_graph.specs.Graph.{edge_of, numbered_edge};
+ghost use Rattle.krates_graph.specs.Graph.{numbered_edge};
 
-use crate::graph::edge::GraphEdge;
-use crate::graph::edge_id::EdgeId;
+use crate::graph::edge::{EdgeId, GraphEdge};
 use crate::graph::node_id::NodeId;
 use std::marker::Model;
 
@@ -48,26 +46,14 @@ impl<'a, E> Iterator for EdgesDirected<'a, E> {
     ghost remaining = { item_count (λ left. left) };
 
     fn next(&mut self) -> Option<EdgeReference<'a, E>> {
-        let Some((id, rest)) = self.numbers.split_first() else {
-            return None;
-        };
-        let reference = reference_to(self.edges, *id);
+        let (id, rest) = self.numbers.split_first()?;
+        let edge = &self.edges[id.index()];
         self.numbers = rest;
-        Some(reference)
-    }
-}
-
-// The edge with that number.
-fn reference_to<E>(edges: &[GraphEdge<E>], id: EdgeId) -> EdgeReference<'_, E>
-    requires { id < length edges.now }
-    ensures id { result.id ≡ id }
-    ensures edge { slice_get edges.now id ≡ Some (edge_of result) }
-{
-    let edge = &edges[id.index()];
-    EdgeReference {
-        id,
-        source: edge.source,
-        target: edge.target,
-        weight: &edge.weight,
+        Some(EdgeReference {
+            id: *id,
+            source: edge.source,
+            target: edge.target,
+            weight: &edge.weight,
+        })
     }
 }

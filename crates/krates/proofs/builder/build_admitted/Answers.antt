@@ -1,10 +1,13 @@
 use Rattle.std.proofs.Common.{◌≡◌, ℕ, ap, ◌∙◌, subst, List, Result, Ok, IfOk, sym}
 use Rattle.std.proofs.lemmas.Result.{err_from_is_err_and}
 use Rattle.std.specs.Global.{Vec}
+use Rattle.std.specs.Prelude.{String}
+use Rattle.std.specs.declared.alloc.Global.{Global}
 use Rattle.std.specs.List.{FoldsTo}
 use Rattle.std.specs.List.Sorted.{IsStrictlyIncreasing, IsStrictlySortedBy}
 use Rattle.krates_cm.specs.Document.{metadata_view}
 use Rattle.krates_cm.specs.declared.metadata.Metadata.{Metadata}
+use Rattle.krates_cm.specs.declared.package.Package.{Package}
 use Rattle.krates_document.specs.Ids.{ids_view}
 use Rattle.krates_document.specs.declared.ids.Ids.{Ids}
 use Rattle.krates_drawing.specs.Views.{outline_view}
@@ -12,7 +15,6 @@ use Rattle.krates_drawing.specs.declared.outline.CrateRow.{CrateRow}
 use Rattle.krates_ids.specs.Identity.{Identity, id_cmp}
 use Rattle.krates_drawing.specs.Division.{IsDivision, outline_ids, krate_packages}
 use Rattle.krates_queries.specs.Kept.{AreNodes}
-use Rattle.krates.specs.declared.builder.Rest.{Rest}
 use Rattle.krates_drawing.specs.declared.division.Division.{Division}
 use Rattle.krates.specs.Members.{AreNumbersOf}
 use Rattle.krates_drawing.specs.Node.{crate_ids}
@@ -26,15 +28,18 @@ use Rattle.krates.proofs.ResolvableLemmas.{resolvable}
 use Rattle.krates_rules.proofs.OrderedIds.{Compares}
 use Rattle.krates.proofs.builder.build_admitted.Goals as goal
 
--- these are the fields of the document and of its ids
+-- the packages of a document, their ids, those of the members, and the root
+abbrev Rest : Type 0
+Rest = Vec Package × Vec Identity × Vec Identity × String Global
+
 abbrev IsRestOf : Metadata → Ids → Rest → Type 0
-IsRestOf m ids p = p ≡ record { packages = m.packages; kids = ids.packages; members = ids.members; workspace_root = m.workspace_root }
+IsRestOf m ids p = p ≡ (m.packages, ids.packages, ids.members, m.workspace_root)
 
 -- what is divided are the document's packages, by the crates of the outline
 divided_of : (m : Metadata) (ids : Ids) (rest : Rest) (krates ks : List CrateRow) (d : Division) → IsRestOf m ids rest → ks ≡ krates
-    → IsDivision rest.packages.items (outline_ids ks) d → IsDivision m.packages.items (outline_ids krates) d
+    → IsDivision rest.0.items (outline_ids ks) d → IsDivision m.packages.items (outline_ids krates) d
 divided_of m ids rest krates ks d is same h =
-    subst (λ (ks : List CrateRow). IsDivision m.packages.items (outline_ids ks) d) same (subst (λ (p : Rest). IsDivision p.packages.items (outline_ids ks) d) is h)
+    subst (λ (ks : List CrateRow). IsDivision m.packages.items (outline_ids ks) d) same (subst (λ (p : Rest). IsDivision p.0.items (outline_ids ks) d) is h)
 
 -- what holds of what was made holds of it as it is handed on
 handed : {A E : Type 0} (P : A → Type 0) (made : Result A E) (x : A) → Ok x ≡ made → IfOk made P → P x
@@ -138,7 +143,7 @@ returns-clause-built g c =
     let ascending = handed (λ (v : Vec ℕ). IsStrictlyIncreasing v.items) c.members_of-found.result those c.in_ok-members.ensures.same c.members_of-found.ensures.ascending in
     let exactly = handed (λ (v : Vec ℕ). AreNumbersOf (crate_ids c.raw_nodes.result.now) c.deref-2.result.now v.items) c.members_of-found.result those c.in_ok-members.ensures.same c.members_of-found.ensures.exactly in
     let there = subst (λ ns. AreNumbersOf (crate_ids ns) c.deref-2.result.now numbers) c.raw_nodes.ensures.nodes exactly in
-    let listed = subst (λ (is : List Identity). AreNumbersOf (crate_ids c.in_ok-graph.graph.nodes) is numbers) (c.deref-2.ensures.value ∙ ap (λ (p : Rest). p.members.items) c.rest_of-rest.ensures) there in
+    let listed = subst (λ (is : List Identity). AreNumbersOf (crate_ids c.in_ok-graph.graph.nodes) is numbers) (c.deref-2.ensures.value ∙ ap (λ (p : Rest). p.2.items) c.rest_of-rest.ensures) there in
     let members = kept_members c.one_reading.ensures.once (metadata_view c.args.metadata) (ids_view c.args.ids) (crate_ids c.in_ok-graph.graph.nodes) numbers c.requires.admitted ascending listed in
     let o : Compares = record { total = c.comparison.ensures.total; tells = c.comparison.ensures.order } in
     let steps = c.in_ok-sketch.sketch.steps.items in

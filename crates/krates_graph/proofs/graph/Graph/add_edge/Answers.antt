@@ -1,5 +1,4 @@
 use Rattle.std.proofs.Common.{◌<◌, length, ap, arith}
-use Rattle.std.proofs.lemmas.Grind.{common_steps}
 use Rattle.krates_graph.proofs.GraphLemmas.{IsIndexed-push_edge}
 use Rattle.krates_graph.proofs.graph.Graph.add_edge.Goals as goal
 
@@ -22,36 +21,3 @@ invariant_of-self-in-Ok g c =
     )
     (IsIndexed-push_edge c.self.inside.nodes.items c.self.inside.edges.items c.self.inside.node_limit c.self.inside.edge_limit _ _ _ c.self.invariant
     (omega (arith, c.len-number.ensures, c.if-number-self.false)) (source_stands, target_stands))
-
-pub reserve_edge-requires : goal.reserve_edge-requires
-reserve_edge-requires g c = grind (arith, common_steps)
-
-pub reserve_edge-requires-else-is_err : goal.reserve_edge-requires-else-is_err
-reserve_edge-requires-else-is_err g c = grind (arith, common_steps)
-
-pub returns-then-is_err-clause-full : goal.returns-then-is_err-clause-full
-returns-then-is_err-clause-full g c = grind (arith, common_steps)
-
-pub add_edge-requires-clause-within : goal.add_edge-requires-clause-within
-add_edge-requires-clause-within g c = grind (arith, common_steps)
-
-pub add_edge-requires-clause-room : goal.add_edge-requires-clause-room
-add_edge-requires-clause-room g c = grind (arith, common_steps)
-
-pub add_edge-requires-in-Ok-clause-within : goal.add_edge-requires-in-Ok-clause-within
-add_edge-requires-in-Ok-clause-within g c = grind (arith, common_steps)
-
-pub add_edge-requires-in-Ok-clause-room : goal.add_edge-requires-in-Ok-clause-room
-add_edge-requires-in-Ok-clause-room g c = grind (arith, common_steps)
-
-pub returns-in-Ok-clause-number : goal.returns-in-Ok-clause-number
-returns-in-Ok-clause-number g c = grind (arith, common_steps)
-
-pub returns-in-Ok-clause-added : goal.returns-in-Ok-clause-added
-returns-in-Ok-clause-added g c = grind (arith, common_steps)
-
-pub returns-in-Err-clause-value_returned : goal.returns-in-Err-clause-value_returned
-returns-in-Err-clause-value_returned g c = grind (arith, common_steps)
-
-pub returns-in-Err-clause-unchanged : goal.returns-in-Err-clause-unchanged
-returns-in-Err-clause-unchanged g c = grind (arith, common_steps)
