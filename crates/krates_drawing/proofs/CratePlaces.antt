@@ -18,7 +18,7 @@ use Rattle.krates_rules.specs.Referent.{id_order}
 use Rattle.krates_rules.specs.Resolved.{id_of}
 use Rattle.krates_drawing.specs.Drawing.{id_eq, is_between, is_crate, is_link, place_of}
 use Rattle.krates_drawing.specs.Outline as model
-use Rattle.krates_drawing.specs.OutlineOrder.{has_by, has_ends, has_krate}
+use Rattle.krates_drawing.specs.OutlineOrder.{has_crates, has_ends}
 use Rattle.krates_drawing.specs.Views.{kids_of, crate_row_view, edge_row_view, no_krate, toggle_of}
 use Rattle.krates_drawing.specs.declared.outline.CrateRow.{CrateRow}
 use Rattle.krates_drawing.specs.declared.outline.EdgeRow.{EdgeRow}
@@ -99,9 +99,9 @@ module _ (ks : List CrateRow) (p q : ℕ) (sorted : AreInOrder ks) (from : p < l
       (λ l e. ap (λ b. b && (l.edge.declared == place)) (same_ends l e))
 
   pub toggles_between : (xs : List ToggledFeature) → All (HasCrates (length ks)) xs
-      → filter (is_between (id_at (kids_of ks) p) (id_at (kids_of ks) q)) (map (toggle_of (kids_of ks)) xs) ≡ map (toggle_of (kids_of ks)) (filter (λ t. has_by p t && has_krate q t) xs)
+      → filter (is_between (id_at (kids_of ks) p) (id_at (kids_of ks) q)) (map (toggle_of (kids_of ks)) xs) ≡ map (toggle_of (kids_of ks)) (filter (has_crates p q) xs)
   toggles_between xs crates =
-      filter_seen (HasCrates (length ks)) (toggle_of (kids_of ks)) (is_between (id_at (kids_of ks) p) (id_at (kids_of ks) q)) (λ t. has_by p t && has_krate q t) xs crates
+      filter_seen (HasCrates (length ks)) (toggle_of (kids_of ks)) (is_between (id_at (kids_of ks) p) (id_at (kids_of ks) q)) (has_crates p q) xs crates
       (λ t e. and_same _ _ _ _ (same_ids ks t.by p sorted e.by from) (same_ids ks t.krate q sorted e.krate to))
 
 -- ---- all crates, by number
@@ -120,10 +120,15 @@ all_below n i d lt =
     let within : i < n = omega (arith, lt, length-range_with_len 0 n) in
     omega (arith, get_or-range_with_len 0 n i d within, within)
 
+-- the crates are those of the numbers
+pub krates_by_number : (ks : List CrateRow) → map (λ n. get_or (map crate_row_view ks) n no_krate) (range_with_len 0 (length ks)) ≡ map crate_row_view ks
+krates_by_number ks =
+    let qs = map crate_row_view ks in
+    subst (λ n. map (λ k. get_or qs k no_krate) (range_with_len 0 n) ≡ qs) (length-map ks crate_row_view) (by_place qs no_krate)
+
 -- the crates that pass a test have the numbers that pass it
 pub crates_seen : (ks : List CrateRow) (p : model.CrateRow → Bool) (q : ℕ → Bool) → ((n : ℕ) → n < length ks → q n ≡ p (get_or (map crate_row_view ks) n no_krate))
     → filter p (map crate_row_view ks) ≡ map (λ n. get_or (map crate_row_view ks) n no_krate) (filter q (range_with_len 0 (length ks)))
 crates_seen ks p q same =
-    let qs = map crate_row_view ks in
-    let all : map (λ n. get_or qs n no_krate) (range_with_len 0 (length ks)) ≡ qs = subst (λ n. map (λ k. get_or qs k no_krate) (range_with_len 0 n) ≡ qs) (length-map ks crate_row_view) (by_place qs no_krate) in
-    ap (filter p) (sym all) ∙ filter_seen (λ n. n < length ks) (λ n. get_or qs n no_krate) p q (range_with_len 0 (length ks)) (all_below (length ks)) same
+    let at : ℕ → model.CrateRow = λ n. get_or (map crate_row_view ks) n no_krate in
+    ap (filter p) (sym (krates_by_number ks)) ∙ filter_seen (λ n. n < length ks) at p q (range_with_len 0 (length ks)) (all_below (length ks)) same

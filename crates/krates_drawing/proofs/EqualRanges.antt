@@ -3,7 +3,7 @@ use Rattle.std.proofs.Common.{◌≡◌, ℕ, zero, suc, ◌+◌, ◌<◌, ◌�
 use Rattle.std.proofs.lemmas.Bool.{cases_lt}
 use Rattle.std.proofs.lemmas.Map.Keys.{Less-from_sorted}
 use Rattle.std.proofs.lemmas.List.Folds.{list_any-from_Any, list_any_none}
-use Rattle.std.proofs.lemmas.List.{get_or_default, get_or-drop, get_or-map, get_or-take, length-drop, length-map, length-take}
+use Rattle.std.proofs.lemmas.List.{get_or_default, get_or-drop, get_or-map, length-drop, length-map}
 use Rattle.std.specs.Cmp.{IsTotalOrder}
 use Rattle.std.specs.List.Sorted.{IsBinarySearchResult, IsNonDecreasingBy, IsPartitionedBy, IsPartitionPoint, IsSearchInRange, IsStrictlySortedBy}
 use Rattle.std.specs.Ordering.{is_eq, is_lt, ordering_index, ordering_reverse}
@@ -14,13 +14,13 @@ use Rattle.krates_rules.proofs.BinarySearch.{step}
 
 -- ---- a run
 
-pub none_before : {A : Type 0} (p : A → Bool) (xs : List A) (n : ℕ) → ((k : ℕ) (d : A) → k < n → k < length xs → p (get_or xs k d) ≡ false) → filter p xs ≡ filter p (drop n xs)
+none_before : {A : Type 0} (p : A → Bool) (xs : List A) (n : ℕ) → ((k : ℕ) (d : A) → k < n → k < length xs → p (get_or xs k d) ≡ false) → filter p xs ≡ filter p (drop n xs)
 none_before p xs zero h = refl
 none_before p [] (suc n) h = refl
 none_before p (x ∷ xs) (suc n) h =
     ap (λ b. cond b (x ∷ filter p xs) (filter p xs)) (h zero x (omega arith) (omega arith)) ∙ none_before p xs n (λ k d lt within. h (suc k) d (omega (arith, lt)) (omega (arith, within)))
 
-pub all_front : {A : Type 0} (p : A → Bool) (xs : List A) (n : ℕ) → ((k : ℕ) (d : A) → k < n → k < length xs → p (get_or xs k d) ≡ true) → ((k : ℕ) (d : A) → n ≤ k → k < length xs → p (get_or xs k d) ≡ false) → filter p xs ≡ take n xs
+all_front : {A : Type 0} (p : A → Bool) (xs : List A) (n : ℕ) → ((k : ℕ) (d : A) → k < n → k < length xs → p (get_or xs k d) ≡ true) → ((k : ℕ) (d : A) → n ≤ k → k < length xs → p (get_or xs k d) ≡ false) → filter p xs ≡ take n xs
 all_front p [] zero front back = refl
 all_front p [] (suc n) front back = refl
 all_front p (x ∷ xs) zero front back =
@@ -56,11 +56,11 @@ below_unequal Equal e = absurd cc
 below_unequal Greater e = refl
 
 -- elements below come first
-pub below_first : {A : Type 0} (ord : A → Ordering) (xs : List A) → IsNonDecreasingBy (λ y. ordering_index (ord y)) xs → IsPartitionedBy (λ y. is_lt (ord y)) xs
+below_first : {A : Type 0} (ord : A → Ordering) (xs : List A) → IsNonDecreasingBy (λ y. ordering_index (ord y)) xs → IsPartitionedBy (λ y. is_lt (ord y)) xs
 below_first ord xs rises i j d le lt e = below_between (ord (get_or xs i d)) (ord (get_or xs j d)) (rises i j d le lt) e
 
 -- after them come the equal ones
-pub equal_first : {A : Type 0} (ord : A → Ordering) (xs : List A) (n : ℕ) → IsNonDecreasingBy (λ y. ordering_index (ord y)) xs → IsPartitionPoint (λ y. is_lt (ord y) ≡ true) (λ y. is_lt (ord y) ≡ false) xs n → IsPartitionedBy (λ y. is_eq (ord y)) (drop n xs)
+equal_first : {A : Type 0} (ord : A → Ordering) (xs : List A) (n : ℕ) → IsNonDecreasingBy (λ y. ordering_index (ord y)) xs → IsPartitionPoint (λ y. is_lt (ord y) ≡ true) (λ y. is_lt (ord y) ≡ false) xs n → IsPartitionedBy (λ y. is_eq (ord y)) (drop n xs)
 equal_first ord xs n rises parted i j d le lt e =
     let within : n + j < length xs = drop_within xs n j lt in
     let here : is_lt (ord (get_or xs (n + i) d)) ≡ false = parted.1 (n + i) d (omega arith) (omega (arith, le, within)) in
@@ -68,7 +68,7 @@ equal_first ord xs n rises parted i j d le lt e =
     ap (λ z. is_eq (ord z)) (get_or-drop n xs i d) ∙ equal_between (ord (get_or xs (n + i) d)) (ord (get_or xs (n + j) d)) (rises (n + i) (n + j) d (omega (arith, le)) within) here there
 
 -- equal elements form one run
-pub stretch : {A : Type 0} (ord : A → Ordering) (xs : List A) (n m : ℕ) → IsPartitionPoint (λ y. is_lt (ord y) ≡ true) (λ y. is_lt (ord y) ≡ false) xs n
+stretch : {A : Type 0} (ord : A → Ordering) (xs : List A) (n m : ℕ) → IsPartitionPoint (λ y. is_lt (ord y) ≡ true) (λ y. is_lt (ord y) ≡ false) xs n
     → IsPartitionPoint (λ y. is_eq (ord y) ≡ true) (λ y. is_eq (ord y) ≡ false) (drop n xs) m → filter (λ y. is_eq (ord y)) xs ≡ take m (drop n xs)
 stretch ord xs n m low high =
     none_before (λ y. is_eq (ord y)) xs n (λ k d lt within. below_unequal (ord (get_or xs k d)) (low.0 k d (omega arith) lt))
@@ -112,48 +112,15 @@ below_later R key xs i j d sorted l lt =
     let y = get_or-map key xs j d (key d) lt in
     ap (λ z. R z (key (get_or xs j d))) (sym x) ∙ ap (λ z. R (get_or (map key xs) i (key d)) z) (sym y) ∙ later
 
--- ---- a run, cut out
-
-take_within : {A : Type 0} (xs : List A) (m k : ℕ) → k < length (take m xs) → (k < m) × (k < length xs)
-take_within xs m k lt = (omega (arith, lt, length-take m xs), omega (arith, lt, length-take m xs))
-
--- a run of a list that two searches cut out
-pub record IsCut {A : Type 0} (ord : A → Ordering) (xs mine : List A) : Type 0 where
-  pub n : ℕ
-  pub m : ℕ
-  pub low : IsPartitionPoint (λ y. is_lt (ord y) ≡ true) (λ y. is_lt (ord y) ≡ false) xs n
-  pub high : IsPartitionPoint (λ y. is_eq (ord y) ≡ true) (λ y. is_eq (ord y) ≡ false) (drop n xs) m
-  pub is : mine ≡ take m (drop n xs)
-
-pub cut : {A : Type 0} (ord : A → Ordering) (xs one two rest mine : List A) (n m : ℕ) → one ≡ xs → two ≡ xs → rest ≡ drop n two → mine ≡ take m rest → IsNonDecreasingBy (λ y. ordering_index (ord y)) xs
-    → (IsPartitionedBy (λ y. is_lt (ord y)) one → IsPartitionPoint (λ y. is_lt (ord y) ≡ true) (λ y. is_lt (ord y) ≡ false) one n)
+-- a run that two searches cut out has exactly the equal elements
+pub cut : {A : Type 0} (ord : A → Ordering) (xs rest mine : List A) (n m : ℕ) → rest ≡ drop n xs → mine ≡ take m rest → IsNonDecreasingBy (λ y. ordering_index (ord y)) xs
+    → (IsPartitionedBy (λ y. is_lt (ord y)) xs → IsPartitionPoint (λ y. is_lt (ord y) ≡ true) (λ y. is_lt (ord y) ≡ false) xs n)
     → (IsPartitionedBy (λ y. is_eq (ord y)) rest → IsPartitionPoint (λ y. is_eq (ord y) ≡ true) (λ y. is_eq (ord y) ≡ false) rest m)
-    → IsCut ord xs mine
-cut ord xs one two rest mine n m first second back front rises low high =
-    let lower = subst (λ l. IsPartitionPoint (λ y. is_lt (ord y) ≡ true) (λ y. is_lt (ord y) ≡ false) l n) first (low (subst (λ l. IsPartitionedBy (λ y. is_lt (ord y)) l) (sym first) (below_first ord xs rises))) in
-    let behind : rest ≡ drop n xs = back ∙ ap (drop n) second in
+    → mine ≡ filter (λ y. is_eq (ord y)) xs
+cut ord xs rest mine n m behind front rises low high =
+    let lower = low (below_first ord xs rises) in
     let higher = subst (λ l. IsPartitionPoint (λ y. is_eq (ord y) ≡ true) (λ y. is_eq (ord y) ≡ false) l m) behind (high (subst (λ l. IsPartitionedBy (λ y. is_eq (ord y)) l) (sym behind) (equal_first ord xs n rises lower))) in
-    record { n = n; m = m; low = lower; high = higher; is = front ∙ ap (take m) behind }
-
--- it has exactly the equal elements
-pub cut_is : {A : Type 0} (ord : A → Ordering) (xs mine : List A) → IsCut ord xs mine → mine ≡ filter (λ y. is_eq (ord y)) xs
-cut_is ord xs mine w = w.is ∙ sym (stretch ord xs w.n w.m w.low w.high)
-
--- where an element of the run is
-pub record StandsIn {A : Type 0} (ord : A → Ordering) (xs mine : List A) (from k : ℕ) (d : A) : Type 0 where
-  pub within : from + k < length xs
-  pub same : get_or mine k d ≡ get_or xs (from + k) d
-  pub equal : is_eq (ord (get_or xs (from + k) d)) ≡ true
-
-pub stands_in : {A : Type 0} (ord : A → Ordering) (xs mine : List A) (w : IsCut ord xs mine) (k : ℕ) (d : A) → k < length mine → StandsIn ord xs mine w.n k d
-stands_in ord xs mine w k d lt =
-    let there = take_within (drop w.n xs) w.m k (subst (λ l. k < length l) w.is lt) in
-    let same : get_or (drop w.n xs) k d ≡ get_or xs (w.n + k) d = get_or-drop w.n xs k d in
-    record {
-      within = drop_within xs w.n k there.1;
-      same = ap (λ l. get_or l k d) w.is ∙ get_or-take w.m (drop w.n xs) k d there.0 ∙ same;
-      equal = ap (λ z. is_eq (ord z)) (sym same) ∙ w.high.0 k d (omega arith) there.0;
-    }
+    front ∙ ap (take m) behind ∙ sym (stretch ord xs n m lower higher)
 
 -- ---- a place
 

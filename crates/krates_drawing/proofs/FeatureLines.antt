@@ -1,22 +1,21 @@
--- What features lead to: the crates that their references name, by number, and the edges of one feature.
-use Rattle.std.proofs.Common.{◌≡◌, ◌<◌, ◌≤◌, ℕ, suc, Bool, true, false, List, [], ◌∷◌, ◌++◌, cond, get_or, length, map, refl, sym, ap, ◌∙◌, arith, append_assoc}
+-- What features lead to: the crates that their references name, by number.
+use Rattle.std.proofs.Common.{◌≡◌, ◌<◌, ◌≤◌, ℕ, suc, Bool, true, false, ◌||◌, List, [], ◌∷◌, ◌++◌, cond, filter, get_or, length, map, refl, sym, ap, ◌∙◌, arith, append_assoc}
 use Rattle.std.proofs.lemmas.Bool.{and_parts}
 use Rattle.std.proofs.lemmas.List.{map-append}
 use Rattle.std.proofs.lemmas.List.Folds.{list_any_none}
-use Rattle.std.specs.List.{flat_map, list_any}
-use Rattle.krates_cm.specs.Document.{text_view}
+use Rattle.std.specs.List.{list_any}
 use Rattle.krates_selection.specs.Selection.{id_at}
 use Rattle.krates_rules.specs.Facts.{Id}
-use Rattle.krates_drawing.specs.Drawing.{Feature, PlannedEdge, crate_number, feature_lines, feature_number, id_eq, is_crate, is_link, leads, place_of, targets}
-use Rattle.krates_drawing.specs.EdgeSource.{IsNumberOfChild}
-use Rattle.krates_drawing.specs.LinesFrom.{line_from}
+use Rattle.krates_drawing.specs.Drawing.{AtFeature, Endpoint, PlannedEdge, id_eq, is_crate, is_link, leads, place_of, targets}
+use Rattle.krates_drawing.specs.LinesFrom.{IsNumberOfChild, end_of, line_from, referents}
+use Rattle.krates_drawing.specs.Outline as model
+use Rattle.krates_drawing.specs.Outline.{Meaning, OwnFeature, Crates, FeatureOf}
 use Rattle.krates_drawing.specs.OutlineOrder.{has_ends}
-use Rattle.krates_drawing.specs.Views.{kids_in, kids_of, crate_row_view, edge_row_view, meaning_view, feature_row_view, outline_view}
+use Rattle.krates_drawing.specs.Views.{kids_in, kids_of, crate_row_view, edge_row_view, meaning_view, outline_view}
 use Rattle.krates_drawing.specs.declared.outline.CrateRow.{CrateRow}
-use Rattle.krates_drawing.specs.declared.outline.Meaning.{Meaning}
-use Rattle.krates_drawing.specs.declared.outline.FeatureRow.{FeatureRow}
+use Rattle.krates_drawing.specs.declared.outline.Meaning as row
+use Rattle.krates_drawing.specs.declared.outline.Meaning.TheVariants as variants
 use Rattle.krates_drawing.specs.declared.outline.Outline.{Outline}
-use Rattle.krates_drawing.proofs.Children.{any_under}
 use Rattle.krates_drawing.proofs.CratePlaces.{linked, own_number}
 use Rattle.krates_drawing.proofs.NodeNumbers.{id_is}
 
@@ -44,6 +43,10 @@ child_found t p n q from is lt some = record { within = lt; id = id_found q t.kr
 pub not_led : (t : Outline) (p n : ℕ) (q : Id) → p < length t.krates.items → n ≡ place_of (is_crate q) (map crate_row_view t.krates.items) → n < length t.krates.items → list_any (has_ends p n) t.links.items ≡ false → leads (outline_view t) (id_at (kids_in t) p) q ≡ false
 not_led t p n q from is lt none = link_found t p n q from is lt ∙ none
 
+any_under : {A B : Type 0} (v : A → B) (p : B → Bool) (xs : List A) → list_any p (map v xs) ≡ list_any (λ x. p (v x)) xs
+any_under v p [] = refl
+any_under v p (x ∷ xs) = ap (λ b. p (v x) || b) (any_under v p xs)
+
 -- no edge leads to a crate that isn't kept
 pub not_kept : (t : Outline) (p n : ℕ) (q : Id) → n ≡ place_of (is_crate q) (map crate_row_view t.krates.items) → length t.krates.items ≤ n → leads (outline_view t) (id_at (kids_in t) p) q ≡ false
 not_kept t p n q is past =
@@ -57,21 +60,29 @@ not_kept t p n q is past =
         absurd (omega (arith, same, lt, past))
     fails child lt false e = refl
 
--- ---- the edges of one feature
+-- ---- what a reference names
 
-abbrev led : ℕ → ℕ → PlannedEdge
-led source target = record { source = source; target = target; tie = Feature }
+-- a feature of its own crate
+abbrev pub own_ends : Id → Meaning → List Endpoint
+own_ends p (OwnFeature g) = AtFeature p g ∷ []
+own_ends p _ = []
 
-pub feature_drawn : (t : Outline) (n : FeatureRow) (source target : ℕ) (meanings : List Meaning) → source ≡ feature_number (outline_view t) (id_at (kids_in t) n.feature.krate) (text_view n.feature.name) → target ≡ crate_number (outline_view t) (id_at (kids_in t) n.feature.krate)
-    → meanings ≡ n.meanings.items → led source target ∷ map (line_from (outline_view t) source) (flat_map (targets (outline_view t) (id_at (kids_in t) n.feature.krate)) (map meaning_view meanings)) ≡ feature_lines (outline_view t) (feature_row_view (kids_in t) n)
-unfolding feature_lines
-feature_drawn t n source target meanings is_source is_target same =
-    let s = outline_view t in
-    let q = id_at (kids_in t) n.feature.krate in
-    ap (λ x. led source x ∷ map (line_from s source) (flat_map (targets s q) (map meaning_view meanings))) is_target
-    ∙ ap (λ x. led x (crate_number s q) ∷ map (line_from s x) (flat_map (targets s q) (map meaning_view meanings))) is_source
-    ∙ ap (λ l. led (feature_number s q (text_view n.feature.name)) (crate_number s q) ∷ map (line_from s (feature_number s q (text_view n.feature.name))) (flat_map (targets s q) (map meaning_view l))) same
+pub none_own : (p : Id) (m : row.Meaning) → ((name : _) → m ≡ variants.OwnFeature name → ⊥) → own_ends p (meaning_view m) ≡ []
+none_own p (variants.OwnFeature name) h = absurd (h name refl)
+none_own p (variants.Crates krates) h = refl
+none_own p (variants.FeatureOf krates name) h = refl
 
--- one edge, and then the others
-pub after_one : {A B : Type 0} (v : A → B) (old : List A) (x : A) (pushed : List A) (rest whole : List B) → pushed ≡ old ++ x ∷ [] → v x ∷ rest ≡ whole → map v pushed ++ rest ≡ map v old ++ whole
-after_one v old x pushed rest whole one all = ap (λ l. map v l ++ rest) one ∙ ap (λ l. l ++ rest) (map-append v old (x ∷ [])) ∙ append_assoc (map v old) (v x ∷ []) rest ∙ ap (λ l. map v old ++ l) all
+-- and what it names of the crates to which an edge leads
+pub targets_are : (t : model.Outline) (p : Id) (m : Meaning) → targets t p m ≡ own_ends p m ++ map (end_of m) (filter (leads t p) (referents m))
+targets_are t p (OwnFeature g) = refl
+targets_are t p (Crates ids) = refl
+targets_are t p (FeatureOf ids g) = refl
+
+-- both, drawn from one node
+pub meaning_drawn : (t : model.Outline) (source : ℕ) (own : Id) (m : Meaning) (old out : List PlannedEdge) (ids : List Id) → ids ≡ referents m → out ≡ old ++ map (line_from t source) (own_ends own m)
+    → out ++ map (line_from t source) (map (end_of m) (filter (leads t own) ids)) ≡ old ++ map (line_from t source) (targets t own m)
+meaning_drawn t source own m old out ids same drawn =
+    let drawn_to = map (line_from t source) in
+    let there : List Id → List Endpoint = λ is. map (end_of m) (filter (leads t own) is) in
+    ap (λ l. l ++ drawn_to (there ids)) drawn ∙ append_assoc old (drawn_to (own_ends own m)) (drawn_to (there ids)) ∙ ap (λ l. old ++ l) (sym (map-append (line_from t source) (own_ends own m) (there ids)))
+    ∙ ap (λ is. old ++ drawn_to (own_ends own m ++ there is)) same ∙ ap (λ l. old ++ drawn_to l) (sym (targets_are t own m))

@@ -1,8 +1,5 @@
 -- A feature of an outline is where a search finds it.
-use Rattle.std.proofs.Common.{◌≡◌, ◌<◌, ℕ, List, Some, Ok, All, Result, length, map, ◌&&◌, sym, ap, ◌∙◌, subst}
-use Rattle.std.proofs.lemmas.Cmp.{tied_itself}
-use Rattle.std.proofs.lemmas.Option.{get_or_from_slice_get, slice_get_within}
-use Rattle.std.specs.List.{slice_get}
+use Rattle.std.proofs.Common.{◌≡◌, ◌<◌, ℕ, List, All, Result, length, map, ◌&&◌, sym, ap, ◌∙◌, subst}
 use Rattle.std.specs.List.Sorted.{IsBinarySearchResult, IsSearchInRange, IsStrictlySortedBy}
 use Rattle.std.specs.Ordering.{is_eq}
 use Rattle.std.specs.Result.{result_unwrap_or}
@@ -31,16 +28,3 @@ place_found ks xs ys q f r sorted lt homes in_order same bound at =
     let range = subst (λ (l : List FeatureRow). IsSearchInRange r (length l)) same bound in
     let found = subst (λ (l : List FeatureRow). IsBinarySearchResult (λ (n : FeatureRow). named_cmp (feature_key n) (q, f)) l r) same at in
     sym (feature_seen ks xs q f sorted lt homes ∙ searched named_total feature_key xs (q, f) r (features_in_order xs in_order) range found)
-
--- a feature that is at a place is found there
-pub own_place : (ks : List CrateRow) (xs : List FeatureRow) (place : ℕ) (n : FeatureRow) → AreInOrder ks → All (λ n. HasHome (length ks) n.feature) xs → IsStrictlySortedBy feature_cmp (map (λ (m : FeatureRow). m.feature) xs)
-    → slice_get xs place ≡ Some n → place_of (is_feature (id_at (kids_of ks) n.feature.krate) (text_view n.feature.name)) (map (feature_row_view (kids_of ks)) xs) ≡ place
-own_place ks xs place n sorted homes in_order at =
-    let q = n.feature.krate in
-    let f = text_view n.feature.name in
-    feature_seen ks xs q f sorted (home_at xs place n homes at) homes
-    ∙ searched named_total feature_key xs (q, f) (Ok place) (features_in_order xs in_order) (slice_get_within xs place n at)
-    (λ d. ap (λ (m : FeatureRow). named_cmp (feature_key m) (q, f)) (get_or_from_slice_get xs place n d at) ∙ tied_itself named_total (q, f))
-  where
-    home_at : (xs : List FeatureRow) (place : ℕ) (n : FeatureRow) → All (λ n. HasHome (length ks) n.feature) xs → slice_get xs place ≡ Some n → HasHome (length ks) n.feature
-    home_at xs place n homes at = subst (λ (m : FeatureRow). HasHome (length ks) m.feature) (get_or_from_slice_get xs place n n at) (homes place n (slice_get_within xs place n at))

@@ -1,6 +1,5 @@
 pub mod Agreed
 pub mod ById
-pub mod Children
 pub mod Closed
 pub mod CratePlaces
 pub mod Derivations
@@ -15,6 +14,7 @@ pub mod FewerLines
 pub mod Gathering
 pub mod Holding
 pub mod Ignoring
+pub mod LinkLines
 pub mod Mapped
 pub mod NarrowerOutline
 pub mod NodeNumbers
@@ -27,7 +27,6 @@ pub mod Rebuilt
 pub mod SaidAlike
 pub mod SearchedKrates
 pub mod Standing
-pub mod StoredEdges
 pub mod Storing
 pub mod Tests
 pub mod WorkOfOutline

@@ -1,12 +1,13 @@
 -- Tests and orders of ids and features.
-use Rattle.std.proofs.Common.{◌≡◌, ◌&&◌, ◌||◌, ◌==◌, Bool, true, false, ℕ, suc, ◌+◌, ◌≤◌, List, [], ◌∷◌, ◌++◌, All, get_or, map, filter, cond, Ordering, Less, Equal, Greater, rules, refl, sym, ap, ◌∙◌, subst, arith}
-use Rattle.std.proofs.lemmas.Cmp.{nat_cmp_total, ranked}
-use Rattle.std.proofs.lemmas.List.Elements.{All-head, All-tail, filter_agree}
+use Rattle.std.proofs.Common.{◌≡◌, ◌&&◌, ◌||◌, ◌==◌, Bool, true, false, ℕ, suc, ◌+◌, ◌≤◌, List, [], ◌∷◌, ◌++◌, All, drop, get_or, map, filter, cond, Ordering, Less, Equal, Greater, rules, refl, sym, ap, ◌∙◌, subst, arith}
+use Rattle.std.proofs.lemmas.Cmp.{nat_cmp_total, ranked, tied_itself}
+use Rattle.std.proofs.lemmas.List.{get_or-drop, length-drop}
+use Rattle.std.proofs.lemmas.List.Elements.{All-head, All-tail}
 use Rattle.std.proofs.lemmas.Map.Text.{is_eq-slice_cmp}
 use Rattle.std.specs.Cmp.{IsTotalOrder, unsigned_ties}
 use Rattle.std.specs.Cmp.Lexicographic.{slice_cmp}
 use Rattle.std.specs.Cmp.Rules.{comparing}
-use Rattle.std.specs.Ordering.{is_eq, nat_cmp, ordering_index, ordering_reverse, ordering_then}
+use Rattle.std.specs.Ordering.{is_eq, nat_cmp, ordering_index, ordering_then}
 use Rattle.std.specs.List.{AllByRecursion, flat_map, list_any}
 use Rattle.std.specs.List.Sorted.{IsNonDecreasingBy, IsStrictlySortedBy}
 use Rattle.std.specs.Str.{bytes_eq}
@@ -14,15 +15,16 @@ use mathlib.Core.List.{map-id}
 use Rattle.krates_cm.specs.Document.{Text, text_view}
 use Rattle.krates_ids.specs.Identity.{Identity, id_cmp}
 use Rattle.krates_selection.specs.Selection.{feature_cmp, place_cmp, toggled_cmp}
+use Rattle.krates_selection.specs.declared.selection.KeptEdge.{KeptEdge}
 use Rattle.krates_selection.specs.declared.selection.ToggledFeature.{ToggledFeature}
 use Rattle.krates_rules.specs.Facts.{Id}
 use Rattle.krates_rules.specs.Referent.{id_order}
 use Rattle.krates_rules.specs.Resolved.{id_of}
 use Rattle.krates_drawing.specs.Drawing.{id_eq, place_of}
-use Rattle.krates_drawing.specs.OutlineOrder.{AreByChild, AreByKrate, has_by, has_child, has_krate, has_parent}
+use Rattle.krates_drawing.specs.OutlineOrder.{AreByEnds}
 use Rattle.krates_drawing.specs.declared.outline.EdgeRow.{EdgeRow}
 use Rattle.krates_drawing.specs.declared.outline.FeatureRow.{FeatureRow}
-use Rattle.krates_drawing.proofs.EqualRanges.{IsCut, below_later, cut_is, rises_weakly, stands_in}
+use Rattle.krates_drawing.proofs.EqualRanges.{below_later, rises_weakly}
 
 -- ---- tests
 
@@ -150,110 +152,48 @@ low_of m n Less e low = let lt = ranked m n Less e in omega (arith, lt)
 low_of m n Equal e low = let same = ranked m n Equal e in omega (arith, same)
 low_of m n Greater e low = absurd (low refl)
 
-pub not_high : (m n : ℕ) → m ≤ n → (r : Ordering) → r ≡ nat_cmp m n → r ≡ Greater → ⊥
-not_high m n le Less e g = cc g
-not_high m n le Equal e g = cc g
-not_high m n le Greater e g = let gt = ranked m n Greater e in omega (arith, le, gt)
-
--- edges in order rise by parent
-pub links_by_parent : (xs : List EdgeRow) (p : ℕ) → IsStrictlySortedBy place_cmp (map (λ l. l.edge) xs) → IsNonDecreasingBy (λ (l : EdgeRow). ordering_index (nat_cmp l.edge.parent p)) xs
-links_by_parent xs p sorted = rises_weakly nat_cmp_total (λ (l : EdgeRow). l.edge.parent) xs p (λ i j d l lt. first_low _ _ (below_later place_cmp (λ (l : EdgeRow). l.edge) xs i j d sorted l lt))
-
-pub both_low : (a b c : Ordering) → ordering_then a (ordering_then b c) ≡ Less → ordering_then a b ≡ Greater → ⊥
+both_low : (a b c : Ordering) → ordering_then a (ordering_then b c) ≡ Less → ordering_then a b ≡ Greater → ⊥
 both_low Less b c e g = cc g
 both_low Equal b c e g = first_low b c e g
 both_low Greater b c e g = cc e
 
--- and by both ends
-pub links_by_ends : (xs : List EdgeRow) (q : ℕ × ℕ) → IsStrictlySortedBy place_cmp (map (λ l. l.edge) xs) → IsNonDecreasingBy (λ (l : EdgeRow). ordering_index (ends_cmp (ends_of l) q)) xs
-links_by_ends xs q sorted = rises_weakly ends_total ends_of xs q (λ i j d l lt.
+-- edges in order rise by both ends
+pub links_by_ends : (xs : List EdgeRow) (q : ℕ × ℕ) → AreByEnds xs → IsNonDecreasingBy (λ (l : EdgeRow). ordering_index (ends_cmp (ends_of l) q)) xs
+links_by_ends xs q by = rises_weakly ends_total ends_of xs q (λ i j d l lt.
     let a = (get_or xs i d).edge in
     let b = (get_or xs j d).edge in
-    both_low (nat_cmp a.parent b.parent) (nat_cmp a.child b.child) (nat_cmp a.place b.place) (below_later place_cmp (λ (l : EdgeRow). l.edge) xs i j d sorted l lt))
+    both_low (nat_cmp a.parent b.parent) (nat_cmp a.child b.child) (nat_cmp a.place b.place) (by i j d l lt))
 
--- edges from a crate in order rise by child
-pub links_by_child : (mine : List EdgeRow) (q : ℕ) → AreByChild mine → IsNonDecreasingBy (λ (l : EdgeRow). ordering_index (nat_cmp l.edge.child q)) mine
-links_by_child mine q by = rises_weakly nat_cmp_total (λ (l : EdgeRow). l.edge.child) mine q (λ i j d l lt. not_high _ _ (by i j d l lt) _ refl)
+-- what is left of kept edges is in their order
+pub links_behind : (xs : List EdgeRow) (n : ℕ) → IsStrictlySortedBy place_cmp (map (λ l. l.edge) xs) → AreByEnds (drop n xs)
+links_behind xs n sorted i j d l lt =
+    let later = below_later place_cmp (λ (l : EdgeRow). l.edge) xs (n + i) (n + j) d sorted (omega (arith, l)) (omega (arith, lt, length-drop n xs)) in
+    ap (λ (z : EdgeRow). place_cmp z.edge (get_or (drop n xs) j d).edge) (get_or-drop n xs i d) ∙ ap (λ (z : EdgeRow). place_cmp (get_or xs (n + i) d).edge z.edge) (get_or-drop n xs j d) ∙ later
 
--- toggled features in order rise by the crate that toggles them
-pub toggled_by_crate : (xs : List ToggledFeature) (p : ℕ) → IsStrictlySortedBy toggled_cmp xs → IsNonDecreasingBy (λ (t : ToggledFeature). ordering_index (nat_cmp t.by p)) xs
-toggled_by_crate xs p sorted =
-    rises_weakly nat_cmp_total (λ (t : ToggledFeature). t.by) xs p (λ i j d l lt. first_low _ _ (below_later toggled_cmp (λ (t : ToggledFeature). t) xs i j d (subst (IsStrictlySortedBy toggled_cmp) (sym (map-id xs)) sorted) l lt))
+-- a kept edge comes no later than the next, by the numbers of its crates
+pub record Precedes (a b : KeptEdge) : Type 0 where
+  pub parent : a.parent ≤ b.parent
+  pub child : a.parent ≡ b.parent → a.child ≤ b.child
 
--- those of one crate rise by the crate that they belong to
-pub toggled_by_krate : (mine : List ToggledFeature) (q : ℕ) → AreByKrate mine → IsNonDecreasingBy (λ (t : ToggledFeature). ordering_index (nat_cmp t.krate q)) mine
-toggled_by_krate mine q by = rises_weakly nat_cmp_total (λ (t : ToggledFeature). t.krate) mine q (λ i j d l lt. not_high _ _ (by i j d l lt) _ refl)
+pub precedes : (a b : KeptEdge) → place_cmp a b ≡ Less → Precedes a b
+precedes a b less =
+    let parents = nat_cmp a.parent b.parent in
+    let children = nat_cmp a.child b.child in
+    record {
+      parent = low_of a.parent b.parent parents refl (first_low parents (ordering_then children (nat_cmp a.place b.place)) less);
+      child = λ same. low_of a.child b.child children refl (second_low parents children (nat_cmp a.place b.place) (ap (nat_cmp a.parent) (sym same) ∙ tied_itself nat_cmp_total a.parent) less);
+    }
 
-equal_both : (m n p : ℕ) → is_eq (nat_cmp m p) ≡ true → is_eq (nat_cmp n p) ≡ true → nat_cmp m n ≡ Equal
-equal_both m n p a b =
-    let first : nat_cmp m p ≡ Equal = is_equal (nat_cmp m p) a in
-    let second : nat_cmp n p ≡ Equal = is_equal (nat_cmp n p) b in
-    nat_cmp_total.congr m p n first ∙ nat_cmp_total.antisymm p n ∙ ap ordering_reverse second
-  where
-    is_equal : (r : Ordering) → is_eq r ≡ true → r ≡ Equal
-    is_equal Less e = cc e
-    is_equal Equal e = refl
-    is_equal Greater e = cc e
+abbrev pub crates_of : ToggledFeature → ℕ × ℕ
+crates_of t = (t.by, t.krate)
 
--- the features that a crate toggles are in order by the crate that they belong to
-pub cut_by_krate : (xs mine : List ToggledFeature) (p : ℕ) → IsStrictlySortedBy toggled_cmp xs → IsCut (λ (t : ToggledFeature). nat_cmp t.by p) xs mine → AreByKrate mine
-cut_by_krate xs mine p sorted w i j d l lt =
-    let ord : ToggledFeature → Ordering = λ t. nat_cmp t.by p in
-    let here = stands_in ord xs mine w i d (omega (arith, l, lt)) in
-    let there = stands_in ord xs mine w j d lt in
-    let a = get_or xs (w.n + i) d in
-    let b = get_or xs (w.n + j) d in
-    let less : toggled_cmp a b ≡ Less = below_later toggled_cmp (λ (t : ToggledFeature). t) xs (w.n + i) (w.n + j) d (subst (IsStrictlySortedBy toggled_cmp) (sym (map-id xs)) sorted) (omega (arith, l)) there.within in
-    let same : nat_cmp a.by b.by ≡ Equal = equal_both a.by b.by p here.equal there.equal in
-    let low : a.krate ≤ b.krate = low_of a.krate b.krate (nat_cmp a.krate b.krate) refl (second_low (nat_cmp a.by b.by) (nat_cmp a.krate b.krate) (slice_cmp nat_cmp (text_view a.name) (text_view b.name)) same less) in
-    subst (λ (z : ToggledFeature). z.krate ≤ (get_or mine j d).krate) (sym here.same) (subst (λ (z : ToggledFeature). a.krate ≤ z.krate) (sym there.same) low)
-
--- the edges from a crate are in order by child
-pub cut_by_child : (xs mine : List EdgeRow) (p : ℕ) → IsStrictlySortedBy place_cmp (map (λ l. l.edge) xs) → IsCut (λ (l : EdgeRow). nat_cmp l.edge.parent p) xs mine → AreByChild mine
-cut_by_child xs mine p sorted w i j d l lt =
-    let ord : EdgeRow → Ordering = λ l. nat_cmp l.edge.parent p in
-    let here = stands_in ord xs mine w i d (omega (arith, l, lt)) in
-    let there = stands_in ord xs mine w j d lt in
-    let a = get_or xs (w.n + i) d in
-    let b = get_or xs (w.n + j) d in
-    let less : place_cmp a.edge b.edge ≡ Less = below_later place_cmp (λ (l : EdgeRow). l.edge) xs (w.n + i) (w.n + j) d sorted (omega (arith, l)) there.within in
-    let same : nat_cmp a.edge.parent b.edge.parent ≡ Equal = equal_both a.edge.parent b.edge.parent p here.equal there.equal in
-    let low : a.edge.child ≤ b.edge.child = low_of a.edge.child b.edge.child (nat_cmp a.edge.child b.edge.child) refl (second_low (nat_cmp a.edge.parent b.edge.parent) (nat_cmp a.edge.child b.edge.child) (nat_cmp a.edge.place b.edge.place) same less) in
-    subst (λ (z : EdgeRow). z.edge.child ≤ (get_or mine j d).edge.child) (sym here.same) (subst (λ (z : EdgeRow). a.edge.child ≤ z.edge.child) (sym there.same) low)
-
--- ---- runs, by number
-
-pub cut_parent : (xs mine : List EdgeRow) (p : ℕ) → IsCut (λ (l : EdgeRow). nat_cmp l.edge.parent p) xs mine → mine ≡ filter (has_parent p) xs
-cut_parent xs mine p w = cut_is (λ (l : EdgeRow). nat_cmp l.edge.parent p) xs mine w ∙ filter_agree (λ (l : EdgeRow). is_eq (nat_cmp l.edge.parent p)) (has_parent p) (λ l. sym (unsigned_ties l.edge.parent p)) xs
-
-pub cut_child : (xs mine : List EdgeRow) (q : ℕ) → IsCut (λ (l : EdgeRow). nat_cmp l.edge.child q) xs mine → mine ≡ filter (has_child q) xs
-cut_child xs mine q w = cut_is (λ (l : EdgeRow). nat_cmp l.edge.child q) xs mine w ∙ filter_agree (λ (l : EdgeRow). is_eq (nat_cmp l.edge.child q)) (has_child q) (λ l. sym (unsigned_ties l.edge.child q)) xs
-
-pub cut_by : (xs mine : List ToggledFeature) (p : ℕ) → IsCut (λ (t : ToggledFeature). nat_cmp t.by p) xs mine → mine ≡ filter (has_by p) xs
-cut_by xs mine p w = cut_is (λ (t : ToggledFeature). nat_cmp t.by p) xs mine w ∙ filter_agree (λ (t : ToggledFeature). is_eq (nat_cmp t.by p)) (has_by p) (λ t. sym (unsigned_ties t.by p)) xs
-
-pub cut_krate : (xs mine : List ToggledFeature) (q : ℕ) → IsCut (λ (t : ToggledFeature). nat_cmp t.krate q) xs mine → mine ≡ filter (has_krate q) xs
-cut_krate xs mine q w = cut_is (λ (t : ToggledFeature). nat_cmp t.krate q) xs mine w ∙ filter_agree (λ (t : ToggledFeature). is_eq (nat_cmp t.krate q)) (has_krate q) (λ t. sym (unsigned_ties t.krate q)) xs
-
--- ---- a filter of a filter
-
-step_twice : {A : Type 0} (b c : Bool) (q : A → Bool) (x : A) (ys zs : List A) → q x ≡ c → filter q ys ≡ zs → filter q (cond b (x ∷ ys) ys) ≡ cond (b && c) (x ∷ zs) zs
-step_twice true c q x ys zs e f = ap (λ d. cond d (x ∷ filter q ys) (filter q ys)) e ∙ ap (λ ws. cond c (x ∷ ws) ws) f
-step_twice false c q x ys zs e f = f
-
--- what passes one test and then another passes both
-pub filter_twice : {A : Type 0} (p q : A → Bool) (xs : List A) → filter q (filter p xs) ≡ filter (λ x. p x && q x) xs
-filter_twice p q [] = refl
-filter_twice p q (x ∷ xs) = step_twice (p x) (q x) q x (filter p xs) (filter (λ y. p y && q y) xs) refl (filter_twice p q xs)
-
-any_kept : {A : Type 0} (b : Bool) (q : A → Bool) (x : A) (ys : List A) → list_any q (cond b (x ∷ ys) ys) ≡ ((b && q x) || list_any q ys)
-any_kept true q x ys = refl
-any_kept false q x ys = refl
-
--- some element that passes one test passes another where one passes both
-pub any_within : {A : Type 0} (p q : A → Bool) (xs : List A) → list_any q (filter p xs) ≡ list_any (λ x. p x && q x) xs
-any_within p q [] = refl
-any_within p q (x ∷ xs) = any_kept (p x) q x (filter p xs) ∙ ap (λ b. (p x && q x) || b) (any_within p q xs)
+-- toggled features in order rise by both crates
+pub toggled_by_crates : (xs : List ToggledFeature) (q : ℕ × ℕ) → IsStrictlySortedBy toggled_cmp xs → IsNonDecreasingBy (λ (t : ToggledFeature). ordering_index (ends_cmp (crates_of t) q)) xs
+toggled_by_crates xs q sorted = rises_weakly ends_total crates_of xs q (λ i j d l lt.
+    let a = get_or xs i d in
+    let b = get_or xs j d in
+    both_low (nat_cmp a.by b.by) (nat_cmp a.krate b.krate) (slice_cmp nat_cmp (text_view a.name) (text_view b.name))
+    (below_later toggled_cmp (λ (t : ToggledFeature). t) xs i j d (subst (IsStrictlySortedBy toggled_cmp) (sym (map-id xs)) sorted) l lt))
 
 -- ---- tests and functions that are alike
 

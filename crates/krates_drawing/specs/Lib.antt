@@ -3,7 +3,6 @@ pub mod Alike
 pub mod Connected
 pub mod Division
 pub mod Drawing
-pub mod EdgeSource
 pub mod EdgeText
 pub mod Ends
 pub mod Gathered

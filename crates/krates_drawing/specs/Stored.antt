@@ -1,5 +1,5 @@
 -- A stored graph beside what is drawn.
-use Rattle.std.specs.Prelude.{◌≡◌, ℕ, List, [], ◌∷◌, ◌++◌, Contains}
+use Rattle.std.specs.Prelude.{◌≡◌, ℕ, List, Contains}
 use Rattle.krates_graph.specs.declared.graph.edge.GraphEdge.{GraphEdge}
 use Rattle.krates_drawing.specs.Agreement.{IsOf}
 use Rattle.krates_drawing.specs.Drawing.{PlannedEdge, PlannedNode}
@@ -20,9 +20,3 @@ pub record LeadsAlong {E : Type 0} (nodes : List PlannedNode) (edges : List (Gra
   pub among : Contains edges edge
   pub from : edge.source ≡ p
   pub to : IsOf nodes d edge.target
-
--- one edge more is stored, which is the line
-pub record Appends {E : Type 0} (made : Edge → E → Type 0) (old new : List (GraphEdge E)) (l : PlannedEdge) : Type 0 where
-  pub stored : GraphEdge E
-  pub is : IsStoredAs made l stored
-  pub appended : new ≡ old ++ stored ∷ []

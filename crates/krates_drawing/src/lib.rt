@@ -3,11 +3,9 @@
 //! list in the order of the ids, and the others handed to a filter.
 #![tactic(auto)]
 
-mod crate_edges;
 pub mod division;
+mod drawing;
 pub mod edge;
-mod equal_ranges;
-mod feature_edges;
 pub mod gather;
 pub mod laws;
 pub mod limits;

@@ -1,12 +1,10 @@
 //! The nodes, with the mappings of the crates.
-ghost use Rattle.std.specs.Prelude.{◌≡◌, ◌<◌, length, map, IfOk};
-ghost use Rattle.std.specs.List.{range_with_len};
+ghost use Rattle.std.specs.Prelude.{◌≡◌, length, map, replicate, IfOk};
 ghost use Rattle.krates_selection.specs.Selection.{HasEnds};
-ghost use Rattle.krates_drawing.specs.Drawing.{planned_feature, mapping as mapping_of};
-ghost use Rattle.krates_drawing.specs.OutlineOrder.{AreByChild, HaveEnds, IsClaimed, mapped_over};
-ghost use Rattle.krates_drawing.specs.Views.{ArePlannedNodes, krate_at, planned_feature_view, outline_view};
+ghost use Rattle.krates_drawing.specs.Drawing.{mapping, planned_feature};
+ghost use Rattle.krates_drawing.specs.OutlineOrder.{IsClaimed};
+ghost use Rattle.krates_drawing.specs.Views.{ArePlannedNodes, planned_feature_view, outline_view};
 
-use crate::equal_ranges::links_from;
 use crate::numbers::NumberedOutline;
 use crate::outline::EdgeRow;
 use krates_graph::graph::NodeId;
@@ -31,59 +29,41 @@ pub struct PlannedNodes {
 }
 
 impl NumberedOutline<'_> {
-    /// Writes the number of the crate to which the edge leads at the place of its declared dependency.
-    fn claim(&self, link: &EdgeRow, mapping: &mut [Option<NodeId>])
-        requires { HasEnds (length self.now.outline.now.krates.items) link.now.edge }
-        ensures { IsClaimed link.now mapping.old mapping.new }
+    /// Writes the number of the crate to which the edge leads into the mapping of the crate that it leaves, at the place of its declared
+    /// dependency.
+    fn claim(&self, link: &EdgeRow, mappings: &mut [Vec<Option<NodeId>>])
+        requires ends { HasEnds (length self.now.outline.now.krates.items) link.now.edge }
+        requires one_each { length mappings.old ≡ length self.now.outline.now.krates.items }
+        ensures { IsClaimed link.now (map (λ m. m.items) mappings.old) (map (λ m. m.items) mappings.new) }
     {
         let place = link.edge.declared;
+        let mapping = &mut mappings[link.edge.parent];
         if place < mapping.len() {
             mapping[place] = Some(self.crate_number(link.edge.child));
         }
     }
 
-    /// For each declared dependency, what it is mapped to: one walk over the edges, of which the last to claim it stays.
-    fn mapping_over(
-        &self,
-        alloc: Global,
-        mine: &[EdgeRow],
-        count: usize,
-    ) -> Result<Vec<Option<NodeId>>, AllocError>
-        requires by_child { AreByChild mine.now }
-        requires ends { HaveEnds self.now.outline.now mine.now }
-        ensures { let krates = length self.now.outline.now.krates.items in
-            IfOk result (λ v. v.items ≡ map (mapped_over krates mine.now) (range_with_len 0 count)) }
+    /// Mappings of the crates that map nothing.
+    fn unmapped(&self, alloc: Global) -> Result<Vec<Vec<Option<NodeId>>>, AllocError>
+        ensures { IfOk result (λ v. map (λ m. m.items) v.items
+            ≡ map (λ k. replicate k.declared None) self.now.outline.now.krates.items) }
     {
-        let mut mapping = vec![in alloc; None; count]?;
-        for link in mine {
-            self.claim(link, &mut mapping);
+        let mut unmapped = Vec::with_capacity(alloc, self.outline.krates.len())?;
+        for krate in &self.outline.krates {
+            unmapped.push(vec![in alloc; None; krate.declared]?)?;
         }
-        Ok(mapping)
+        Ok(unmapped)
     }
 
-    /// The mapping of a crate.
-    #[tactic(auto, unfolding(crate::specs::Drawing::mapping))]
-    fn mapping(&self, alloc: Global, krate: usize) -> Result<Vec<Option<NodeId>>, AllocError>
-        requires { krate < length self.now.outline.now.krates.items }
-        ensures { let outline = self.now.outline.now in
-            IfOk result (λ v. v.items ≡ mapping_of (outline_view outline) (krate_at outline krate)) }
-    {
-        self.mapping_over(
-            alloc,
-            links_from(self.outline, krate),
-            self.outline.krates[krate].declared,
-        )
-    }
-
-    /// The mappings of the crates.
+    /// The mappings of the crates: one walk over the edges, of which the last to claim a declared dependency stays.
     fn mappings(&self, alloc: Global) -> Result<Vec<Vec<Option<NodeId>>>, AllocError>
         ensures { let outline = self.now.outline.now in
             IfOk result (λ v. map (λ m. m.items) v.items
-            ≡ map (mapping_of (outline_view outline)) (outline_view outline).krates) }
+            ≡ map (mapping (outline_view outline)) (outline_view outline).krates) }
     {
-        let mut mappings = Vec::with_capacity(alloc, self.outline.krates.len())?;
-        for krate in 0..self.outline.krates.len() {
-            mappings.push(self.mapping(alloc, krate)?)?;
+        let mut mappings = self.unmapped(alloc)?;
+        for link in &self.outline.links {
+            self.claim(link, &mut mappings);
         }
         Ok(mappings)
     }
@@ -97,10 +77,8 @@ impl NumberedOutline<'_> {
         let mut features = Vec::with_capacity(alloc, self.outline.features.len())?;
         for x in &self.outline.features {
             let krate_index = self.crate_number(x.feature.krate);
-            features.push(PlannedFeature {
-                krate_index,
-                name: x.feature.name.clone()?,
-            })?;
+            let name = x.feature.name.clone()?;
+            features.push(PlannedFeature { krate_index, name })?;
         }
         Ok(features)
     }

@@ -1,20 +1,15 @@
 //! The numbers of nodes: their places among the crates, then among the features. What isn't a number is found by binary search.
 ghost use Rattle.std.specs.Prelude.{◌≡◌, ◌<◌, ◌≤◌, MatchOption, length, map};
-ghost use Rattle.std.specs.Cmp.Lexicographic.{slice_cmp};
 ghost use Rattle.std.specs.List.Sorted.{IsStrictlySortedBy};
-ghost use Rattle.std.specs.Ordering.{nat_cmp, ordering_then};
-ghost use Rattle.krates_cm.specs.Document.{text_view};
 ghost use Rattle.krates_ids.specs.Identity.{id_cmp};
 ghost use Rattle.krates_selection.specs.Selection.{id_at};
 ghost use Rattle.krates_rules.specs.Resolved.{id_of};
 ghost use Rattle.krates_drawing.specs.Drawing.{crate_number as number_of_crate, feature_number as number_of_feature, is_crate, is_feature, place_of, planned_nodes};
-ghost use Rattle.krates_drawing.specs.OutlineOrder.{IsPlaceOfFeature};
 ghost use Rattle.krates_drawing.specs.Views.{IsFew, kids_in, kids_of, crate_row_view, feature_row_view, outline_view};
 
-use crate::outline::{CrateRow, FeatureRow, Outline};
+use crate::outline::{CrateRow, Outline};
 use krates_graph::graph::NodeId;
 use krates_ids::{Kid, laws};
-use std::cmp::Ordering;
 
 /// An outline whose nodes are few enough to be numbered.
 #[derive(Clone, Copy)]
@@ -58,16 +53,6 @@ impl<'a> NumberedOutline<'a> {
         let place = place_of_feature(self.outline, krate, name);
         NodeId::new((self.outline.krates.len() + place) as u32)
     }
-
-    /// The number of the node of the feature at this place among those of the outline.
-    pub(crate) fn feature_node_at(&self, place: usize, named: &FeatureRow) -> NodeId
-        requires { IsPlaceOfFeature self.now.outline.now place named.now }
-        ensures { let outline = self.now.outline.now in
-            result ≡ number_of_feature (outline_view outline)
-            (id_at (kids_in outline) named.now.feature.krate) (text_view named.now.feature.name) }
-    {
-        NodeId::new((self.outline.krates.len() + place) as u32)
-    }
 }
 
 /// The place of the crate, or the number of crates.
@@ -88,19 +73,9 @@ fn place_of_feature(outline: &Outline, krate: usize, name: &str) -> usize
         (map (feature_row_view (kids_in outline.now)) outline.now.features.items) }
     ensures within { result ≤ length outline.now.features.items }
 {
+    let sought = (krate, name);
     outline
         .features
-        .binary_search_by(|named| feature_against(named, krate, name))
+        .binary_search_by(|named| (named.feature.krate, named.feature.name.as_str()).cmp(&sought))
         .unwrap_or(outline.features.len())
-}
-
-/// How an enabled feature compares with that of this crate and name.
-fn feature_against(named: &FeatureRow, krate: usize, name: &str) -> Ordering
-    ensures { result ≡ ordering_then (nat_cmp named.now.feature.krate krate) (slice_cmp nat_cmp
-        (text_view named.now.feature.name) name.now) }
-{
-    match named.feature.krate.cmp(&krate) {
-        Ordering::Equal => named.feature.name.as_str().cmp(name),
-        unequal => unequal,
-    }
 }

@@ -1,9 +1,9 @@
 //! The planned edges, put into a graph.
-ghost use Rattle.std.specs.Prelude.{◌≡◌, ◌<◌, ◌+◌, ◌^◌, [], map, length, All, IfOk, OnOk, IfErr};
+ghost use Rattle.std.specs.Prelude.{◌≡◌, ◌<◌, ◌^◌, [], map, length, All, IfOk, OnOk, IfErr};
 ghost use Rattle.std.specs.List.{AllZip};
 ghost use Rattle.krates_drawing.specs.Ends.{HasEnds};
-ghost use Rattle.krates_drawing.specs.Stored.{IsStoredAs, Appends};
-ghost use Rattle.krates_drawing.specs.Views.{planned_edge_view, tie_view};
+ghost use Rattle.krates_drawing.specs.Stored.{IsStoredAs};
+ghost use Rattle.krates_drawing.specs.Views.{planned_edge_view};
 ghost use Rattle.krates_drawing.specs.declared.edge.Edge.{Edge};
 ghost use Rattle.krates_drawing.specs.Limits.{StoringRefusal};
 
@@ -34,34 +34,6 @@ impl FromEdge for Edge {
     }
 }
 
-/// What is made of a copy of the edge.
-fn weight_of<E: FromEdge>(alloc: Global, edge: &Edge) -> Result<E, AllocError>
-    ensures { IfOk result (λ w. (e : Edge) × (tie_view e ≡ tie_view edge.now) × E.made_from_edge e w) }
-{
-    E::from_edge(alloc, edge.clone()?)
-}
-
-/// Puts a planned edge behind those of the graph.
-fn store_edge<N, E: FromEdge + Drop>(
-    alloc: Global,
-    planned: &PlannedEdge,
-    graph: &mut Graph<N, E>,
-) -> Result<(), Error>
-    requires stands { HasEnds (length graph.old.nodes) (planned_edge_view planned.now) }
-    requires few { length graph.old.nodes < 2 ^ 32 }
-    ensures drawn { OnOk result (Appends E.made_from_edge graph.old.edges graph.new.edges
-        (planned_edge_view planned.now)) }
-    ensures rest { graph.new ≡ record graph.old { edges = graph.new.edges } }
-    ensures refused { IfErr result (StoringRefusal graph.old.edge_limit (length graph.old.edges + 1)) }
-{
-    let weight = weight_of(alloc, &planned.edge)?;
-    match graph.add_edge(planned.source, planned.target, weight) {
-        Ok(_) => Ok(()),
-        Err(GraphError::Full(_)) => Err(Error::TooMany),
-        Err(GraphError::Memory(_)) => Err(Error::Memory),
-    }
-}
-
 /// Puts the planned edges, in their order, into a graph that has the nodes and no edge yet. It is refused as
 /// `TooMany` only where there are more than the graph takes, or as `Memory`. Time O(edges).
 pub fn store_edges<N, E: FromEdge + Drop>(
@@ -78,7 +50,13 @@ pub fn store_edges<N, E: FromEdge + Drop>(
     ensures refused { IfErr result (StoringRefusal graph.old.edge_limit (length planned_edges.now)) }
 {
     for x in planned_edges {
-        store_edge(alloc, x, graph)?;
+        let edge = x.edge.clone()?;
+        let weight = E::from_edge(alloc, edge)?;
+        match graph.add_edge(x.source, x.target, weight) {
+            Ok(_) => {}
+            Err(GraphError::Full(_)) => return Err(Error::TooMany),
+            Err(GraphError::Memory(_)) => return Err(Error::Memory),
+        }
     }
     Ok(())
 }

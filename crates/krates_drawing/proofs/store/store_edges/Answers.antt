@@ -1,23 +1,32 @@
-use Rattle.std.proofs.Common.{◌∙◌, ◌+◌, length, ap, sym, subst}
+use Rattle.std.proofs.Common.{◌≡◌, ◌∙◌, ◌+◌, ◌<◌, ◌∷◌, ◌++◌, [], length, ap, refl, rules, sym, subst}
 use Rattle.std.proofs.lemmas.List.{length_push}
+use Rattle.krates_graph.specs.declared.graph.edge.GraphEdge.{GraphEdge}
 use Rattle.krates_rules.proofs.Zips.{zip_next, seen_at}
 use Rattle.krates_drawing.specs.Ends.{HasEnds}
-use Rattle.krates_drawing.specs.Stored.{IsStoredAs, Appends}
+use Rattle.krates_drawing.specs.Stored.{IsStoredAs}
 use Rattle.krates_drawing.specs.Views.{planned_edge_view}
-use Rattle.krates_drawing.proofs.StoredEdges.{edges_alone}
 use Rattle.krates_drawing.proofs.store.store_edges.Goals as goal
 
 pub loop-x-preserved : goal.loop-x-preserved
 loop-x-preserved g c =
-    let i = c.loop-x.invariant in
-    let a : Appends g.E.FromEdge.made_from_edge c.loop-x.graph.edges c.store_edge.new.graph.edges (planned_edge_view c.x-item.result) = c.in_ok-store_edge.ensures.drawn in
+    let l = c.loop-x in
+    let x = c.x-item.result in
+    let made = g.E.FromEdge.made_from_edge in
+    let stored : GraphEdge _ = record { source = x.source; target = x.target; weight = c.in_ok-weight.weight } in
+    let is : IsStoredAs made (planned_edge_view x) stored = record { source = refl; target = refl; edge = c.in_ok-edge.edge; says = c.in_ok-edge.ensures.cases; made_from = c.in_ok-weight.ensures } in
+    let added : c.add_edge.new.self.edges ≡ l.graph.edges ++ stored ∷ [] = ap (λ h. h.edges) c.in-Ok.ensures.added in
     record {
-      drawn = rw a.appended (zip_next (IsStoredAs g.E.FromEdge.made_from_edge) planned_edge_view c.args.planned_edges.now c.loop-x.x-index c.x-item.result c.loop-x.graph.edges a.stored c.loop-x-test.true c.x-item.is a.is i.drawn);
-      count = ap length a.appended ∙ length_push c.loop-x.graph.edges a.stored ∙ ap (λ n. n + 1) i.count;
-      rest = edges_alone c.args.graph.now c.loop-x.graph c.store_edge.new.graph i.rest c.store_edge.ensures.rest;
+      drawn = rw added (zip_next (IsStoredAs made) planned_edge_view c.args.planned_edges.now l.x-index x l.graph.edges stored c.loop-x-test.true c.x-item.is is l.invariant.drawn);
+      count = ap length added ∙ length_push l.graph.edges stored ∙ ap (λ n. n + 1) l.invariant.count;
+      rest = c.in-Ok.ensures.added ∙ search rules;
     }
 
-pub store_edge-requires-clause-stands : goal.store_edge-requires-clause-stands
-store_edge-requires-clause-stands g c =
+pub add_edge-requires-clause-source_stands : goal.add_edge-requires-clause-source_stands
+add_edge-requires-clause-source_stands g c =
     let here = seen_at (HasEnds (length c.args.graph.now.nodes)) planned_edge_view c.args.planned_edges.now c.loop-x.x-index c.x-item.result c.requires.stand c.loop-x-test.true c.x-item.is in
-    subst (λ ns. HasEnds (length ns) (planned_edge_view c.x-item.result)) (sym (ap (λ g. g.nodes) c.loop-x.invariant.rest)) here
+    subst (λ ns. c.x-item.result.source < length ns) (sym (ap (λ h. h.nodes) c.loop-x.invariant.rest)) here.0
+
+pub add_edge-requires-clause-target_stands : goal.add_edge-requires-clause-target_stands
+add_edge-requires-clause-target_stands g c =
+    let here = seen_at (HasEnds (length c.args.graph.now.nodes)) planned_edge_view c.args.planned_edges.now c.loop-x.x-index c.x-item.result c.requires.stand c.loop-x-test.true c.x-item.is in
+    subst (λ ns. c.x-item.result.target < length ns) (sym (ap (λ h. h.nodes) c.loop-x.invariant.rest)) here.1

@@ -1,7 +1,9 @@
-use Rattle.std.proofs.Common.{◌≡◌, map, take}
-use Rattle.krates_drawing.specs.Drawing.{mapping}
-use Rattle.krates_drawing.specs.Views.{crate_row_view, outline_view}
+use Rattle.std.proofs.Common.{◌≡◌, length, map, drop}
+use Rattle.krates_drawing.proofs.Mapped.{IsMappedAfter}
 use Rattle.krates_drawing.proofs.numbers.NumberedOutline.mappings.Given as goal
 
-abbrev pub invariant-loop-krate : goal.invariant-loop-krate
-invariant-loop-krate l = map (λ m. m.items) l.mappings.items ≡ map (mapping (outline_view l.self.outline.now)) (take l.krate (map crate_row_view l.self.outline.now.krates.items))
+abbrev pub invariant-loop-link : goal.invariant-loop-link
+invariant-loop-link l = record {
+  after : IsMappedAfter l.self.outline.now (drop l.link-index l.link-items) (map (λ m. m.items) l.mappings.items);
+  count : length l.mappings.items ≡ length l.self.outline.now.krates.items;
+}

@@ -1,9 +1,0 @@
-use Rattle.std.proofs.Common.{◌≡◌, ◌++◌, map, drop}
-use Rattle.std.specs.Prelude.{flat_map}
-use Rattle.krates_drawing.specs.Drawing.{uses}
-use Rattle.krates_drawing.specs.Views.{kids_in, edge_row_view, outline_view, planned_edge_view}
-use Rattle.krates_drawing.proofs.numbers.NumberedOutline.draw_kept.Given as goal
-
-abbrev pub invariant-loop-x : goal.invariant-loop-x
-invariant-loop-x l = map planned_edge_view l.out.items ++ flat_map (λ k. uses (outline_view l.self.outline.now) k k.given) (map (edge_row_view (kids_in l.self.outline.now)) (drop l.x-index l.links))
-    ≡ map planned_edge_view l.fn.out.items ++ flat_map (λ k. uses (outline_view l.self.outline.now) k k.given) (map (edge_row_view (kids_in l.self.outline.now)) l.links)

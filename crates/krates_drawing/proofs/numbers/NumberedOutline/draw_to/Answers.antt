@@ -1,9 +1,0 @@
-use Rattle.std.proofs.Common.{arith}
-use Rattle.std.proofs.lemmas.Grind.{common_steps}
-use Rattle.krates_drawing.proofs.numbers.NumberedOutline.draw_to.Goals as goal
-
-pub loop-x-preserved : goal.loop-x-preserved
-loop-x-preserved c = grind (arith, common_steps)
-
-pub returns : goal.returns
-returns c = grind (arith, common_steps)
