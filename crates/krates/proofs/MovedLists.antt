@@ -1,8 +1,14 @@
 -- Two matching lists, the first of which is permuted: the second can be permuted to match it.
-use Rattle.std.proofs.Common.{◌≡◌, ℕ, zero, suc, ◌<◌, List, [], ◌∷◌, length, get_or, IsPermutation, ap, arith, sym}
+use Rattle.std.proofs.Common.{◌≡◌, ℕ, zero, suc, ◌<◌, List, [], ◌∷◌, length, get_or, IsPermutation, ap, arith, refl}
 use Rattle.std.proofs.lemmas.List.Sorted.{IsPermutation-keeps, IsPermutation-refl, length_permutation as length_moved}
 use Rattle.std.specs.List.{AllZip, slice_set, swap}
-use Rattle.std.proofs.lemmas.List.Elements.{length_all_zip}
+
+-- matching lists are equally long
+pub zip_long : {A B : Type 0} (R : A → B → Type 0) (xs : List A) (us : List B) → AllZip R xs us → length us ≡ length xs
+zip_long R [] [] z = refl
+zip_long R [] (u ∷ us) z = absurd z
+zip_long R (x ∷ xs) [] z = absurd z
+zip_long R (x ∷ xs) (u ∷ us) z = ap suc (zip_long R xs us z.1)
 
 get_zip : {A B : Type 0} (R : A → B → Type 0) (xs : List A) (us : List B) (i : ℕ) (d : A) (e : B) → AllZip R xs us → i < length xs → R (get_or xs i d) (get_or us i e)
 get_zip R [] us i d e z lt = absurd (omega arith)
@@ -35,7 +41,7 @@ pub moved_zip : {A B : Type 0} (R : A → B → Type 0) (xs ys : List A) (us : L
 moved_zip {B = B} R xs ys us moved z =
     let start : MovedZip R xs us = record { list = us; zip = z; moved = IsPermutation-refl us } in
     IsPermutation-keeps xs (λ l. MovedZip R l us) start (λ l i j li lj w.
-    let long = sym (length_all_zip R l w.list w.zip) in
+    let long = zip_long R l w.list w.zip in
     let shorter : length w.list ≡ length us = length_moved us w.list w.moved in
     record {
       list = swap w.list i j;

@@ -30,8 +30,8 @@ use Rattle.krates.proofs.DrawnLemmas.{counted, graph_nodes}
 use Rattle.krates.proofs.BuildLemmas.{Builds}
 use Rattle.krates_rules.proofs.OrderedIds.{Compares}
 use Rattle.krates.proofs.MadeLemmas.{count_of}
+use Rattle.krates.proofs.MovedLists.{zip_long}
 use Rattle.krates_queries.proofs.NodeLemmas.{crates_within}
-use Rattle.std.proofs.lemmas.List.Elements.{length_all_zip}
 
 -- the limits of numbers
 abbrev pub numbers : Limits
@@ -74,7 +74,7 @@ below n m e le = omega (arith, e, le)
 pub numbered : {N E : Type 0} (made : Edge → E → Type 0) (t : Outline) (g : StoredGraph (Node N) E) → IsDrawing made t g → IsWithin numbers t → HasLimits numbers g → IsNumbered g
 numbered made t g d w limits = record {
   nodes = below (length g.nodes) (length (planned_nodes t)) (count_of planned_node g.nodes (planned_nodes t) d.nodes) w.nodes;
-  edges = below (length g.edges) (length (planned_edges t)) (sym (length_all_zip (IsStoredAs made) (planned_edges t) g.edges d.edges)) w.edges;
+  edges = below (length g.edges) (length (planned_edges t)) (zip_long (IsStoredAs made) (planned_edges t) g.edges d.edges) w.edges;
   node_limit = limits.nodes;
   edge_limit = limits.edges;
 }
