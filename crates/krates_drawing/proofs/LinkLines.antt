@@ -5,6 +5,7 @@ use Rattle.std.proofs.lemmas.List.{append-nil}
 use Rattle.std.proofs.lemmas.List.Elements.{All-cons}
 use Rattle.std.proofs.lemmas.List.Folds.{flat_map-map, list_any_none}
 use Rattle.std.specs.List.{flat_map, list_any, range_with_len}
+use Rattle.std.specs.Prelude.{Some, slice_get}
 use Rattle.krates_selection.specs.Selection.{HasEnds, id_at}
 use Rattle.krates_drawing.specs.Drawing.{PlannedEdge, crate_lines, leads, pair_lines, uses}
 use Rattle.krates_drawing.specs.LinesFrom.{toggle_lines}
@@ -104,16 +105,46 @@ not_between m n x l low next at = false_from_ne_true (has_ends m n l) (λ h.
           omega (arith, le, f, lt))
     ])
 
-module _ (t : Outline) (x : EdgeRow) (ls : List EdgeRow) (by : AreByEnds (x ∷ ls)) where
+module _ (x : EdgeRow) (ls : List EdgeRow) (by : AreByEnds (x ∷ ls)) where
   none_between : (m n : ℕ) → (m < x.edge.parent) ⊎ ((m ≡ x.edge.parent) × (n < x.edge.child)) → list_any (has_ends m n) (x ∷ ls) ≡ false
   none_between m n at =
       list_any_none (has_ends m n) (x ∷ ls) (All-cons (λ l. has_ends m n l ≡ false) x ls (not_between m n x x (omega arith) (λ e. omega arith) at) (λ k d lt.
       let w = precedes x.edge (get_or ls k d).edge (by 0 (suc k) d (omega arith) (omega (arith, lt))) in
       not_between m n x (get_or ls k d) w.parent w.child at))
 
+-- whether a later edge leads between the same crates, which the next one tells
+next_joins : (x y : EdgeRow) (ls : List EdgeRow) (b : Bool) → AreByEnds (x ∷ y ∷ ls) → has_ends x.edge.parent x.edge.child y ≡ b → list_any (has_ends x.edge.parent x.edge.child) (y ∷ ls) ≡ b
+next_joins x y ls true by e = ap (λ b. b || list_any (has_ends x.edge.parent x.edge.child) ls) e
+next_joins x y ls false by e =
+    let m = x.edge.parent in
+    let n = x.edge.child in
+    let w = precedes x.edge y.edge (by 0 1 x (omega arith) (omega arith)) in
+    let at : (m < y.edge.parent) ⊎ ((m ≡ y.edge.parent) × (n < y.edge.child)) = elim (cases_lt m y.edge.parent) [
+      | inl lt ↦ inl lt
+      | inr ge ↦ (
+          let same : m ≡ y.edge.parent = omega (arith, ge, w.parent) in
+          let le = w.child same in
+          elim (cases_lt n y.edge.child) [
+            | inl lt ↦ inr (same, lt)
+            | inr ge ↦ (
+                let alike : n ≡ y.edge.child = omega (arith, ge, le) in
+                let both : has_ends m n y ≡ true = ap (λ k. (y.edge.parent == k) && (y.edge.child == n)) same ∙ ap (λ k. (y.edge.parent == y.edge.parent) && (y.edge.child == k)) alike
+                ∙ ap (λ b. b && (y.edge.child == y.edge.child)) (equal_self y.edge.parent) ∙ equal_self y.edge.child in
+                cc (both, e))
+          ])
+    ] in
+    none_between y ls (λ i j d l lt. by (suc i) (suc j) d (omega (arith, l)) (omega (arith, lt))) m n at
+
+pub next_tells : (x y : EdgeRow) (ls : List EdgeRow) → AreByEnds (x ∷ ls) → Some y ≡ slice_get ls 0 → has_ends x.edge.parent x.edge.child y ≡ list_any (has_ends x.edge.parent x.edge.child) ls
+next_tells x y [] by e = cc e
+next_tells x y (z ∷ zs) by e =
+    let same : y ≡ z = cc e in
+    ap (has_ends x.edge.parent x.edge.child) same ∙ sym (next_joins x z zs _ by refl)
+
+module _ (t : Outline) (x : EdgeRow) (ls : List EdgeRow) (by : AreByEnds (x ∷ ls)) where
   no_lines_between : (m n : ℕ) → (m < x.edge.parent) ⊎ ((m ≡ x.edge.parent) × (n < x.edge.child)) → (lines_of t (x ∷ ls) m n ≡ []) × (lines_of t ls m n ≡ [])
   no_lines_between m n at =
-      let none = none_between m n at in
+      let none = none_between x ls by m n at in
       (no_lines_of t (x ∷ ls) m n none, no_lines_of t ls m n (or_second (has_ends m n x) (list_any (has_ends m n) ls) none))
 
   -- with the test's answer at the edge

@@ -1,5 +1,5 @@
 //! The edges of an outline's graph, drawn: those from crates, and then those from features.
-ghost use Rattle.std.specs.Prelude.{◌≡◌, ◌<◌, IfOk, MatchOption, false, filter, flat_map, length, map, OnOk};
+ghost use Rattle.std.specs.Prelude.{◌≡◌, ◌<◌, ◌∷◌, IfOk, MatchOption, false, filter, flat_map, length, map, OnOk};
 ghost use Rattle.std.specs.List.{list_any};
 ghost use Rattle.krates_selection.specs.Selection.{HasEnds, HasHome, id_at};
 ghost use Rattle.krates_rules.specs.Resolved.{id_of};
@@ -42,6 +42,17 @@ fn has_link(links: &[EdgeRow], parent: usize, child: usize) -> bool
     links
         .binary_search_by(|link| (link.edge.parent, link.edge.child).cmp(&ends))
         .is_ok()
+}
+
+/// Whether one of the edges behind this one joins the same two crates: the next of them tells, since they stand by their crates.
+fn joins_again(link: &EdgeRow, later: &[EdgeRow]) -> bool
+    requires { AreByEnds (link.now ∷ later.now) }
+    ensures { result ≡ list_any (has_ends link.now.edge.parent link.now.edge.child) later.now }
+{
+    let Some(next) = later.first() else {
+        return false;
+    };
+    next.edge.parent == link.edge.parent && next.edge.child == link.edge.child
 }
 
 /// The number of the crate with this id, where a kept edge leads to it from the parent.
@@ -127,7 +138,7 @@ impl NumberedOutline<'_> {
         for (place, x) in self.outline.links.iter().enumerate() {
             self.draw_uses(x, out)?;
             let (_, later) = self.outline.links.split_at(place + 1);
-            if !has_link(later, x.edge.parent, x.edge.child) {
+            if !joins_again(x, later) {
                 self.draw_toggled(x.edge.parent, x.edge.child, out)?;
             }
         }

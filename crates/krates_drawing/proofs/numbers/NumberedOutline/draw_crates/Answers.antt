@@ -9,12 +9,18 @@ use Rattle.krates_drawing.specs.declared.outline.EdgeRow.{EdgeRow}
 use Rattle.krates_drawing.proofs.LinkLines.{all_links, drawn_on, first_link, given_by, lines_of_links, no_lines, toggled_after}
 use Rattle.krates_drawing.proofs.Tests.{links_behind}
 use Rattle.krates_drawing.proofs.numbers.NumberedOutline.draw_crates.Goals as goal
-use Rattle.krates_drawing.proofs.numbers.NumberedOutline.draw_crates.Goals.{then-not-has_link+in_ok-draw_toggled, else-not-has_link}
+use Rattle.krates_drawing.proofs.numbers.NumberedOutline.draw_crates.Goals.{then-not-joins_again+in_ok-draw_toggled, else-not-joins_again}
 
-pub has_link-requires : goal.has_link-requires
-has_link-requires c =
+pub joins_again-requires : goal.joins_again-requires
+joins_again-requires c =
     let t = c.args.self.now.outline.now in
-    subst AreByEnds (sym (c.split_at.ensures.back ∙ ap (drop (c.loop-place.place + 1)) c.deref.ensures.value)) (links_behind t.links.items (c.loop-place.place + 1) t.ordered.links)
+    let i = c.loop-place.place in
+    let x = c.x-item.result in
+    let xs = t.links.items in
+    let is : x ≡ get_or xs i x = c.x-item.is ∙ ap (λ l. get_or l i x) c.deref-x-items.ensures.value in
+    let lt : i < length xs = subst (λ (l : List EdgeRow). i < length l) c.deref-x-items.ensures.value c.loop-place-test.true in
+    let rest = c.split_at.ensures.back ∙ ap (drop (i + 1)) c.deref.ensures.value in
+    subst AreByEnds (drop_more xs i x lt ∙ ap (λ z. z ∷ drop (i + 1) xs) (sym is) ∙ ap (λ ls. x ∷ ls) (sym rest)) (links_behind xs i t.ordered.links)
 
 pub loop-place-preserved : goal.loop-place-preserved
 loop-place-preserved c =
@@ -28,17 +34,17 @@ loop-place-preserved c =
     let eq : drop i xs ≡ x ∷ rest = drop_more xs i x lt ∙ ap (λ z. z ∷ rest) (sym is) in
     let ends = subst (λ (k : EdgeRow). HasEnds (length t.krates.items) k.edge) (sym is) (t.ordered.ends i x lt) in
     let first = first_link t x rest (subst AreByEnds eq (links_behind xs i t.ordered.links)) ends in
-    let later : c.has_link.result ≡ list_any (has_ends x.edge.parent x.edge.child) rest = c.has_link.ensures ∙ ap (list_any (has_ends x.edge.parent x.edge.child)) (c.split_at.ensures.back ∙ ap (drop (i + 1)) c.deref.ensures.value) in
+    let later : c.joins_again.result ≡ list_any (has_ends x.edge.parent x.edge.child) rest = c.joins_again.ensures ∙ ap (list_any (has_ends x.edge.parent x.edge.child)) (c.split_at.ensures.back ∙ ap (drop (i + 1)) c.deref.ensures.value) in
     let seen = map planned_edge_view in
     let old = seen c.loop-place.out.items in
     let one = seen c.draw_uses.new.out.items in
-    let whole : (b : Bool) → c.has_link.result ≡ b → old ++ ((given_by t x ++ toggled_after t x b) ++ lines_of_links t rest) ≡ seen c.args.out.now.items ++ lines_of_links t xs = λ b e.
+    let whole : (b : Bool) → c.joins_again.result ≡ b → old ++ ((given_by t x ++ toggled_after t x b) ++ lines_of_links t rest) ≡ seen c.args.out.now.items ++ lines_of_links t xs = λ b e.
     ap (λ z. old ++ ((given_by t x ++ toggled_after t x z) ++ lines_of_links t rest)) (sym e ∙ later) ∙ ap (λ l. old ++ l) (sym (ap (lines_of_links t) eq ∙ first)) ∙ c.loop-place.invariant in
-    elim c.if-not-has_link.branch [
-      | then-not-has_link+in_ok-draw_toggled w ↦ drawn_on old one (seen c.if-not-has_link.out.items) (given_by t x) (toggle_lines (outline_view t) (id_at (kids_in t) x.edge.parent) (id_at (kids_in t) x.edge.child)) (lines_of_links t rest) _
-          c.in_ok-draw_uses.ensures (ap (λ v. seen v.items) w.out-is ∙ w.in_ok-draw_toggled.ensures) (whole false w.if-not-has_link.true)
-      | else-not-has_link w ↦ drawn_on old one (seen c.if-not-has_link.out.items) (given_by t x) [] (lines_of_links t rest) _
-          c.in_ok-draw_uses.ensures (ap (λ v. seen v.items) w.out-is ∙ sym (append-nil one)) (whole true w.if-not-has_link.false)
+    elim c.if-not-joins_again.branch [
+      | then-not-joins_again+in_ok-draw_toggled w ↦ drawn_on old one (seen c.if-not-joins_again.out.items) (given_by t x) (toggle_lines (outline_view t) (id_at (kids_in t) x.edge.parent) (id_at (kids_in t) x.edge.child)) (lines_of_links t rest) _
+          c.in_ok-draw_uses.ensures (ap (λ v. seen v.items) w.out-is ∙ w.in_ok-draw_toggled.ensures) (whole false w.if-not-joins_again.true)
+      | else-not-joins_again w ↦ drawn_on old one (seen c.if-not-joins_again.out.items) (given_by t x) [] (lines_of_links t rest) _
+          c.in_ok-draw_uses.ensures (ap (λ v. seen v.items) w.out-is ∙ sym (append-nil one)) (whole true w.if-not-joins_again.false)
     ]
 
 pub returns : goal.returns
