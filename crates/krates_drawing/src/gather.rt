@@ -38,6 +38,15 @@ struct CrateRecord<'a> {
     node: &'a Node,
 }
 
+impl CrateRecord<'_> {
+    /// How many dependencies the package declares.
+    fn declared(&self) -> usize
+        ensures { result ≡ length (package_view self.now.pkg.now).dependencies }
+    {
+        self.pkg.dependencies.len()
+    }
+}
+
 /// These crates, each with what the document has for it. Time: O(k log n) for k crates, and n in the document.
 fn records_of<'a>(
     alloc: Global,
@@ -226,13 +235,6 @@ fn feature_rows(
     Ok(rows)
 }
 
-/// How many dependencies the package of a crate declares.
-fn count_of(record: &CrateRecord<'_>) -> usize
-    ensures { result ≡ length (package_view record.now.pkg.now).dependencies }
-{
-    record.pkg.dependencies.len()
-}
-
 /// The crates, each with how many dependencies its package declares.
 fn crate_rows(alloc: Global, records: Vec<CrateRecord<'_>>) -> Result<Vec<CrateRow>, AllocError>
     ensures { IfOk result (λ rows. rows.items ≡ map row_in records.entry.items) }
@@ -240,7 +242,7 @@ fn crate_rows(alloc: Global, records: Vec<CrateRecord<'_>>) -> Result<Vec<CrateR
     records
         .into_iter()
         .map(|record| CrateRow {
-            declared: count_of(&record),
+            declared: record.declared(),
             id: record.krate,
         })
         .collect(alloc)
