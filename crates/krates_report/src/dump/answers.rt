@@ -1,7 +1,6 @@
 //! What the queries of a graph answer, a line for each item, with what was asked before it: of the whole graph, and of each node.
 
-use crate::dump::drawing::{push_edge, push_node};
-use crate::dump::lines::push_line;
+use crate::dump::drawing::{push_edge, push_line, push_node};
 use crate::dump::lookups::{push_features, push_ids, push_names};
 use krates::{DepKind, Krates, NodeId, PackageId};
 use std::alloc::{AllocError, Global};
@@ -43,12 +42,8 @@ fn push_deps(lines: &mut String, krates: &Krates, node: NodeId) -> Result<(), Al
 fn push_above(lines: &mut String, krates: &Krates, node: NodeId) -> Result<(), AllocError> {
     let number = node.index();
     for found in &krates.all_dependents(node)? {
-        push_line(
-            lines,
-            "above",
-            &[number, found.node_id.index()],
-            &found.krate.id,
-        )?;
+        let numbers = [number, found.node_id.index()];
+        push_line(lines, "above", &numbers, &found.krate.id)?;
     }
     if krates.reaches(NodeId::new(0), node)? {
         writeln!(lines, "reached {number}")?;
@@ -56,19 +51,16 @@ fn push_above(lines: &mut String, krates: &Krates, node: NodeId) -> Result<(), A
     Ok(())
 }
 
-/// How many places are asked of a crate: all that a dependency is declared at, and one more.
-fn places_of(krates: &Krates, number: usize) -> usize {
-    if number < krates.len() {
-        krates[number].dependencies.len().saturating_add(1)
-    } else {
-        1
-    }
-}
-
-/// Adds `resolved N PLACE ID` for each place of a node whose declared dependency means a crate.
+/// Adds `resolved N PLACE ID` for each place of a node whose declared dependency means a crate. Of a crate are asked all places that a
+/// dependency is declared at, and one more.
 fn push_resolved(lines: &mut String, krates: &Krates, node: NodeId) -> Result<(), AllocError> {
     let number = node.index();
-    for place in 0..places_of(krates, number) {
+    let declared = if number < krates.len() {
+        krates[number].dependencies.len()
+    } else {
+        0
+    };
+    for place in 0..=declared {
         if let Some(krate) = krates.resolved_dependency(node, place) {
             push_line(lines, "resolved", &[number, place], &krate.id)?;
         }
