@@ -3,7 +3,6 @@
 
 mod answers;
 mod drawing;
-mod lookups;
 
 pub(crate) use answers::push_answers;
 pub(crate) use drawing::push_graph;

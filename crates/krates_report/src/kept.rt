@@ -5,7 +5,7 @@ use crate::json::{InJson, JsonObject, Values, list_json};
 use crate::shown::Shown;
 use krates::Krates;
 use krates_answers::crate_uses::{Builds, Use, UsedKrate};
-use krates_answers::licences::{Licence, licences};
+use krates_answers::licences::Licence;
 use serde_json::Value;
 use std::alloc::{AllocError, Global};
 
@@ -106,21 +106,6 @@ impl Shown for UsedKrates<'_> {
     }
 }
 
-/// The kept crates by licence.
-#[derive(Drop)]
-pub struct Licences<'a> {
-    /// Each licence, in the order of the texts.
-    pub licences: Vec<Licence<'a>>,
-}
-
-impl<'a> Licences<'a> {
-    /// Those of a graph.
-    pub(crate) fn of(alloc: Global, krates: &'a Krates) -> Result<Licences<'a>, AllocError> {
-        let licences = licences(alloc, krates)?;
-        Ok(Licences { licences })
-    }
-}
-
 /// Adds a licence, and below it its crates.
 fn push_licence(licence: &Licence<'_>, lines: &mut String) -> Result<(), AllocError> {
     let text = if licence.text.is_empty() {
@@ -150,11 +135,12 @@ impl InJson for Licence<'_> {
     }
 }
 
-impl Shown for Licences<'_> {
+/// The kept crates by licence, in the order of the texts.
+impl Shown for Vec<Licence<'_>> {
     /// Each licence with the number of its crates, and below it the crates, first those without one.
     fn text(&self, alloc: Global) -> Result<String, AllocError> {
         let mut lines = String::new(alloc);
-        for licence in &self.licences {
+        for licence in self {
             push_licence(licence, &mut lines)?;
         }
         Ok(lines)
@@ -162,6 +148,6 @@ impl Shown for Licences<'_> {
 
     /// A list of objects with `licence`, which is null where there is none, and `crates`.
     fn json(&self, alloc: Global) -> Result<Value, AllocError> {
-        list_json(alloc, &self.licences)
+        list_json(alloc, self)
     }
 }

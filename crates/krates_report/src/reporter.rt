@@ -6,7 +6,7 @@ use crate::difference::Difference;
 use crate::dump::{push_answers, push_graph};
 use crate::duplicates::Duplicates;
 use crate::error::ReportError;
-use crate::kept::{Licences, List, UsedKrates};
+use crate::kept::{List, UsedKrates};
 use crate::shown::{Shown, pretty, printed};
 use crate::tree::Tree;
 use crate::why::{Certainty, ExplainedFeatures, Why};
@@ -15,6 +15,7 @@ use krates::resolve::Setting;
 use krates::{Builder, Kid, Krates, Metadata, Node, NodeId, OnFilter, Package, PackageId};
 use krates_answers::crate_uses::Builds;
 use krates_answers::direct_links::DirectLinks;
+use krates_answers::licences::licences;
 use krates_answers::naming::{Meant, Packages};
 use krates_answers::unreachable::is_unreachable;
 use krates_certificate::{Certificate, CertificatePart};
@@ -254,7 +255,7 @@ impl Reporter<'_> {
                 has_ids: *ids,
             })),
             Word::Duplicates => self.shown(Duplicates::of(self.alloc, krates)),
-            Word::Licences => self.shown(Licences::of(self.alloc, krates)),
+            Word::Licences => self.shown(licences(self.alloc, krates)),
             // the word `graph`
             _ => {
                 let mut lines = String::new(self.alloc);
@@ -284,7 +285,7 @@ impl Reporter<'_> {
                 let text = pretty(self.alloc, certificate.to_value(self.alloc))?;
                 Ok(Report::yes(text))
             }
-            // the only other word that comes here is one that lacks its second document
+            // no other word comes here
             _ => Err(ReportError::NoOther),
         }
     }
@@ -352,13 +353,15 @@ impl Reporter<'_> {
         };
         let facts = divided.krates.facts()?;
         let is_unreachable = self.is_unreachable(metadata, &facts, package)?;
-        let mut answer = self.shown(Ok(Certainty {
+        let answer = Certainty {
             package,
             is_unreachable,
             facts: facts.len(),
-        }))?;
-        answer.is_yes = is_unreachable;
-        Ok(answer)
+        };
+        Ok(Report {
+            text: printed(self.alloc, &answer, self.asked.is_json)?,
+            is_yes: is_unreachable,
+        })
     }
 
     /// Whether it is certain, by these facts, that a package isn't reached.

@@ -58,11 +58,6 @@ impl<'a> Tree<'a> {
         fit(goes_on, line.depth)?;
         push_branches(goes_on, is_last, lines)?;
         goes_on.push(!is_last)?;
-        self.push_line(line, lines)
-    }
-
-    /// Adds a line, without what is drawn before it.
-    fn push_line(&self, line: &TreeLine, lines: &mut String) -> Result<(), AllocError> {
         if line.krate.index() >= self.krates.len() {
             return Ok(());
         }
