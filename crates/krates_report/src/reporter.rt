@@ -205,19 +205,15 @@ impl Reporter<'_> {
 
     /// What the graph of each of two documents has alone.
     fn difference(&self, first: Metadata, second: Metadata) -> Result<Report, ReportError> {
-        match self.built(first) {
-            Ok(first) => self.difference_from(&first, second),
+        let first = match self.built(first) {
+            Ok(first) => first,
             Err(refusal) => {
                 second.let_go();
-                Err(refusal)
+                return Err(refusal);
             }
-        }
-    }
-
-    /// What the graph of a document and another graph have alone.
-    fn difference_from(&self, first: &Krates, second: Metadata) -> Result<Report, ReportError> {
+        };
         let second = self.built(second)?;
-        self.shown(Difference::between(self.alloc, first, &second))
+        self.shown(Difference::between(self.alloc, &first, &second))
     }
 
     /// What each query answers.
