@@ -80,8 +80,7 @@ SHOWN_BY = {
     "Reporter::answer": (
         "fitting duplicates lacking lost_dependencies materials is_unreachable DirectLinks::dependents DirectLinks::dependencies"
         " DirectLinks::of DirectLinks::leads DirectLinks::tree Builds::use_of Builds::uses Packages::one Packages::any Bill::of"
-        " Changed::between Difference::between Duplicates::of licences Tree::of_dependencies Tree::of_dependents"
-        " ExplainedFeatures::of"
+        " Changed::between Difference::between Duplicates::of licences Tree::of ExplainedFeatures::of"
     ).split(),
 }
 

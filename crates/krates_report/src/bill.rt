@@ -1,11 +1,10 @@
 //! The bill of materials as CycloneDX 1.5 (ECMA-424; <https://cyclonedx.org/docs/1.5/json/>).
 
-use crate::crate_name::{directory_of, url_of};
-use crate::json::{JsonObject, Values, list_of, string};
-use crate::krate_json::ids_json;
+use crate::crate_name::{directory_of, has_target, url_of};
+use crate::json::{JsonObject, Values, ids_json, string};
 use crate::shown::{Shown, pretty};
 use krates::Package;
-use krates::cm::{Source, SourceKind, Target, TargetKind};
+use krates::cm::{Source, SourceKind, TargetKind};
 use krates_answers::crate_uses::{Builds, Use};
 use krates_answers::materials::{Material, materials};
 use percent_encoding::{AsciiSet, NON_ALPHANUMERIC, utf8_percent_encode};
@@ -83,23 +82,10 @@ fn package_url(alloc: Global, krate: &Package) -> Result<String, AllocError> {
     Ok(url)
 }
 
-/// Whether one of these is a program.
-fn has_program(targets: &[Target]) -> bool {
-    targets
-        .iter()
-        .any(|target| target.kind.contains(&TargetKind::Bin))
-}
-
-/// Whether one of these is a library.
-fn has_library(targets: &[Target]) -> bool {
-    targets.iter().any(|target| {
-        target.kind.contains(&TargetKind::Lib) || target.kind.contains(&TargetKind::ProcMacro)
-    })
-}
-
-/// What a crate is: a program alone is an application.
+/// What a crate is: a program alone, without a library, is an application.
 fn type_of(krate: &Package) -> &'static str {
-    if has_program(&krate.targets) && !has_library(&krate.targets) {
+    let is_library = has_target(krate, TargetKind::Lib) || has_target(krate, TargetKind::ProcMacro);
+    if has_target(krate, TargetKind::Bin) && !is_library {
         "application"
     } else {
         "library"
@@ -110,34 +96,27 @@ fn type_of(krate: &Package) -> &'static str {
 fn scope_of(usage: Use) -> &'static str {
     match usage {
         Use::Shipped => "required",
-        Use::Build => "excluded",
-        Use::Dev => "excluded",
+        Use::Build | Use::Dev => "excluded",
     }
 }
 
-/// The list of a licence that is an expression, in which an old `/` means `OR` (Cargo Book, "The license and license-file fields").
-fn expression_json(alloc: Global, expression: &str) -> Result<Value, AllocError> {
-    let expression = string(expression.replace(alloc, "/", " OR "));
-    let licence = JsonObject::new(alloc).put("expression", expression);
-    list_of(alloc, licence.object())
-}
-
-/// The list of a licence that is a file.
-fn licence_file_json(alloc: Global, file: &str) -> Result<Value, AllocError> {
-    let name = JsonObject::new(alloc).text("name", file);
-    let licence = JsonObject::new(alloc).put("license", name.object());
-    list_of(alloc, licence.object())
-}
-
-/// These members with the licences of a crate: its expression, or else its file.
+/// These members with the licences of a crate: a list of its expression, in which an old `/` means `OR` (Cargo Book, "The license and
+/// license-file fields"), or else of its file.
 fn with_licences(alloc: Global, krate: &Package, members: JsonObject) -> JsonObject {
-    match (&krate.license, &krate.license_file) {
+    let licence = match (&krate.license, &krate.license_file) {
         (Some(expression), _) => {
-            members.put("licenses", expression_json(alloc, expression.as_str()))
+            let expression = expression.as_str().replace(alloc, "/", " OR ");
+            JsonObject::new(alloc).put("expression", string(expression))
         }
-        (None, Some(file)) => members.put("licenses", licence_file_json(alloc, file.as_str())),
-        (None, None) => members,
-    }
+        (None, Some(file)) => {
+            let name = JsonObject::new(alloc).text("name", file.as_str());
+            JsonObject::new(alloc).put("license", name.object())
+        }
+        (None, None) => return members,
+    };
+    let mut licences = Values::new(alloc);
+    licences.add(licence.object());
+    members.put("licenses", licences.list())
 }
 
 impl Bill<'_> {
@@ -155,15 +134,6 @@ impl Bill<'_> {
         with_licences(alloc, krate, members).object()
     }
 
-    /// The kept crates.
-    fn components(&self, alloc: Global) -> Result<Value, AllocError> {
-        let mut components = Values::new(alloc);
-        for material in &self.materials {
-            components.add(self.component(alloc, material));
-        }
-        components.list()
-    }
-
     /// A crate with those on which it depends directly.
     fn dependency(&self, alloc: Global, material: &Material<'_>) -> Result<Value, AllocError> {
         let needed = &material.depends_on;
@@ -171,15 +141,6 @@ impl Bill<'_> {
             .text("ref", material.krate.krate.id.repr.as_str())
             .put("dependsOn", ids_json(alloc, &self.builds.all, needed))
             .object()
-    }
-
-    /// Each kept crate with those on which it depends directly.
-    fn dependencies(&self, alloc: Global) -> Result<Value, AllocError> {
-        let mut dependencies = Values::new(alloc);
-        for material in &self.materials {
-            dependencies.add(self.dependency(alloc, material));
-        }
-        dependencies.list()
     }
 }
 
@@ -192,13 +153,19 @@ impl Shown for Bill<'_> {
     /// `components`, the kept crates, and `dependencies`, with an entry for each of them. There is no time and no serial number in it, so
     /// that the same document gives the same bytes.
     fn json(&self, alloc: Global) -> Result<Value, AllocError> {
+        let mut components = Values::new(alloc);
+        let mut dependencies = Values::new(alloc);
+        for material in &self.materials {
+            components.add(self.component(alloc, material));
+            dependencies.add(self.dependency(alloc, material));
+        }
         JsonObject::new(alloc)
             .text("$schema", "http://cyclonedx.org/schema/bom-1.5.schema.json")
             .text("bomFormat", "CycloneDX")
             .text("specVersion", "1.5")
             .put("version", Ok(Value::from(1u64)))
-            .put("components", self.components(alloc))
-            .put("dependencies", self.dependencies(alloc))
+            .put("components", components.list())
+            .put("dependencies", dependencies.list())
             .object()
     }
 }

@@ -1,6 +1,6 @@
 //! How a crate is named for people.
 
-use krates::cm::{Source, SourceKind, Target, TargetKind};
+use krates::cm::{Source, SourceKind, TargetKind};
 use krates::path::parent;
 use krates::{Kid, Package};
 use std::fmt;
@@ -14,7 +14,7 @@ impl fmt::Display for ShortName<'_> {
     fn fmt<W: fmt::Write>(&self, f: &mut fmt::Formatter<W>) -> fmt::Result {
         let krate = self.0;
         write!(f, "{} v{}", krate.name, krate.version)?;
-        if is_proc_macro(&krate.targets) {
+        if has_target(krate, TargetKind::ProcMacro) {
             f.write_str(" (proc-macro)")?;
         }
         match place_of(krate) {
@@ -34,19 +34,17 @@ impl fmt::Display for ShortId<'_> {
     }
 }
 
-/// Whether one of these is a library of procedural macros.
-fn is_proc_macro(targets: &[Target]) -> bool {
-    targets
+/// Whether a target of a package is of this kind.
+pub(crate) fn has_target(krate: &Package, kind: TargetKind) -> bool {
+    krate
+        .targets
         .iter()
-        .any(|target| target.kind.contains(&TargetKind::ProcMacro))
+        .any(|target| target.kind.contains(&kind))
 }
 
 /// The directory of a package of this machine.
 pub(crate) fn directory_of(krate: &Package) -> &str {
-    match parent(krate.manifest_path.as_str()) {
-        Some(directory) => directory,
-        None => ".",
-    }
+    parent(krate.manifest_path.as_str()).unwrap_or(".")
 }
 
 /// Where a package is that isn't from a registry.

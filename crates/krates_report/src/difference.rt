@@ -1,8 +1,7 @@
 //! The difference of two graphs as it is shown.
 
 use crate::crate_name::{ShortId, ShortName};
-use crate::json::{JsonObject, Values, string};
-use crate::krate_json::krates_json;
+use crate::json::{InJson, JsonObject, list_json};
 use crate::shown::Shown;
 use krates::semver::Version;
 use krates::{KrateMatch, Krates, Package};
@@ -67,22 +66,15 @@ fn push_changed(changed: &Changed<'_>, lines: &mut String) -> Result<(), AllocEr
     lines.push_str("\n")
 }
 
-/// The texts of versions.
-fn versions_json(alloc: Global, versions: &[&Version]) -> Result<Value, AllocError> {
-    let mut values = Values::new(alloc);
-    for version in versions {
-        values.add(string(version.to_string(alloc)));
+impl InJson for Changed<'_> {
+    /// `name` and the versions `from` and `to`.
+    fn json(&self, alloc: Global) -> Result<Value, AllocError> {
+        JsonObject::new(alloc)
+            .text("name", self.name)
+            .put("from", list_json(alloc, &self.from))
+            .put("to", list_json(alloc, &self.to))
+            .object()
     }
-    values.list()
-}
-
-/// What JSON says about a name whose versions changed.
-fn changed_json(alloc: Global, changed: &Changed<'_>) -> Result<Value, AllocError> {
-    JsonObject::new(alloc)
-        .text("name", changed.name)
-        .put("from", versions_json(alloc, &changed.from))
-        .put("to", versions_json(alloc, &changed.to))
-        .object()
 }
 
 /// Adds a line for each crate.
@@ -110,34 +102,13 @@ fn push_dependencies(
     Ok(())
 }
 
-/// What JSON says of a dependency: the ids of both crates.
-fn dependency_json(alloc: Global, dependency: &DependencyEdge<'_>) -> Result<Value, AllocError> {
-    JsonObject::new(alloc)
-        .text("from", dependency.parent.krate.id.repr.as_str())
-        .text("to", dependency.child.krate.id.repr.as_str())
-        .object()
-}
-
-/// That of each of these.
-fn dependencies_json(
-    alloc: Global,
-    dependencies: &[DependencyEdge<'_>],
-) -> Result<Value, AllocError> {
-    let mut values = Values::new(alloc);
-    for dependency in dependencies {
-        values.add(dependency_json(alloc, dependency));
-    }
-    values.list()
-}
-
-impl Difference<'_> {
-    /// The names whose versions changed.
-    fn changed_json(&self, alloc: Global) -> Result<Value, AllocError> {
-        let mut values = Values::new(alloc);
-        for changed in &self.changed {
-            values.add(changed_json(alloc, changed));
-        }
-        values.list()
+impl InJson for DependencyEdge<'_> {
+    /// The ids `from` and `to` of both crates.
+    fn json(&self, alloc: Global) -> Result<Value, AllocError> {
+        JsonObject::new(alloc)
+            .text("from", self.parent.krate.id.repr.as_str())
+            .text("to", self.child.krate.id.repr.as_str())
+            .object()
     }
 }
 
@@ -159,14 +130,14 @@ impl Shown for Difference<'_> {
     /// An object: `changed`, with `name` and the versions `from` and `to`; the crates `removed` and `added`; and `removed_dependencies`
     /// and `added_dependencies`, each with the ids `from` and `to`.
     fn json(&self, alloc: Global) -> Result<Value, AllocError> {
-        let lost = &self.removed_dependencies;
-        let won = &self.added_dependencies;
+        let lost = list_json(alloc, &self.removed_dependencies);
+        let won = list_json(alloc, &self.added_dependencies);
         JsonObject::new(alloc)
-            .put("changed", self.changed_json(alloc))
-            .put("removed", krates_json(alloc, &self.removed))
-            .put("added", krates_json(alloc, &self.added))
-            .put("removed_dependencies", dependencies_json(alloc, lost))
-            .put("added_dependencies", dependencies_json(alloc, won))
+            .put("changed", list_json(alloc, &self.changed))
+            .put("removed", list_json(alloc, &self.removed))
+            .put("added", list_json(alloc, &self.added))
+            .put("removed_dependencies", lost)
+            .put("added_dependencies", won)
             .object()
     }
 }

@@ -3,8 +3,6 @@
 
 mod answers;
 mod drawing;
-mod lines;
-mod lookups;
 
 pub(crate) use answers::push_answers;
 pub(crate) use drawing::push_graph;

@@ -1,8 +1,7 @@
 //! Duplicate versions as they are shown.
 
 use crate::crate_name::ShortName;
-use crate::json::{JsonObject, Values};
-use crate::krate_json::{ids_json, krate_json};
+use crate::json::{InJson, JsonObject, Values, ids_json};
 use crate::shown::Shown;
 use krates::{KrateMatch, Krates, NodeId, Package};
 use krates_answers::direct_links::DirectLinks;
@@ -67,25 +66,20 @@ impl<'a> Duplicates<'a> {
     ) -> Result<Value, AllocError> {
         let dependents = self.dependents_of(krate);
         JsonObject::new(alloc)
-            .put("crate", krate_json(alloc, krate.krate))
+            .put("crate", krate.json(alloc))
             .put("dependents", ids_json(alloc, self.krates, dependents))
             .object()
     }
 
-    /// What JSON says of the crates of a name.
-    fn krates_json(&self, alloc: Global, name: &Duplicate<'_>) -> Result<Value, AllocError> {
-        let mut values = Values::new(alloc);
-        for krate in &name.krates {
-            values.add(self.krate_json(alloc, krate));
-        }
-        values.list()
-    }
-
     /// What JSON says of a name.
     fn name_json(&self, alloc: Global, name: &Duplicate<'_>) -> Result<Value, AllocError> {
+        let mut krates = Values::new(alloc);
+        for krate in &name.krates {
+            krates.add(self.krate_json(alloc, krate));
+        }
         JsonObject::new(alloc)
             .text("name", name.name)
-            .put("crates", self.krates_json(alloc, name))
+            .put("crates", krates.list())
             .object()
     }
 }

@@ -1,10 +1,82 @@
-//! JSON objects and lists, value by value.
+//! JSON objects and lists, value by value, and what JSON says of crates.
 //!
 //! That memory ran out for a value is reported when the object or the list is finished, not at each value, so a long object can be built
 //! without an exit for each key.
 
+use krates::semver::Version;
+use krates::{KrateMatch, Krates, NodeId, Package};
 use serde_json::{Map, Value, push, put};
 use std::alloc::{AllocError, Global};
+
+/// A part of an answer that JSON shows as one value. The only error is running out of memory.
+pub(crate) trait InJson {
+    /// The value.
+    fn json(&self, alloc: Global) -> Result<Value, AllocError>;
+}
+
+/// The list of the values of these.
+pub(crate) fn list_json<T: InJson>(alloc: Global, items: &[T]) -> Result<Value, AllocError> {
+    let mut values = Values::new(alloc);
+    for item in items {
+        values.add(item.json(alloc));
+    }
+    values.list()
+}
+
+impl InJson for Package {
+    /// `id`, `name`, `version` and `source`; the source is null where the package is of this machine.
+    fn json(&self, alloc: Global) -> Result<Value, AllocError> {
+        let source = match &self.source {
+            Some(source) => Value::try_from_str(alloc, source.repr.as_str()),
+            None => Ok(Value::Null),
+        };
+        JsonObject::new(alloc)
+            .text("id", self.id.repr.as_str())
+            .text("name", self.name.as_str())
+            .put("version", string(self.version.to_string(alloc)))
+            .put("source", source)
+            .object()
+    }
+}
+
+impl InJson for KrateMatch<'_, Package> {
+    fn json(&self, alloc: Global) -> Result<Value, AllocError> {
+        self.krate.json(alloc)
+    }
+}
+
+impl InJson for &Version {
+    fn json(&self, alloc: Global) -> Result<Value, AllocError> {
+        string(self.to_string(alloc))
+    }
+}
+
+impl InJson for usize {
+    fn json(&self, _alloc: Global) -> Result<Value, AllocError> {
+        Ok(Value::from(*self as u64))
+    }
+}
+
+/// The ids of the crates with these numbers.
+pub(crate) fn ids_json(
+    alloc: Global,
+    krates: &Krates,
+    numbers: &[NodeId],
+) -> Result<Value, AllocError> {
+    let mut values = Values::new(alloc);
+    for number in numbers {
+        if number.index() < krates.len() {
+            let id = krates[*number].id.repr.as_str();
+            values.add(Value::try_from_str(alloc, id));
+        }
+    }
+    values.list()
+}
+
+/// A text as a value.
+pub(crate) fn string(text: Result<String, AllocError>) -> Result<Value, AllocError> {
+    Ok(Value::String(text?))
+}
 
 /// The members of an object that is being made.
 #[derive(Drop)]
@@ -27,7 +99,11 @@ impl JsonObject {
 
     /// These, and a value.
     pub(crate) fn put(mut self, key: &'static str, value: Result<Value, AllocError>) -> JsonObject {
-        self.is_whole = self.has_put(key, value) && self.is_whole;
+        let is_put = match value {
+            Ok(value) => put(&mut self.members, self.alloc, key, value).is_ok(),
+            Err(AllocError) => false,
+        };
+        self.is_whole = is_put && self.is_whole;
         self
     }
 
@@ -35,14 +111,6 @@ impl JsonObject {
     pub(crate) fn text(self, key: &'static str, text: &str) -> JsonObject {
         let value = Value::try_from_str(self.alloc, text);
         self.put(key, value)
-    }
-
-    /// Adds a value, and returns whether there was memory for it.
-    fn has_put(&mut self, key: &'static str, value: Result<Value, AllocError>) -> bool {
-        match value {
-            Ok(value) => put(&mut self.members, self.alloc, key, value).is_ok(),
-            Err(AllocError) => false,
-        }
     }
 
     /// The object of these members.
@@ -74,15 +142,11 @@ impl Values {
 
     /// Adds a value.
     pub(crate) fn add(&mut self, value: Result<Value, AllocError>) {
-        self.is_whole = self.has_added(value) && self.is_whole;
-    }
-
-    /// Adds a value, and returns whether there was memory for it.
-    fn has_added(&mut self, value: Result<Value, AllocError>) -> bool {
-        match value {
+        let is_added = match value {
             Ok(value) => push(&mut self.values, value).is_ok(),
             Err(AllocError) => false,
-        }
+        };
+        self.is_whole = is_added && self.is_whole;
     }
 
     /// The list of these values.
@@ -93,19 +157,4 @@ impl Values {
             Err(AllocError)
         }
     }
-}
-
-/// A text as a value.
-pub(crate) fn string(text: Result<String, AllocError>) -> Result<Value, AllocError> {
-    Ok(Value::String(text?))
-}
-
-/// The list of one value.
-pub(crate) fn list_of(
-    alloc: Global,
-    value: Result<Value, AllocError>,
-) -> Result<Value, AllocError> {
-    let mut values = Values::new(alloc);
-    values.add(value);
-    values.list()
 }

@@ -4,21 +4,17 @@
 
 pub mod bill;
 pub mod builds;
-pub mod certainty;
 pub mod crate_name;
 pub mod difference;
 mod dump;
 pub mod duplicates;
 pub mod error;
 mod json;
-mod krate_json;
-pub mod licences;
-pub mod list;
+pub mod kept;
 pub mod reporter;
 mod sentences;
 pub mod shown;
 pub mod tree;
-pub mod uses;
 pub mod why;
 
 pub use error::ReportError;

@@ -2,21 +2,20 @@
 
 use crate::bill::Bill;
 use crate::builds::{builds, built};
-use crate::certainty::Certainty;
 use crate::difference::Difference;
 use crate::dump::{push_answers, push_graph};
 use crate::duplicates::Duplicates;
 use crate::error::ReportError;
-use crate::licences::Licences;
-use crate::list::List;
+use crate::kept::{List, UsedKrates};
 use crate::shown::{Shown, pretty, printed};
 use crate::tree::Tree;
-use crate::uses::UsedKrates;
-use crate::why::{ExplainedFeatures, Why};
+use crate::why::{Certainty, ExplainedFeatures, Why};
 use krates::derive::{Derivation, Fact};
 use krates::resolve::Setting;
 use krates::{Builder, Kid, Krates, Metadata, Node, NodeId, OnFilter, Package, PackageId};
 use krates_answers::crate_uses::Builds;
+use krates_answers::direct_links::DirectLinks;
+use krates_answers::licences::licences;
 use krates_answers::naming::{Meant, Packages};
 use krates_answers::unreachable::is_unreachable;
 use krates_certificate::{Certificate, CertificatePart};
@@ -55,26 +54,6 @@ impl OnFilter for Others {
 }
 
 impl Others {
-    /// None yet.
-    fn new(alloc: Global) -> Others {
-        Others {
-            packages: Vec::new(alloc),
-            is_whole: true,
-        }
-    }
-
-    /// The graph that is built from a document under a setting, and the packages that it doesn't keep.
-    fn divided(
-        mut self,
-        alloc: Global,
-        setting: Setting,
-        metadata: Metadata,
-    ) -> Result<Divided, ReportError> {
-        let builder = Builder::under(alloc, setting);
-        let krates = builder.build_with_metadata(metadata, &mut self)?;
-        self.beside(krates)
-    }
-
     /// These and the graph that doesn't keep them, if there was memory for all of them.
     fn beside(self, krates: Krates) -> Result<Divided, ReportError> {
         let Others { packages, is_whole } = self;
@@ -151,16 +130,12 @@ impl Reporter<'_> {
         metadata: Metadata,
         other: Option<Metadata>,
     ) -> Result<Report, ReportError> {
-        match other {
-            Some(other) => self.of_both(metadata, other),
-            None => self.of_one(metadata),
-        }
-    }
-
-    /// What is printed of two documents; only a word that compares takes the second one.
-    fn of_both(&self, metadata: Metadata, other: Metadata) -> Result<Report, ReportError> {
+        let Some(other) = other else {
+            return self.of_one(metadata);
+        };
         match &self.asked.word {
             Word::Diff { .. } => self.difference(metadata, other),
+            // only a word that compares takes the second document
             _ => {
                 other.let_go();
                 self.of_one(metadata)
@@ -172,14 +147,21 @@ impl Reporter<'_> {
     fn of_one(&self, metadata: Metadata) -> Result<Report, ReportError> {
         match &self.asked.word {
             Word::List { .. } | Word::Duplicates | Word::Licences | Word::Graph => {
-                self.of_graph(metadata)
+                let krates = self.built(metadata)?;
+                self.in_graph(&krates)
             }
             Word::Tree { .. }
             | Word::Dependents { .. }
             | Word::Why { .. }
             | Word::Features { .. }
-            | Word::Certify { .. } => self.of_divided(metadata),
-            Word::Uses | Word::Sbom => self.of_builds(metadata),
+            | Word::Certify { .. } => {
+                let divided = self.divided(metadata)?;
+                self.in_divided(&divided)
+            }
+            Word::Uses | Word::Sbom => {
+                let builds = builds(self.alloc, &self.asked.choice, metadata)?;
+                self.in_builds(&builds)
+            }
             Word::Queries => self.queries(metadata),
             Word::Unreachable { spec } => self.unreachable(metadata, spec.as_str()),
             Word::Diff { .. } => {
@@ -187,24 +169,6 @@ impl Reporter<'_> {
                 Err(ReportError::NoOther)
             }
         }
-    }
-
-    /// What is printed of the graph of a document.
-    fn of_graph(&self, metadata: Metadata) -> Result<Report, ReportError> {
-        let krates = self.built(metadata)?;
-        self.in_graph(&krates)
-    }
-
-    /// What is printed of the graph of a document and the packages that it doesn't keep.
-    fn of_divided(&self, metadata: Metadata) -> Result<Report, ReportError> {
-        let divided = self.divided(metadata)?;
-        self.in_divided(&divided)
-    }
-
-    /// What is printed of the three graphs of a document.
-    fn of_builds(&self, metadata: Metadata) -> Result<Report, ReportError> {
-        let builds = builds(self.alloc, &self.asked.choice, metadata)?;
-        self.in_builds(&builds)
     }
 
     /// What is printed of an answer that is a yes, if there was memory to make it.
@@ -221,13 +185,17 @@ impl Reporter<'_> {
 
     /// The graph of a document and the packages that it doesn't keep.
     fn divided(&self, metadata: Metadata) -> Result<Divided, ReportError> {
-        match self.setting() {
-            Ok(setting) => Others::new(self.alloc).divided(self.alloc, setting, metadata),
-            Err(AllocError) => {
-                metadata.let_go();
-                Err(ReportError::Memory)
-            }
-        }
+        let Ok(setting) = self.setting() else {
+            metadata.let_go();
+            return Err(ReportError::Memory);
+        };
+        let mut others = Others {
+            packages: Vec::new(self.alloc),
+            is_whole: true,
+        };
+        let builder = Builder::under(self.alloc, setting);
+        let krates = builder.build_with_metadata(metadata, &mut others)?;
+        others.beside(krates)
     }
 
     /// What is chosen.
@@ -237,36 +205,25 @@ impl Reporter<'_> {
 
     /// What the graph of each of two documents has alone.
     fn difference(&self, first: Metadata, second: Metadata) -> Result<Report, ReportError> {
-        match self.built(first) {
-            Ok(first) => self.difference_from(&first, second),
+        let first = match self.built(first) {
+            Ok(first) => first,
             Err(refusal) => {
                 second.let_go();
-                Err(refusal)
+                return Err(refusal);
             }
-        }
-    }
-
-    /// What the graph of a document and another graph have alone.
-    fn difference_from(&self, first: &Krates, second: Metadata) -> Result<Report, ReportError> {
+        };
         let second = self.built(second)?;
-        self.shown(Difference::between(self.alloc, first, &second))
+        self.shown(Difference::between(self.alloc, &first, &second))
     }
 
     /// What each query answers.
     fn queries(&self, metadata: Metadata) -> Result<Report, ReportError> {
-        match ids_of(self.alloc, &metadata.packages) {
-            Ok(ids) => self.queries_of(metadata, &ids),
-            Err(AllocError) => {
-                metadata.let_go();
-                Err(ReportError::Memory)
-            }
-        }
-    }
-
-    /// The same, where the packages of the document have these ids.
-    fn queries_of(&self, metadata: Metadata, ids: &[PackageId]) -> Result<Report, ReportError> {
+        let Ok(ids) = ids_of(self.alloc, &metadata.packages) else {
+            metadata.let_go();
+            return Err(ReportError::Memory);
+        };
         let krates = self.built(metadata)?;
-        self.query_lines(&krates, ids)
+        self.query_lines(&krates, &ids)
     }
 
     /// Whether it is certain that a package isn't reached.
@@ -294,9 +251,13 @@ impl Reporter<'_> {
                 has_ids: *ids,
             })),
             Word::Duplicates => self.shown(Duplicates::of(self.alloc, krates)),
-            Word::Licences => self.shown(Licences::of(self.alloc, krates)),
+            Word::Licences => self.shown(licences(self.alloc, krates)),
             // the word `graph`
-            _ => self.graph_lines(krates),
+            _ => {
+                let mut lines = String::new(self.alloc);
+                push_graph(&mut lines, krates.graph())?;
+                Ok(Report::yes(lines))
+            }
         }
     }
 
@@ -305,11 +266,22 @@ impl Reporter<'_> {
     fn in_divided(&self, divided: &Divided) -> Result<Report, ReportError> {
         match &self.asked.word {
             Word::Tree { spec } => self.tree_below(divided, spec.as_ref()),
-            Word::Dependents { spec } => self.tree_above(divided, spec.as_str()),
+            Word::Dependents { spec } => {
+                let roots = self.root(divided, spec.as_str())?;
+                let links = DirectLinks::dependents(self.alloc, &divided.krates);
+                self.shown(Tree::of(self.alloc, &divided.krates, links, &roots))
+            }
             Word::Why { spec, steps } => self.why_in(divided, spec.as_str(), *steps),
-            Word::Features { spec } => self.features_in(divided, spec.as_str()),
-            Word::Certify { spec } => self.certificate_in(divided, spec.as_ref()),
-            // the only other word that comes here is one that lacks its second document
+            Word::Features { spec } => {
+                let found = divided.packages().one(self.alloc, spec.as_str())?;
+                self.shown(ExplainedFeatures::of(self.alloc, &divided.krates, found))
+            }
+            Word::Certify { spec } => {
+                let certificate = self.certificate(divided, spec.as_ref())?;
+                let text = pretty(self.alloc, certificate.to_value(self.alloc))?;
+                Ok(Report::yes(text))
+            }
+            // no other word comes here
             _ => Err(ReportError::NoOther),
         }
     }
@@ -329,13 +301,8 @@ impl Reporter<'_> {
             Some(spec) => self.root(divided, spec.as_str())?,
             None => members_of(self.alloc, &divided.krates)?,
         };
-        self.shown(Tree::of_dependencies(self.alloc, &divided.krates, &roots))
-    }
-
-    /// The tree of those that need a crate.
-    fn tree_above(&self, divided: &Divided, spec: &str) -> Result<Report, ReportError> {
-        let roots = self.root(divided, spec)?;
-        self.shown(Tree::of_dependents(self.alloc, &divided.krates, &roots))
+        let links = DirectLinks::dependencies(self.alloc, &divided.krates);
+        self.shown(Tree::of(self.alloc, &divided.krates, links, &roots))
     }
 
     /// The number of the crate that a word means, as a list.
@@ -362,19 +329,6 @@ impl Reporter<'_> {
         }
     }
 
-    /// The enabled features of a crate.
-    fn features_in(&self, divided: &Divided, spec: &str) -> Result<Report, ReportError> {
-        let found = divided.packages().one(self.alloc, spec)?;
-        self.shown(ExplainedFeatures::of(self.alloc, &divided.krates, found))
-    }
-
-    /// The drawn graph, number by number.
-    fn graph_lines(&self, krates: &Krates) -> Result<Report, ReportError> {
-        let mut lines = String::new(self.alloc);
-        push_graph(&mut lines, krates.graph())?;
-        Ok(Report::yes(lines))
-    }
-
     /// What each query answers, where packages have these ids.
     fn query_lines(&self, krates: &Krates, ids: &[PackageId]) -> Result<Report, ReportError> {
         let mut lines = String::new(self.alloc);
@@ -395,13 +349,15 @@ impl Reporter<'_> {
         };
         let facts = divided.krates.facts()?;
         let is_unreachable = self.is_unreachable(metadata, &facts, package)?;
-        let mut answer = self.shown(Ok(Certainty {
+        let answer = Certainty {
             package,
             is_unreachable,
             facts: facts.len(),
-        }))?;
-        answer.is_yes = is_unreachable;
-        Ok(answer)
+        };
+        Ok(Report {
+            text: printed(self.alloc, &answer, self.asked.is_json)?,
+            is_yes: is_unreachable,
+        })
     }
 
     /// Whether it is certain, by these facts, that a package isn't reached.
@@ -419,19 +375,8 @@ impl Reporter<'_> {
         Ok(is_unreachable(metadata, &builder, facts, &kid)?)
     }
 
-    /// The requested certificate, as JSON.
-    fn certificate_in(
-        &self,
-        divided: &Divided,
-        spec: Option<&String>,
-    ) -> Result<Report, ReportError> {
-        let certificate = self.certificate_of(divided, spec)?;
-        let text = pretty(self.alloc, certificate.to_value(self.alloc))?;
-        Ok(Report::yes(text))
-    }
-
     /// The requested certificate.
-    fn certificate_of(
+    fn certificate(
         &self,
         divided: &Divided,
         spec: Option<&String>,

@@ -19,28 +19,22 @@ struct StepSentence<'a> {
 }
 
 /// The first step that a step uses.
-fn first_used<'a>(derivation: &'a Derivation, step: &Step) -> Option<&'a Step> {
-    let used = step.uses.first()?;
+fn first_used<'a>(derivation: &'a Derivation, step: Option<&Step>) -> Option<&'a Step> {
+    let used = step?.uses.first()?;
     derivation.steps.get(*used)
 }
 
 /// The step with a number, with what it uses first.
 fn sentence_at(derivation: &Derivation, number: usize) -> Option<StepSentence<'_>> {
     let step = derivation.steps.get(number)?;
-    let from = first_used(derivation, step);
-    let before = match from {
-        Some(from) => first_used(derivation, from),
-        None => None,
-    };
+    let from = first_used(derivation, Some(step));
+    let before = first_used(derivation, from);
     Some(StepSentence { step, from, before })
 }
 
 /// The fact of a step.
 fn fact_of(step: Option<&Step>) -> Option<&Fact> {
-    match step {
-        Some(step) => Some(&step.fact),
-        None => None,
-    }
+    Some(&step?.fact)
 }
 
 /// What follows a dependency that isn't normal.
@@ -65,19 +59,15 @@ impl StepSentence<'_> {
             Some(Fact::Kept { parent, .. }) if name == "default" => {
                 write!(lines, "{} needs it with default features", ShortId(parent))
             }
-            Some(Fact::Kept { parent, .. }) => write!(lines, "{} asks for it", ShortId(parent)),
-            Some(Fact::Toggled { parent, .. }) => self.push_toggling(parent, lines),
-            Some(Fact::Crate(of)) => write!(lines, "{} asks for it", ShortId(of)),
-        }
-    }
-
-    /// Adds the feature of another crate that enables one.
-    fn push_toggling(&self, parent: &Kid, lines: &mut String) -> Result<(), AllocError> {
-        match fact_of(self.before) {
-            Some(Fact::Feature { name: by, .. }) => {
-                write!(lines, "feature `{by}` of {} enables it", ShortId(parent))
+            Some(Fact::Kept { parent: by, .. } | Fact::Crate(by)) => {
+                write!(lines, "{} asks for it", ShortId(by))
             }
-            _ => write!(lines, "a feature of {} enables it", ShortId(parent)),
+            Some(Fact::Toggled { parent, .. }) => match fact_of(self.before) {
+                Some(Fact::Feature { name: by, .. }) => {
+                    write!(lines, "feature `{by}` of {} enables it", ShortId(parent))
+                }
+                _ => write!(lines, "a feature of {} enables it", ShortId(parent)),
+            },
         }
     }
 
@@ -105,26 +95,15 @@ impl StepSentence<'_> {
             } => {
                 write!(lines, "  {} needs {}", ShortId(parent), ShortId(child))?;
                 lines.push_str(purpose(*kind))?;
-                self.push_target(cfg.as_ref(), lines)?;
-                self.push_asking(lines)?;
+                if let Some(cfg) = cfg {
+                    write!(lines, ", on {cfg}")?;
+                }
+                // the feature that enables an optional dependency
+                if let Some(Fact::Feature { name, .. }) = fact_of(self.from) {
+                    write!(lines, ", for its feature `{name}`")?;
+                }
                 lines.push_str("\n")
             }
-        }
-    }
-
-    /// Adds the target that a dependency is for.
-    fn push_target(&self, cfg: Option<&String>, lines: &mut String) -> Result<(), AllocError> {
-        match cfg {
-            Some(cfg) => write!(lines, ", on {cfg}"),
-            None => Ok(()),
-        }
-    }
-
-    /// Adds the feature that enables an optional dependency.
-    fn push_asking(&self, lines: &mut String) -> Result<(), AllocError> {
-        match fact_of(self.from) {
-            Some(Fact::Feature { name, .. }) => write!(lines, ", for its feature `{name}`"),
-            _ => Ok(()),
         }
     }
 }
@@ -149,11 +128,11 @@ pub(crate) fn push_last_reason(
     lines: &mut String,
 ) -> Result<(), AllocError> {
     let last = derivation.steps.len().saturating_sub(1);
-    match sentence_at(derivation, last) {
-        Some(sentence) => match &sentence.step.fact {
-            Fact::Feature { krate, name } => sentence.push_enabling(krate, name.as_str(), lines),
-            _ => Ok(()),
-        },
-        None => Ok(()),
+    let Some(sentence) = sentence_at(derivation, last) else {
+        return Ok(());
+    };
+    match &sentence.step.fact {
+        Fact::Feature { krate, name } => sentence.push_enabling(krate, name.as_str(), lines),
+        _ => Ok(()),
     }
 }

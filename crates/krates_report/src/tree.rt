@@ -21,28 +21,15 @@ pub struct Tree<'a> {
 }
 
 impl<'a> Tree<'a> {
-    /// The tree of what roots need, below them. The only refusal is running out of memory. Time: that of `DirectLinks::dependencies` and `tree`.
-    pub fn of_dependencies(
+    /// The tree of what these links of the graph lead to, below roots: what they need, or those that need them. The only refusal is running
+    /// out of memory, now or while the links were made. Time: that of `DirectLinks::tree`.
+    pub fn of(
         alloc: Global,
         krates: &'a Krates,
+        links: Result<DirectLinks, AllocError>,
         roots: &[NodeId],
     ) -> Result<Tree<'a>, AllocError> {
-        let links = DirectLinks::dependencies(alloc, krates)?;
-        let lines = links.tree(alloc, roots)?;
-        Ok(Tree {
-            krates,
-            links,
-            lines,
-        })
-    }
-
-    /// The tree of those that need roots, below them. The only refusal is running out of memory. Time: that of `DirectLinks::dependents` and `tree`.
-    pub fn of_dependents(
-        alloc: Global,
-        krates: &'a Krates,
-        roots: &[NodeId],
-    ) -> Result<Tree<'a>, AllocError> {
-        let links = DirectLinks::dependents(alloc, krates)?;
+        let links = links?;
         let lines = links.tree(alloc, roots)?;
         Ok(Tree {
             krates,
@@ -53,10 +40,7 @@ impl<'a> Tree<'a> {
 
     /// Whether what a line's crate leads to is below another line.
     fn is_repeated(&self, line: &TreeLine) -> bool {
-        match self.links.of(line.krate) {
-            Some(list) => !line.is_opened && !list.is_empty(),
-            None => false,
-        }
+        !line.is_opened && !self.links.of(line.krate).unwrap_or(&[]).is_empty()
     }
 
     /// Adds a line after what is drawn before it. For each line that it is below, the margin's first, `goes_on` says whether more
@@ -74,11 +58,6 @@ impl<'a> Tree<'a> {
         fit(goes_on, line.depth)?;
         push_branches(goes_on, is_last, lines)?;
         goes_on.push(!is_last)?;
-        self.push_line(line, lines)
-    }
-
-    /// Adds a line, without what is drawn before it.
-    fn push_line(&self, line: &TreeLine, lines: &mut String) -> Result<(), AllocError> {
         if line.krate.index() >= self.krates.len() {
             return Ok(());
         }

@@ -1,7 +1,7 @@
-//! Why a crate is kept, and why its features are enabled.
+//! Why a crate is kept and why its features are enabled, and whether a package can be reached.
 
 use crate::crate_name::ShortName;
-use crate::json::{JsonObject, Values, string};
+use crate::json::{InJson, JsonObject, list_json, string};
 use crate::sentences::{push_last_reason, push_sentences};
 use crate::shown::Shown;
 use krates::derive::{Derivation, Step};
@@ -20,31 +20,15 @@ pub struct Why<'a> {
     pub has_steps: bool,
 }
 
-/// The numbers of steps.
-fn uses_json(alloc: Global, uses: &[usize]) -> Result<Value, AllocError> {
-    let mut values = Values::new(alloc);
-    for used in uses {
-        values.add(Ok(Value::from(*used as u64)));
+impl InJson for Step {
+    /// `rule`, `fact`, and in `uses` the numbers of steps.
+    fn json(&self, alloc: Global) -> Result<Value, AllocError> {
+        JsonObject::new(alloc)
+            .put("rule", Ok(Value::from(self.rule as u64)))
+            .put("fact", string(format!(in alloc; "{}", self.fact)))
+            .put("uses", list_json(alloc, &self.uses))
+            .object()
     }
-    values.list()
-}
-
-/// What JSON says of a step.
-fn step_json(alloc: Global, step: &Step) -> Result<Value, AllocError> {
-    JsonObject::new(alloc)
-        .put("rule", Ok(Value::from(step.rule as u64)))
-        .put("fact", string(format!(in alloc; "{}", step.fact)))
-        .put("uses", uses_json(alloc, &step.uses))
-        .object()
-}
-
-/// That of each of these.
-fn steps_json(alloc: Global, steps: &[Step]) -> Result<Value, AllocError> {
-    let mut values = Values::new(alloc);
-    for step in steps {
-        values.add(step_json(alloc, step));
-    }
-    values.list()
 }
 
 impl Shown for Why<'_> {
@@ -62,7 +46,7 @@ impl Shown for Why<'_> {
     fn json(&self, alloc: Global) -> Result<Value, AllocError> {
         JsonObject::new(alloc)
             .text("id", self.krate.id.repr.as_str())
-            .put("steps", steps_json(alloc, &self.derivation.steps))
+            .put("steps", list_json(alloc, &self.derivation.steps))
             .object()
     }
 }
@@ -99,11 +83,10 @@ fn push_feature<'a>(
             if let Some(derivation) = krates.why(node)? {
                 push_last_reason(&derivation, &mut reason)?;
             }
-            features.push(ExplainedFeature {
+            Ok(features.push(ExplainedFeature {
                 name: name.as_str(),
                 reason,
-            })?;
-            Ok(())
+            })?)
         }
         _ => Ok(()),
     }
@@ -129,21 +112,14 @@ impl<'a> ExplainedFeatures<'a> {
     }
 }
 
-/// What JSON says of a feature.
-fn feature_json(alloc: Global, feature: &ExplainedFeature<'_>) -> Result<Value, AllocError> {
-    JsonObject::new(alloc)
-        .text("name", feature.name)
-        .text("reason", feature.reason.as_str())
-        .object()
-}
-
-/// That of each of these.
-fn features_json(alloc: Global, features: &[ExplainedFeature<'_>]) -> Result<Value, AllocError> {
-    let mut values = Values::new(alloc);
-    for feature in features {
-        values.add(feature_json(alloc, feature));
+impl InJson for ExplainedFeature<'_> {
+    /// `name` and `reason`.
+    fn json(&self, alloc: Global) -> Result<Value, AllocError> {
+        JsonObject::new(alloc)
+            .text("name", self.name)
+            .text("reason", self.reason.as_str())
+            .object()
     }
-    values.list()
 }
 
 impl Shown for ExplainedFeatures<'_> {
@@ -160,7 +136,41 @@ impl Shown for ExplainedFeatures<'_> {
     fn json(&self, alloc: Global) -> Result<Value, AllocError> {
         JsonObject::new(alloc)
             .text("id", self.krate.id.repr.as_str())
-            .put("features", features_json(alloc, &self.features))
+            .put("features", list_json(alloc, &self.features))
+            .object()
+    }
+}
+
+/// Whether it is certain that a package isn't reached.
+#[derive(Drop)]
+pub struct Certainty<'a> {
+    /// The package.
+    pub package: &'a Package,
+    /// Whether the checker says that nothing leads to it.
+    pub is_unreachable: bool,
+    /// How many facts are closed under the rules without it.
+    pub facts: usize,
+}
+
+impl Shown for Certainty<'_> {
+    /// One line.
+    fn text(&self, alloc: Global) -> Result<String, AllocError> {
+        let name = ShortName(self.package);
+        if self.is_unreachable {
+            let facts = self.facts;
+            format!(in alloc;
+                "{name} can't be reached: it isn't among the facts ({facts}), and these are closed under the rules\n"
+            )
+        } else {
+            format!(in alloc; "{name} is kept; `why` says why\n")
+        }
+    }
+
+    /// An object with `id` and `unreachable`.
+    fn json(&self, alloc: Global) -> Result<Value, AllocError> {
+        JsonObject::new(alloc)
+            .text("id", self.package.id.repr.as_str())
+            .put("unreachable", Ok(Value::Bool(self.is_unreachable)))
             .object()
     }
 }

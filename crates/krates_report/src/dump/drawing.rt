@@ -1,10 +1,29 @@
 //! The lines of a graph: `node N crate ID`, `node N feature ID/NAME`, `map CRATE PLACE CRATE` for each place of a mapping that names
 //! a crate, and `edge N SOURCE TARGET` with what the edge is: `dep` or `depfeature`, its kind and its target or `-`, or `feature`.
 
-use crate::dump::lines::push_start;
-use krates::graph::{Graph, GraphEdge};
-use krates::{DepKind, Edge, Node, NodeId, Package};
+use krates::graph::Graph;
+use krates::{DepKind, Edge, Node, NodeId, Package, PackageId};
 use std::alloc::AllocError;
+
+/// Adds a word and numbers, with which a line begins, and a space before each number.
+fn push_start(lines: &mut String, word: &str, numbers: &[usize]) -> Result<(), AllocError> {
+    lines.push_str(word)?;
+    for number in numbers {
+        write!(lines, " {number}")?;
+    }
+    Ok(())
+}
+
+/// Adds a line of a word, numbers and an id.
+pub(crate) fn push_line(
+    lines: &mut String,
+    word: &str,
+    numbers: &[usize],
+    id: &PackageId,
+) -> Result<(), AllocError> {
+    push_start(lines, word, numbers)?;
+    writeln!(lines, " {}", id.repr)
+}
 
 /// The id of the crate with a number, as the document writes it.
 fn id_at(nodes: &[Node<Package>], number: NodeId) -> &str {
@@ -53,10 +72,7 @@ pub(crate) fn push_edge(
         Edge::DepFeature { kind, cfg } => ("depfeature", *kind, cfg),
         Edge::Feature => return lines.push_str(" feature\n"),
     };
-    let cfg = match cfg {
-        Some(cfg) => cfg.as_str(),
-        None => "-",
-    };
+    let cfg = cfg.as_deref().unwrap_or("-");
     writeln!(lines, " {mark} {} {cfg}", kind_name(kind))
 }
 
@@ -90,15 +106,6 @@ fn push_mappings(lines: &mut String, nodes: &[Node<Package>]) -> Result<(), Allo
     Ok(())
 }
 
-/// Adds the edges.
-fn push_edges(lines: &mut String, edges: &[GraphEdge<Edge>]) -> Result<(), AllocError> {
-    for (number, edge) in edges.iter().enumerate() {
-        let numbers = [number, edge.source.index(), edge.target.index()];
-        push_edge(lines, "edge", &numbers, &edge.weight)?;
-    }
-    Ok(())
-}
-
 /// Adds the lines of a graph.
 pub(crate) fn push_graph(
     lines: &mut String,
@@ -106,5 +113,9 @@ pub(crate) fn push_graph(
 ) -> Result<(), AllocError> {
     push_nodes(lines, graph.raw_nodes())?;
     push_mappings(lines, graph.raw_nodes())?;
-    push_edges(lines, graph.raw_edges())
+    for (number, edge) in graph.raw_edges().iter().enumerate() {
+        let numbers = [number, edge.source.index(), edge.target.index()];
+        push_edge(lines, "edge", &numbers, &edge.weight)?;
+    }
+    Ok(())
 }

@@ -1,0 +1,153 @@
+//! The kept crates as they are shown: their list, what they are used for, and their licences.
+
+use crate::crate_name::ShortName;
+use crate::json::{InJson, JsonObject, Values, list_json};
+use crate::shown::Shown;
+use krates::Krates;
+use krates_answers::crate_uses::{Builds, Use, UsedKrate};
+use krates_answers::licences::Licence;
+use serde_json::Value;
+use std::alloc::{AllocError, Global};
+
+/// The kept crates, in the order of their ids: by name, then version, then source.
+#[derive(Drop)]
+pub struct List<'a> {
+    /// The graph.
+    pub krates: &'a Krates,
+    /// Whether the text has their ids instead of their names.
+    pub has_ids: bool,
+}
+
+impl Shown for List<'_> {
+    /// A line for each: its short name, or its id.
+    fn text(&self, alloc: Global) -> Result<String, AllocError> {
+        let mut lines = String::new(alloc);
+        for krate in self.krates.krates() {
+            if self.has_ids {
+                writeln!(lines, "{}", krate.id.repr)?;
+            } else {
+                writeln!(lines, "{}", ShortName(krate))?;
+            }
+        }
+        Ok(lines)
+    }
+
+    /// A list of crates.
+    fn json(&self, alloc: Global) -> Result<Value, AllocError> {
+        let mut values = Values::new(alloc);
+        for krate in self.krates.krates() {
+            values.add(krate.json(alloc));
+        }
+        values.list()
+    }
+}
+
+/// The kept crates, each with what it is used for.
+#[derive(Drop)]
+pub struct UsedKrates<'a> {
+    /// The crates, by number.
+    pub used: Vec<UsedKrate<'a>>,
+}
+
+impl<'a> UsedKrates<'a> {
+    /// The crates of these builds with their uses.
+    pub(crate) fn of(alloc: Global, builds: &'a Builds) -> Result<UsedKrates<'a>, AllocError> {
+        let used = builds.uses(alloc)?;
+        Ok(UsedKrates { used })
+    }
+}
+
+impl UsedKrates<'_> {
+    /// How many are used for this.
+    fn count(&self, usage: Use) -> usize {
+        self.used.iter().filter(|used| used.usage == usage).count()
+    }
+
+    /// Adds a use with the number of its crates, and below it the crates.
+    fn push(&self, usage: Use, title: &str, lines: &mut String) -> Result<(), AllocError> {
+        writeln!(lines, "{title} ({})", self.count(usage))?;
+        for used in &self.used {
+            if used.usage == usage {
+                writeln!(lines, "    {}", ShortName(used.krate.krate))?;
+            }
+        }
+        Ok(())
+    }
+
+    /// The crates that are used for this.
+    fn json_of(&self, alloc: Global, usage: Use) -> Result<Value, AllocError> {
+        let mut values = Values::new(alloc);
+        for used in &self.used {
+            if used.usage == usage {
+                values.add(used.krate.json(alloc));
+            }
+        }
+        values.list()
+    }
+}
+
+impl Shown for UsedKrates<'_> {
+    /// `shipped`, `build only` and `dev only`, each with the number of its crates, and below it the crates.
+    fn text(&self, alloc: Global) -> Result<String, AllocError> {
+        let mut lines = String::new(alloc);
+        self.push(Use::Shipped, "shipped", &mut lines)?;
+        self.push(Use::Build, "build only", &mut lines)?;
+        self.push(Use::Dev, "dev only", &mut lines)?;
+        Ok(lines)
+    }
+
+    /// An object with the crates of `shipped`, `build` and `dev`.
+    fn json(&self, alloc: Global) -> Result<Value, AllocError> {
+        JsonObject::new(alloc)
+            .put("shipped", self.json_of(alloc, Use::Shipped))
+            .put("build", self.json_of(alloc, Use::Build))
+            .put("dev", self.json_of(alloc, Use::Dev))
+            .object()
+    }
+}
+
+/// Adds a licence, and below it its crates.
+fn push_licence(licence: &Licence<'_>, lines: &mut String) -> Result<(), AllocError> {
+    let text = if licence.text.is_empty() {
+        "no licence"
+    } else {
+        licence.text
+    };
+    writeln!(lines, "{text} ({})", licence.krates.len())?;
+    for found in &licence.krates {
+        writeln!(lines, "    {}", ShortName(found.krate))?;
+    }
+    Ok(())
+}
+
+impl InJson for Licence<'_> {
+    /// `licence`, which is null where there is none, and `crates`.
+    fn json(&self, alloc: Global) -> Result<Value, AllocError> {
+        let text = if self.text.is_empty() {
+            Ok(Value::Null)
+        } else {
+            Value::try_from_str(alloc, self.text)
+        };
+        JsonObject::new(alloc)
+            .put("licence", text)
+            .put("crates", list_json(alloc, &self.krates))
+            .object()
+    }
+}
+
+/// The kept crates by licence, in the order of the texts.
+impl Shown for Vec<Licence<'_>> {
+    /// Each licence with the number of its crates, and below it the crates, first those without one.
+    fn text(&self, alloc: Global) -> Result<String, AllocError> {
+        let mut lines = String::new(alloc);
+        for licence in self {
+            push_licence(licence, &mut lines)?;
+        }
+        Ok(lines)
+    }
+
+    /// A list of objects with `licence`, which is null where there is none, and `crates`.
+    fn json(&self, alloc: Global) -> Result<Value, AllocError> {
+        list_json(alloc, self)
+    }
+}
