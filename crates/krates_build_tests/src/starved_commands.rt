@@ -1,6 +1,6 @@
 //! Commands: what grows in them, their words, and the command that a tool's options mean.
 
-use crate::command::push_variables;
+use crate::command::{ask_all, push_command, set_all};
 use krates_cargo::{Cmd, Features, MetadataCommand};
 use krates_cm::Error;
 use krates_samples::starving::{Call, granted, other_refusal, refused, starved};
@@ -21,32 +21,10 @@ pub(crate) fn parts(alloc: Global, text: &str, between: char) -> Result<Vec<Stri
     Ok(parts)
 }
 
-/// Adds the words after `metadata --format-version 1`, each with a bar after it.
-fn push_words(text: &mut Text, words: &[String]) {
-    for word in words.iter().skip(3) {
-        write!(text, "{word}|");
-    }
-}
-
-/// Compares the words with what is known.
-fn are_told(alloc: Global, words: &[String], expected: &str) -> Result<bool, AllocError> {
-    let mut text = Text::new(alloc);
-    push_words(&mut text, words);
-    Ok(text.whole()?.as_str() == expected)
-}
-
-/// Adds the variables that cargo is started with.
-fn push_environment(text: &mut Text, command: &MetadataCommand) -> Result<(), Fail> {
-    let cargo = command.cargo_command(None)?;
-    push_variables(text, &cargo, "|");
-    Ok(())
-}
-
-/// Compares the variables that a command sets, and its words, with what is known.
+/// Compares what is reported of a command with what is known.
 fn is_told(alloc: Global, command: &MetadataCommand, expected: &str) -> Result<bool, Fail> {
     let mut text = Text::new(alloc);
-    push_environment(&mut text, command)?;
-    push_words(&mut text, &command.args()?);
+    push_command(&mut text, command)?;
     Ok(text.whole()?.as_str() == expected)
 }
 
@@ -62,27 +40,17 @@ enum OfCommand {
 const OF_COMMAND: &[OfCommand] = &[OfCommand::Features, OfCommand::Env, OfCommand::Args];
 
 /// The words of the command.
-const WORDS: &str = "--no-deps|--features|a|--manifest-path|p|--z|";
+const WORDS: &str = "metadata|--format-version|1|--no-deps|--features|a|--manifest-path|p|--z";
 
 /// What is reported of the command.
-const COMMAND: &str = "A=1|--no-deps|--features|a|--manifest-path|p|--z|";
+const COMMAND: &str =
+    "A=1 cargo in none: metadata|--format-version|1|--no-deps|--features|a|--manifest-path|p|--z";
 
 /// The command, and features to be chosen.
 #[derive(Drop)]
 struct Named {
     command: MetadataCommand,
     names: Vec<String>,
-}
-
-/// Gives the command a feature, a variable and other settings.
-fn set_command(alloc: Global, command: &mut MetadataCommand) -> Result<(), Fail> {
-    command
-        .no_deps()
-        .manifest_path(String::from_str(alloc, "p")?)
-        .other_options(parts(alloc, "--z", ',')?);
-    command.features(Features::Selected(parts(alloc, "a", ',')?))?;
-    command.env("A", "1")?;
-    Ok(())
 }
 
 impl Call for OfCommand {
@@ -92,7 +60,8 @@ impl Call for OfCommand {
 
     fn given(&self, alloc: Global) -> Result<Named, Fail> {
         let mut command = MetadataCommand::new(alloc);
-        set_command(alloc, &mut command)?;
+        let settings = "no-deps manifest=p other=--z selected=a env=A,1";
+        set_all(&mut Text::new(alloc), &mut command, settings);
         let names = parts(alloc, MORE, ',')?;
         Ok(Named { command, names })
     }
@@ -119,13 +88,15 @@ impl Call for OfCommand {
     ) -> Result<bool, Fail> {
         let ample = match self {
             OfCommand::Features => {
-                "A=1|--no-deps|--features|a,b,c,d,e,f,g,h,i,j|--manifest-path|p|--z|"
+                "A=1 cargo in none: metadata|--format-version|1|--no-deps|--features|a,b,c,d,e,f,g,h,i,j|--manifest-path|p|--z"
             }
-            _ => "A=1|B=2|--no-deps|--features|a|--manifest-path|p|--z|",
+            _ => {
+                "A=1 B=2 cargo in none: metadata|--format-version|1|--no-deps|--features|a|--manifest-path|p|--z"
+            }
         };
         match answer {
             Ok(None) => granted(is_told(alloc, &given.command, ample)?),
-            Ok(Some(words)) => granted(are_told(alloc, words, WORDS)?),
+            Ok(Some(words)) => granted(words.as_slice().join(alloc, "|")?.as_str() == WORDS),
             Err(Error::Memory) => refused(is_told(alloc, &given.command, COMMAND)?),
             Err(_) => other_refusal(),
         }
@@ -153,22 +124,14 @@ const OF_OPTIONS: &[OfOptions] = &[
 ];
 
 /// What is reported of the command that the options mean.
-const OPTIONS: &str = "--manifest-path|Cargo.toml|--all-features|--features|a|--a|";
+const OPTIONS: &str =
+    "cargo in x: metadata|--format-version|1|--manifest-path|Cargo.toml|--all-features|--features|a|--a";
 
 /// A tool's options, and more names.
 #[derive(Drop)]
 struct Options {
     cmd: Cmd,
     names: Vec<String>,
-}
-
-/// Gives the options one name of each list, and other settings.
-fn set_options(alloc: Global, cmd: &mut Cmd) -> Result<(), Fail> {
-    cmd.features(parts(alloc, "a", ',')?)?;
-    cmd.other_options(parts(alloc, "--a", ',')?)?;
-    cmd.all_features()
-        .manifest_path(String::from_str(alloc, "x/Cargo.toml")?);
-    Ok(())
 }
 
 /// Compares what is reported of the command that the options mean with what is known.
@@ -185,7 +148,8 @@ impl Call for OfOptions {
 
     fn given(&self, alloc: Global) -> Result<Options, Fail> {
         let mut cmd = Cmd::new(alloc);
-        set_options(alloc, &mut cmd)?;
+        let settings = "feature=a other=--a all manifest=x/Cargo.toml";
+        ask_all(alloc, &mut cmd, settings)?;
         let names = parts(alloc, MORE, ',')?;
         Ok(Options { cmd, names })
     }
@@ -216,9 +180,11 @@ impl Call for OfOptions {
     ) -> Result<bool, Fail> {
         let ample = match self {
             OfOptions::Features => {
-                "--manifest-path|Cargo.toml|--all-features|--features|a b c d e f g h i j|--a|"
+                "cargo in x: metadata|--format-version|1|--manifest-path|Cargo.toml|--all-features|--features|a b c d e f g h i j|--a"
             }
-            _ => "--manifest-path|Cargo.toml|--all-features|--features|a|--a|b|c|d|e|f|g|h|i|j|",
+            _ => {
+                "cargo in x: metadata|--format-version|1|--manifest-path|Cargo.toml|--all-features|--features|a|--a|b|c|d|e|f|g|h|i|j"
+            }
         };
         match answer {
             Ok(None) => granted(means(alloc, given, ample)?),
