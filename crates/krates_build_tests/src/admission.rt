@@ -1,26 +1,22 @@
 //! Which documents are refused before they are resolved, and why.
 
-use crate::of_document::{OfDocument, Told};
-use krates_cm::Metadata;
+use crate::real_documents::metadata_of;
 use krates_resolve::admit;
-use krates_samples::table::{Row, hold};
-use std::alloc::{AllocError, Global};
+use krates_samples::table::{Row, Tell, hold};
+use krates_samples::text::Text;
 use std::test::Fail;
 
-/// How many ids of packages are read, or the text of the refusal.
-fn outcome(alloc: Global, metadata: &Metadata) -> Result<String, AllocError> {
-    match admit(alloc, metadata) {
-        Ok(ids) => format!(in alloc; "{} packages", ids.packages.len()),
-        Err(error) => format!(in alloc; "{error}"),
-    }
-}
-
-/// What admission answers for the document of a line.
+/// How many ids of packages are read of the document of a line, or the text of the refusal.
 struct Admitted;
 
-impl Told for Admitted {
-    fn told_of(alloc: Global, metadata: &Metadata, _line: &str) -> Result<String, Fail> {
-        Ok(outcome(alloc, metadata)?)
+impl Tell for Admitted {
+    fn tell(told: &mut Text, line: &str) -> Result<(), Fail> {
+        let metadata = metadata_of(told.allocator(), line)?;
+        match admit(told.allocator(), &metadata) {
+            Ok(ids) => write!(told, "{} packages", ids.packages.len()),
+            Err(error) => write!(told, "{error}"),
+        }
+        Ok(())
     }
 }
 
@@ -65,7 +61,7 @@ const DOUBLED: &[Row] = &[
 
 #[test]
 fn documents_that_are_admitted_or_refused(rt: HostRuntime) -> Result<(), Fail> {
-    hold::<OfDocument<Admitted>>(rt.alloc(), ADMITTED_DOCUMENTS)?;
-    hold::<OfDocument<Admitted>>(rt.alloc(), INVALID)?;
-    hold::<OfDocument<Admitted>>(rt.alloc(), DOUBLED)
+    hold::<Admitted>(rt.alloc(), ADMITTED_DOCUMENTS)?;
+    hold::<Admitted>(rt.alloc(), INVALID)?;
+    hold::<Admitted>(rt.alloc(), DOUBLED)
 }

@@ -1,13 +1,14 @@
 //! What a document and a setting answer to the questions of the rules, asked one by one.
 
+use crate::real_documents::metadata_of;
 use crate::setting::setting_of;
 use krates_cm::{DepKindInfo, Metadata, Package};
 use krates_ids::Kid;
 use krates_resolve::{Document, Setting, admit};
-use krates_samples::documents::{kid_of, kind_named, metadata};
-use krates_samples::table::{Question, Row, hold};
+use krates_samples::documents::{kid_of, kind_named};
+use krates_samples::table::{Row, Tell, hold};
 use krates_samples::text::Text;
-use std::alloc::{AllocError, Global};
+use std::alloc::Global;
 use std::test::Fail;
 
 /// Two members. The second declares a crate three times, last for its build, and its node lists that for the build and for
@@ -45,123 +46,117 @@ pub(crate) fn edge_of(alloc: Global, words: &str) -> Result<Edge, Fail> {
     })
 }
 
-/// The name of the crate that a name means to a crate.
-fn referent(alloc: Global, asked: &Document<'_>, words: &str) -> Result<String, Fail> {
-    let (krate, name) = words.split_once(' ').unwrap_or((words, ""));
-    let krate = kid_of(alloc, krate)?;
-    let told = match asked.referent(&krate, name) {
-        Some(child) => child.name(),
-        None => "none",
-    };
-    Ok(String::from_str(alloc, told)?)
-}
-
-/// The names of the crates that a name means to a crate under a setting.
-fn referents(
-    alloc: Global,
-    asked: &Document<'_>,
-    setting: &Setting,
-    words: &str,
-) -> Result<String, Fail> {
-    let (krate, name) = words.split_once(' ').unwrap_or((words, ""));
-    let krate = kid_of(alloc, krate)?;
-    let referents = asked.referents(alloc, setting, &krate, name)?;
-    let mut told = Text::new(alloc);
-    for referent in &referents {
-        told.push_str(referent.id.name());
-    }
-    Ok(told.whole()?)
-}
-
-/// The names of crates.
-fn names_of(alloc: Global, krates: &[&Kid]) -> Result<String, AllocError> {
-    let mut told = Text::new(alloc);
-    for krate in krates {
-        told.push_str(krate.name());
-    }
-    told.whole()
-}
-
-/// The names of the roots.
-fn roots(alloc: Global, asked: &Document<'_>, setting: &Setting) -> Result<String, Fail> {
-    let roots = asked.roots(alloc, setting)?;
-    Ok(names_of(alloc, &roots)?)
-}
-
-/// The place of the declared dependency of an edge.
-fn declared(alloc: Global, asked: &Document<'_>, words: &str) -> Result<String, Fail> {
-    let edge = edge_of(alloc, words)?;
-    let place = asked.declared(&edge.parent, &edge.child, &edge.info);
-    Ok(format!(in alloc; "{place:?}")?)
-}
-
-/// Whether an edge is open.
-fn is_open(
-    alloc: Global,
-    asked: &Document<'_>,
-    setting: &Setting,
-    words: &str,
-) -> Result<String, Fail> {
-    let edge = edge_of(alloc, words)?;
-    let is_open = asked.is_open(alloc, setting, &edge.parent, &edge.child, &edge.info)?;
-    Ok(format!(in alloc; "{is_open}")?)
-}
-
-/// What a document answers to a question under a setting.
-fn answer(
-    alloc: Global,
+/// Adds the name of the crate that a name means to a crate, or the names of those that it means under a setting.
+fn push_meant(
+    told: &mut Text,
     asked: &Document<'_>,
     setting: &Setting,
     question: &str,
-) -> Result<String, Fail> {
-    let (name, words) = question.split_once(' ').unwrap_or((question, ""));
-    match name {
-        "referent" => referent(alloc, asked, words),
-        "referents" => referents(alloc, asked, setting, words),
-        "declared" => declared(alloc, asked, words),
-        "open" => is_open(alloc, asked, setting, words),
-        _ => roots(alloc, asked, setting),
+    words: &str,
+) -> Result<(), Fail> {
+    let (krate, name) = words.split_once(' ').unwrap_or((words, ""));
+    let krate = kid_of(told.allocator(), krate)?;
+    if question == "referent" {
+        told.push_str(asked.referent(&krate, name).map_or("none", |child| child.name()));
+        return Ok(());
+    }
+    for referent in &asked.referents(told.allocator(), setting, &krate, name)? {
+        told.push_str(referent.id.name());
+    }
+    Ok(())
+}
+
+/// Adds the place of the declared dependency of an edge, or whether the edge is open.
+fn push_edge(
+    told: &mut Text,
+    asked: &Document<'_>,
+    setting: &Setting,
+    question: &str,
+    words: &str,
+) -> Result<(), Fail> {
+    let Edge {
+        parent,
+        child,
+        info,
+    } = edge_of(told.allocator(), words)?;
+    if question == "declared" {
+        write!(told, "{:?}", asked.declared(&parent, &child, &info));
+        return Ok(());
+    }
+    let is_open = asked.is_open(told.allocator(), setting, &parent, &child, &info)?;
+    write!(told, "{is_open}");
+    Ok(())
+}
+
+/// Adds the names of the roots.
+fn push_roots(told: &mut Text, asked: &Document<'_>, setting: &Setting) -> Result<(), Fail> {
+    for krate in &asked.roots(told.allocator(), setting)? {
+        told.push_str(krate.name());
+    }
+    Ok(())
+}
+
+/// Adds whether a dependency with a target text passes, whether a kind of dependency is ignored, of a member or of another crate, or
+/// whether a name means all.
+fn push_set(told: &mut Text, setting: &Setting, question: &str, words: &str) -> Result<(), Fail> {
+    let (kind, krate) = words.split_once(' ').unwrap_or((words, ""));
+    let is_so = match question {
+        "passes" => {
+            let text = target_text(told.allocator(), words)?;
+            setting.passes(told.allocator(), &text)?
+        }
+        "ignores" => setting.ignores(kind_named(kind), krate == "member"),
+        _ => setting.is_all_named(),
+    };
+    write!(told, "{is_so}");
+    Ok(())
+}
+
+/// Adds the names of packages, each after a minus sign where it is excluded.
+fn push_signed(told: &mut Text, setting: &Setting, packages: &[Package]) {
+    for pkg in packages {
+        told.push_str(if setting.excludes(pkg) { "-" } else { "+" });
+        told.push_str(pkg.name.as_str());
     }
 }
 
-/// What a document answers to a question under a setting, once it is admitted.
-fn ask(
-    alloc: Global,
+/// Adds what a document answers to a question under a setting, once it is admitted.
+fn push_answer(
+    told: &mut Text,
     metadata: &Metadata,
     setting: &Setting,
     question: &str,
-) -> Result<String, Fail> {
-    let ids = admit(alloc, metadata)?;
-    let asked = Document::new(alloc, metadata, &ids)?;
-    answer(alloc, &asked, setting, question)
-}
-
-/// The document of the two members, with the sections of a line.
-fn document_of(alloc: Global, line: &str) -> Result<Metadata, Fail> {
-    let line = format!(in alloc; "{MEMBERS} / {line}")?;
-    metadata(alloc, line.as_str())
-}
-
-/// What a document answers to the question that a line begins with, under the setting of the line.
-fn answer_of(alloc: Global, metadata: &Metadata, line: &str) -> Result<String, Fail> {
-    let (question, _) = line.split_once(" / ").unwrap_or((line, ""));
-    let setting = setting_of(alloc, line)?;
-    ask(alloc, metadata, &setting, question)
+) -> Result<(), Fail> {
+    let ids = admit(told.allocator(), metadata)?;
+    let asked = Document::new(told.allocator(), metadata, &ids)?;
+    let (question, words) = question.split_once(' ').unwrap_or((question, ""));
+    match question {
+        "referent" | "referents" => push_meant(told, &asked, setting, question, words),
+        "declared" | "open" => push_edge(told, &asked, setting, question, words),
+        "passes" | "ignores" | "names" => push_set(told, setting, question, words),
+        "roots" => push_roots(told, &asked, setting),
+        _ => {
+            push_signed(told, setting, &metadata.packages);
+            Ok(())
+        }
+    }
 }
 
 /// What the document of the two members answers to the question that a line begins with, under the setting of the line.
 struct Asked;
 
-impl Question for Asked {
-    fn told(alloc: Global, line: &str) -> Result<String, Fail> {
-        let metadata = document_of(alloc, line)?;
-        let told = answer_of(alloc, &metadata, line);
-        metadata.let_go();
-        told
+impl Tell for Asked {
+    fn tell(told: &mut Text, line: &str) -> Result<(), Fail> {
+        let (question, _) = line.split_once(" / ").unwrap_or((line, ""));
+        let setting = setting_of(told.allocator(), line)?;
+        let line = format!(in told.allocator(); "{MEMBERS} / {line}")?;
+        let metadata = metadata_of(told.allocator(), line.as_str())?;
+        push_answer(told, &metadata, &setting, question)
     }
 }
 
-const REFERENTS: &[Row] = &[
+const ASKED: &[Row] = &[
+    // what a name means
     ("referent m z", "z"),
     ("referent m b-c", "b-c"),
     ("referent m q", "none"),
@@ -172,10 +167,7 @@ const REFERENTS: &[Row] = &[
     ("referents m z", "z"),
     ("referents m q", ""),
     ("referents m z / names all", "z"),
-];
-
-const ROOTS_OF_MEMBERS: &[Row] = &[
-    // members in the order of the document
+    // roots: members in the order of the document
     ("roots", "nm"),
     ("roots / root m", "m"),
     ("roots / root m / workspace on", "nm"),
@@ -186,9 +178,7 @@ const ROOTS_OF_MEMBERS: &[Row] = &[
     ("roots / include /w/q", ""),
     // an excluded crate is still a root
     ("roots / without n", "nm"),
-];
-
-const DECLARED_EDGES: &[Row] = &[
+    // declared edges
     ("declared m z dev", "Some(0)"),
     ("declared m z build", "Some(2)"),
     ("declared m b-c normal cfg(windows)", "Some(3)"),
@@ -198,9 +188,7 @@ const DECLARED_EDGES: &[Row] = &[
     ("declared m b-c normal", "None"),
     ("declared z m build", "None"),
     ("declared q m build", "None"),
-];
-
-const OPEN_EDGES: &[Row] = &[
+    // open edges
     ("open m z dev / ignore build workspace", "true"),
     ("open m z build / ignore build workspace", "false"),
     ("open m z normal / ignore build workspace", "false"),
@@ -217,68 +205,7 @@ const OPEN_EDGES: &[Row] = &[
         "open m b-c normal cfg(windows) / ignore build workspace / for x86_64-unknown-linux-gnu",
         "false",
     ),
-];
-
-/// Adds the name of a package, after a minus sign where it is excluded.
-fn push_package(text: &mut Text, setting: &Setting, pkg: &Package) {
-    text.push_str(if setting.excludes(pkg) { "-" } else { "+" });
-    text.push_str(pkg.name.as_str())
-}
-
-/// The names of packages, each after a minus sign where it is excluded.
-fn signed(alloc: Global, setting: &Setting, packages: &[Package]) -> Result<String, AllocError> {
-    let mut told = Text::new(alloc);
-    for pkg in packages {
-        push_package(&mut told, setting, pkg);
-    }
-    told.whole()
-}
-
-/// Which packages of the two members' document are excluded.
-fn excluded(alloc: Global, setting: &Setting) -> Result<String, Fail> {
-    let metadata = metadata(alloc, MEMBERS)?;
-    let told = signed(alloc, setting, &metadata.packages);
-    metadata.let_go();
-    Ok(told?)
-}
-
-/// Whether a dependency with a target text passes.
-fn passes(alloc: Global, setting: &Setting, text: &str) -> Result<String, Fail> {
-    let text = target_text(alloc, text)?;
-    let is_passing = setting.passes(alloc, &text)?;
-    Ok(format!(in alloc; "{is_passing}")?)
-}
-
-/// Whether a kind of dependency is ignored, of a member or of another crate.
-fn ignores(alloc: Global, setting: &Setting, words: &str) -> Result<String, Fail> {
-    let (kind, krate) = words.split_once(' ').unwrap_or((words, ""));
-    let is_ignored = setting.ignores(kind_named(kind), krate == "member");
-    Ok(format!(in alloc; "{is_ignored}")?)
-}
-
-/// What a setting answers to a question.
-fn set_answer(alloc: Global, setting: &Setting, question: &str) -> Result<String, Fail> {
-    let (name, words) = question.split_once(' ').unwrap_or((question, ""));
-    match name {
-        "passes" => passes(alloc, setting, words),
-        "names" => Ok(format!(in alloc; "{}", setting.is_all_named())?),
-        "ignores" => ignores(alloc, setting, words),
-        _ => excluded(alloc, setting),
-    }
-}
-
-/// What the setting of a line answers to the question that the line begins with.
-struct Set;
-
-impl Question for Set {
-    fn told(alloc: Global, line: &str) -> Result<String, Fail> {
-        let (question, _) = line.split_once(" / ").unwrap_or((line, ""));
-        let setting = setting_of(alloc, line)?;
-        set_answer(alloc, &setting, question)
-    }
-}
-
-const PASSING: &[Row] = &[
+    // target texts that pass
     ("passes", "true"),
     ("passes cfg(windows)", "true"),
     ("passes x86_64-pc-windows-msvc", "true"),
@@ -297,9 +224,7 @@ const PASSING: &[Row] = &[
         "passes x86_64-pc-windows-msvc / for x86_64-unknown-linux-gnu",
         "false",
     ),
-];
-
-const LEFT_OUT: &[Row] = &[
+    // what is excluded and ignored, and whether a name means all
     ("excluded / without n", "+m-n+z+b-c"),
     ("ignores dev member / ignore dev non-workspace", "false"),
     ("ignores dev other / ignore dev non-workspace", "true"),
@@ -310,10 +235,5 @@ const LEFT_OUT: &[Row] = &[
 
 #[test]
 fn what_documents_and_settings_answer(rt: HostRuntime) -> Result<(), Fail> {
-    hold::<Asked>(rt.alloc(), REFERENTS)?;
-    hold::<Asked>(rt.alloc(), ROOTS_OF_MEMBERS)?;
-    hold::<Asked>(rt.alloc(), DECLARED_EDGES)?;
-    hold::<Asked>(rt.alloc(), OPEN_EDGES)?;
-    hold::<Set>(rt.alloc(), PASSING)?;
-    hold::<Set>(rt.alloc(), LEFT_OUT)
+    hold::<Asked>(rt.alloc(), ASKED)
 }

@@ -2,8 +2,8 @@
 
 use crate::building::Built;
 use krates_document::declared_source::is_path_of;
-use krates_samples::table::{Question, Row, hold};
-use std::alloc::Global;
+use krates_samples::table::{Row, Tell, hold};
+use krates_samples::text::Text;
 use std::test::Fail;
 
 /// Paths, sources, and whether the source is that of the path.
@@ -30,10 +30,11 @@ const PATHS: &[Row] = &[
 /// Whether the source of a line is that of its path.
 struct IsPathOf;
 
-impl Question for IsPathOf {
-    fn told(alloc: Global, line: &str) -> Result<String, Fail> {
+impl Tell for IsPathOf {
+    fn tell(told: &mut Text, line: &str) -> Result<(), Fail> {
         let (path, source) = line.split_once(' ').unwrap_or((line, ""));
-        Ok(format!(in alloc; "{}", is_path_of(path, source))?)
+        write!(told, "{}", is_path_of(path, source));
+        Ok(())
     }
 }
 

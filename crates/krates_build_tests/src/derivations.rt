@@ -2,8 +2,8 @@
 
 use crate::lists::{Checked, OfLine, Steps};
 use krates_checkers::CheckError;
-use krates_samples::table::{Question, Row, hold};
-use std::alloc::Global;
+use krates_samples::table::{Row, Tell, hold};
+use krates_samples::text::Text;
 use std::test::Fail;
 
 pub(crate) const ORDERED: &[Row] = &[
@@ -188,8 +188,8 @@ pub(crate) const DECLARED: &[Row] = &[
 /// What a refusal of a checker prints. It is named by its word, and that of a step by the number of the step.
 struct Refused;
 
-impl Question for Refused {
-    fn told(alloc: Global, line: &str) -> Result<String, Fail> {
+impl Tell for Refused {
+    fn tell(told: &mut Text, line: &str) -> Result<(), Fail> {
         let refusal = match line {
             "document" => CheckError::Document,
             "empty" => CheckError::Empty,
@@ -197,7 +197,8 @@ impl Question for Refused {
             "open" => CheckError::Open,
             _ => CheckError::Step(line.parse()?),
         };
-        Ok(refusal.to_string(alloc)?)
+        write!(told, "{refusal}");
+        Ok(())
     }
 }
 

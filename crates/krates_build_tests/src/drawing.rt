@@ -50,24 +50,15 @@ fn mark_of(edge: &Edge) -> (&'static str, DepKind) {
     }
 }
 
-/// Adds an edge.
-fn push_edge(text: &mut Text, edge: &GraphEdge<Edge>) {
-    let (mark, kind) = mark_of(&edge.weight);
-    write!(
-        text,
-        " {}{mark}{}",
-        edge.source.index(),
-        edge.target.index()
-    );
-    if kind != DepKind::Normal {
-        write!(text, "({kind})");
-    }
-}
-
 /// Adds the edges in order.
 fn push_edges(text: &mut Text, edges: &[GraphEdge<Edge>]) {
     for edge in edges {
-        push_edge(text, edge);
+        let (mark, kind) = mark_of(&edge.weight);
+        let (source, target) = (edge.source.index(), edge.target.index());
+        write!(text, " {source}{mark}{target}");
+        if kind != DepKind::Normal {
+            write!(text, "({kind})");
+        }
     }
 }
 

@@ -3,39 +3,30 @@
 
 use crate::of_graph::{OfGraph, Told, push_marked};
 use krates::graph::Direction;
-use krates::{DepKind, EdgeId, Kid, Krates, Node, NodeId, Package};
+use krates::{DepKind, EdgeId, Krates, Node, NodeId, Package};
 use krates_samples::documents::word_of;
 use krates_samples::table::{Row, hold};
 use krates_samples::text::Text;
 use std::alloc::AllocError;
 use std::test::Fail;
 
-/// Adds a node, a mark, and what was found of it: the other node and the edge.
-fn push_found(text: &mut Text, node: NodeId, mark: &str, other: NodeId, edge: EdgeId) {
-    write!(
-        text,
-        " {}{mark}{} by {}",
-        node.index(),
-        other.index(),
-        edge.index()
-    )
-}
-
-/// Adds the direct dependents of a number, each after `<` with its edge.
+/// Adds the direct dependents of a number, each after `<` with its id and its edge.
 fn push_dependents(text: &mut Text, krates: &Krates, node: NodeId) -> Result<(), AllocError> {
     for found in &krates.direct_dependents(node)? {
-        push_found(text, node, "<", found.node_id, found.edge_id);
+        let (other, kid) = (found.node_id.index(), word_of(found.kid.repr()));
+        write!(text, " {}<{other} {kid} by {}", node.index(), found.edge_id.index());
     }
     Ok(())
 }
 
-/// Adds the direct dependencies of a number, where it is that of a node, each after `>` with its edge.
+/// Adds the direct dependencies of a number, where it is that of a node, each after `>` with its id and its edge.
 fn push_dependencies(text: &mut Text, krates: &Krates, node: NodeId) -> Result<(), AllocError> {
     if node.index() >= krates.graph().node_count() {
         return Ok(());
     }
     for found in &krates.direct_dependencies(node)? {
-        push_found(text, node, ">", found.node_id, found.edge_id);
+        let (other, kid) = (found.node_id.index(), word_of(found.kid.repr()));
+        write!(text, " {}>{other} {kid} by {}", node.index(), found.edge_id.index());
     }
     Ok(())
 }
@@ -57,24 +48,40 @@ const DIRECT: &[Row] = &[
     // `b` by its own edge; its feature `j` by the second; features have no dependencies, and nobody depends on `a`
     (
         "a b?;b=dep:b w=b?/j|b;j= / nodes a b;b w|b;j",
-        " 0>1 by 0 1<0 by 0 4<0 by 1",
+        " 0>1 b by 0 1<0 a by 0 4<0 a by 1",
     ),
     // a crate that needs itself
-    ("a a&dev", " 0<0 by 0 0>0 by 0"),
+    ("a a&dev", " 0<0 a by 0 0>0 a by 0"),
     // an edge into a feature counts for its crate, and the least counts
     (
         "a b!&with=default|b;default= / nodes a b|b;default",
-        " 0>1 by 0 1<0 by 0 2<0 by 0",
+        " 0>1 b by 0 1<0 a by 0 2<0 a by 0",
     ),
     // two crates by one declared dependency: the mapping has one, and both have the dependent
     (
         "a d|d@0.10.0|d@0.9.0 / nodes a d@0.10.0 d@0.9.0|d@0.10.0|d@0.9.0",
-        " 0>2 by 1 1<0 by 0 2<0 by 1",
+        " 0>2 d@0.9.0 by 1 1<0 a by 0 2<0 a by 1",
     ),
     // a circle
-    ("a b|b a", " 0<1 by 1 0>1 by 0 1<0 by 0 1>0 by 1"),
+    (
+        "a b|b a",
+        " 0<1 b by 1 0>1 b by 0 1<0 a by 0 1>0 a by 1",
+    ),
     // two declared dependencies on one crate name it once
-    ("a b b&dev|b / nodes a b&normal&dev|b", " 0>1 by 0 1<0 by 0"),
+    (
+        "a b b&dev|b / nodes a b&normal&dev|b",
+        " 0>1 b by 0 1<0 a by 0",
+    ),
+    // ids that the document has in another order
+    (
+        "c b a|b a|a / members c",
+        " 0<1 b by 0 0<2 c by 1 1<2 c by 2 1>0 a by 0 2>0 a by 1 2>1 b by 2",
+    ),
+    // an id that has the name of the directory
+    (
+        "a real&id=path+file:///w/dir#0.1.0|real&id=path+file:///w/dir#0.1.0",
+        " 0>1 dir by 0 1<0 a by 0",
+    ),
 ];
 
 /// The nodes that are features of the second one, and after a bar the edges that aren't a dependency for development.
@@ -117,71 +124,6 @@ const OWN: &[Row] = &[
     ),
 ];
 
-/// Adds a mark and the word of an id.
-fn push_kid(text: &mut Text, mark: &str, kid: &Kid) {
-    push_marked(text, mark, word_of(kid.repr()))
-}
-
-/// Adds the ids of the direct dependents of a number, each after `<`.
-fn push_dependent_kids(text: &mut Text, krates: &Krates, node: NodeId) -> Result<(), AllocError> {
-    for found in &krates.direct_dependents(node)? {
-        push_kid(text, "<", found.kid);
-    }
-    Ok(())
-}
-
-/// Adds the ids of the direct dependencies of a number, where it is that of a node, each after `>`.
-fn push_dependency_kids(text: &mut Text, krates: &Krates, node: NodeId) -> Result<(), AllocError> {
-    if node.index() >= krates.graph().node_count() {
-        return Ok(());
-    }
-    for found in &krates.direct_dependencies(node)? {
-        push_kid(text, ">", found.kid);
-    }
-    Ok(())
-}
-
-/// The id of each kept crate, with those of its direct dependents and dependencies.
-struct Kids;
-
-impl Told<Package> for Kids {
-    fn push(text: &mut Text, krates: &Krates, _line: &str) -> Result<(), Fail> {
-        for found in krates.krate_nodes() {
-            push_kid(text, " ", found.kid);
-            push_dependent_kids(text, krates, found.node_id)?;
-            push_dependency_kids(text, krates, found.node_id)?;
-        }
-        Ok(())
-    }
-}
-
-const KIDS: &[Row] = &[
-    ("c b a|b a|a / members c", " a<b<c b<c>a c>a>b"),
-    // of two versions the mapping has one
-    (
-        "a d|d@0.10.0|d@0.9.0 / nodes a d@0.10.0 d@0.9.0|d@0.10.0|d@0.9.0",
-        " a>d@0.9.0 d@0.10.0<a d@0.9.0<a",
-    ),
-    // by an edge into a feature, whose own node has no id
-    (
-        "a b!&with=default|b;default= / nodes a b|b;default",
-        " a>b b<a",
-    ),
-    // an id that has the name of the directory
-    (
-        "a real&id=path+file:///w/dir#0.1.0|real&id=path+file:///w/dir#0.1.0",
-        " a>dir dir<a",
-    ),
-];
-
-/// Adds what is at the end of an edge: the name of a crate, or a plus sign and the name of a feature.
-fn push_end(text: &mut Text, end: &Node<Package>) {
-    match end {
-        Node::Krate { krate, .. } => push_marked(text, " ", krate.name.as_str()),
-        Node::Feature { name, .. } => push_marked(text, " +", name.as_str()),
-    }
-}
-
 /// Adds what the declared dependency at a place of a node means.
 fn push_resolved(text: &mut Text, krates: &Krates, node: NodeId, place: usize) {
     match krates.resolved_dependency(node, place) {
@@ -190,11 +132,15 @@ fn push_resolved(text: &mut Text, krates: &Krates, node: NodeId, place: usize) {
     }
 }
 
-/// Adds after a bar what is at the ends of a node's edges, and what its first two declared dependencies mean.
+/// Adds after a bar what is at the ends of a node's edges, the name of a crate, or a plus sign and the name of a feature; and what its
+/// first two declared dependencies mean.
 fn push_ends(text: &mut Text, krates: &Krates, node: NodeId) {
     text.push_str("|");
     for (end, _) in krates.get_deps(node) {
-        push_end(text, end);
+        match end {
+            Node::Krate { krate, .. } => push_marked(text, " ", krate.name.as_str()),
+            Node::Feature { name, .. } => push_marked(text, " +", name.as_str()),
+        }
     }
     push_resolved(text, krates, node, 0);
     push_resolved(text, krates, node, 1)
@@ -257,7 +203,6 @@ const FILTERED: &[Row] = &[
 fn answers_along_edges(rt: HostRuntime) -> Result<(), Fail> {
     hold::<OfGraph<Direct>>(rt.alloc(), DIRECT)?;
     hold::<OfGraph<Own>>(rt.alloc(), OWN)?;
-    hold::<OfGraph<Kids>>(rt.alloc(), KIDS)?;
     hold::<OfGraph<Ends>>(rt.alloc(), ENDS)?;
     hold::<OfGraph<Filtered>>(rt.alloc(), FILTERED)
 }

@@ -10,7 +10,8 @@ use krates_drawing::limits::{Limits, plan_within};
 use krates_drawing::outline::Outline;
 use krates_resolve::{Document, Setting, admit, select};
 use krates_samples::documents::section;
-use krates_samples::table::{Question, Row, hold};
+use krates_samples::table::{Row, Tell, hold};
+use krates_samples::text::Text;
 use std::alloc::Global;
 use std::test::Fail;
 
@@ -33,28 +34,22 @@ fn outline(alloc: Global, metadata: &Metadata) -> Result<Outline, Fail> {
     Ok(outline_of(alloc, &document, &setting, selection)?)
 }
 
-/// How many nodes and edges are drawn of a document within these limits, or why nothing is.
-fn drawn_within(alloc: Global, metadata: &Metadata, limits: Limits) -> Result<String, Fail> {
-    let outline = outline(alloc, metadata)?;
-    let told = match plan_within(alloc, &outline, limits) {
-        Ok(plan) => {
-            let nodes = plan.planned_nodes.mappings.len() + plan.planned_nodes.features.len();
-            let edges = plan.planned_edges.len();
-            format!(in alloc; "{nodes} nodes, {edges} edges")
-        }
-        Err(error) => error.to_string(alloc),
-    };
-    Ok(told?)
-}
-
-/// How many nodes and edges are drawn of a document within the limits of its line.
+/// How many nodes and edges are drawn of a document within the limits of its line, or why nothing is.
 struct Drawn;
 
-impl Question for Drawn {
-    fn told(alloc: Global, line: &str) -> Result<String, Fail> {
+impl Tell for Drawn {
+    fn tell(told: &mut Text, line: &str) -> Result<(), Fail> {
         let limits = limits_of(line)?;
-        let metadata = metadata_of(alloc, line)?;
-        drawn_within(alloc, &metadata, limits)
+        let metadata = metadata_of(told.allocator(), line)?;
+        let outline = outline(told.allocator(), &metadata)?;
+        match plan_within(told.allocator(), &outline, limits) {
+            Ok(plan) => {
+                let nodes = plan.planned_nodes.mappings.len() + plan.planned_nodes.features.len();
+                write!(told, "{nodes} nodes, {} edges", plan.planned_edges.len())
+            }
+            Err(error) => write!(told, "{error}"),
+        }
+        Ok(())
     }
 }
 

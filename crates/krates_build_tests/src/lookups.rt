@@ -21,12 +21,6 @@ fn push_node(text: &mut Text, node: Option<&Node<Package>>) {
     }
 }
 
-/// Adds a node after its number.
-fn push_numbered(text: &mut Text, number: NodeId, node: &Node<Package>) {
-    write!(text, "{}=", number.index());
-    push_node(text, Some(node))
-}
-
 /// Adds the answer to a question about the crate of a word, or about its feature of the name after the word.
 fn push_by_id(text: &mut Text, krates: &Krates, question: &str, words: &str) -> Result<(), Fail> {
     let (word, name) = words.split_once(' ').unwrap_or((words, ""));
@@ -36,7 +30,10 @@ fn push_by_id(text: &mut Text, krates: &Krates, question: &str, words: &str) -> 
         "number" => push_number(text, krates.nid_for_kid(&kid)),
         "node" => push_node(text, krates.node_for_kid(&kid)),
         "found" => match krates.get_node(&kid, feature) {
-            Some((number, node)) => push_numbered(text, number, node),
+            Some((number, node)) => {
+                write!(text, "{}=", number.index());
+                push_node(text, Some(node))
+            }
             None => push_node(text, None),
         },
         _ => push_features(text, krates.get_enabled_features(&kid), "set", "none"),
@@ -98,15 +95,6 @@ fn push_krate(text: &mut Text, krates: &Krates, number: &str) -> Result<(), Fail
     Ok(())
 }
 
-/// Adds the crates of a name, all crates, or the members.
-fn push_found(text: &mut Text, krates: &Krates, question: &str, name: &str) {
-    match question {
-        "name" => push_matches(text, krates.krates_by_name(name)),
-        "nodes" => push_krate_nodes(text, krates),
-        _ => push_members(text, krates),
-    }
-}
-
 /// What a build of the line's document answers to the question of the line.
 struct LookedUp;
 
@@ -118,8 +106,16 @@ impl Told<Package> for LookedUp {
             "number" | "node" | "features" | "found" => push_by_id(text, krates, question, words),
             "search" => push_search(text, krates, words),
             "krate" => push_krate(text, krates, words),
+            "name" => {
+                push_matches(text, krates.krates_by_name(words));
+                Ok(())
+            }
+            "nodes" => {
+                push_krate_nodes(text, krates);
+                Ok(())
+            }
             _ => {
-                push_found(text, krates, question, words);
+                push_members(text, krates);
                 Ok(())
             }
         }

@@ -2,9 +2,8 @@
 
 use crate::builders::krates_of;
 use krates::{EnabledFeatures, FromPackage, Krates, NodeId, Package};
-use krates_samples::table::Question;
+use krates_samples::table::Tell;
 use krates_samples::text::Text;
-use std::alloc::Global;
 use std::marker::PhantomData;
 use std::test::Fail;
 
@@ -19,12 +18,10 @@ pub(crate) struct OfGraph<T: Told<N>, N = Package> {
     of: PhantomData<(T, N)>,
 }
 
-impl<T: Told<N>, N: FromPackage + Drop> Question for OfGraph<T, N> {
-    fn told(alloc: Global, line: &str) -> Result<String, Fail> {
-        let krates = krates_of::<N>(alloc, line)?;
-        let mut text = Text::new(alloc);
-        T::push(&mut text, &krates, line)?;
-        Ok(text.whole()?)
+impl<T: Told<N>, N: FromPackage + Drop> Tell for OfGraph<T, N> {
+    fn tell(told: &mut Text, line: &str) -> Result<(), Fail> {
+        let krates = krates_of::<N>(told.allocator(), line)?;
+        T::push(told, &krates, line)
     }
 }
 

@@ -5,7 +5,7 @@ ghost use Rattle.std.specs.Prelude.{Some, string_bytes};
 use crate::of_graph::{OfGraph, Told};
 use crate::own_types::Named;
 use krates::graph::GraphEdge;
-use krates::{Edge, Krates, Node};
+use krates::{Edge, Krates};
 use krates_samples::table::{Row, hold};
 use krates_samples::text::Text;
 use std::alloc::AllocError;
@@ -21,25 +21,11 @@ impl fmt::Display for Named {
     }
 }
 
-/// Adds the nodes as they are printed.
-fn push_nodes(text: &mut Text, nodes: &[Node<Named>]) {
-    for node in nodes {
-        write!(text, "{node},");
-    }
-}
-
-/// Adds what is printed of a copy of an edge.
-fn push_copy(text: &mut Text, edge: &Edge) -> Result<(), AllocError> {
-    let copy = edge.clone()?;
-    write!(text, "{copy};");
-    Ok(())
-}
-
 /// Adds after a bar the edges as their copies are printed.
 fn push_edges(text: &mut Text, edges: &[GraphEdge<Edge>]) -> Result<(), AllocError> {
     text.push_str("|");
     for edge in edges {
-        push_copy(text, &edge.weight)?;
+        write!(text, "{};", edge.weight.clone()?);
     }
     Ok(())
 }
@@ -49,7 +35,9 @@ struct Printed;
 
 impl Told<Named> for Printed {
     fn push(text: &mut Text, krates: &Krates<Named>, _line: &str) -> Result<(), Fail> {
-        push_nodes(text, krates.graph().raw_nodes());
+        for node in krates.graph().raw_nodes() {
+            write!(text, "{node},");
+        }
         Ok(push_edges(text, krates.graph().raw_edges())?)
     }
 }

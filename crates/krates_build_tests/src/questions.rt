@@ -3,70 +3,22 @@
 //! A line is a word for a crate and the name of a feature, or two crates, a kind and a target text; after it comes what is set, in
 //! sections.
 
-use crate::asked::{Edge, edge_of};
+use crate::asked::edge_of;
+use crate::real_documents::metadata_of;
 use crate::setting::setting_of;
 use krates_cm::{Dependency, Metadata};
-use krates_ids::{Error, Kid};
+use krates_ids::Kid;
 use krates_questions::Need;
 use krates_resolve::{Document, Setting, admit};
-use krates_samples::documents::{kid_of, metadata};
-use krates_samples::table::{Question, Row, compare, hold};
+use krates_samples::documents::kid_of;
+use krates_samples::table::{Row, Tell, compare, hold};
 use krates_samples::text::Text;
-use std::alloc::{AllocError, Global};
 use std::test::Fail;
 
 /// A member that declares a crate for tests and for its build, and another for Windows, and whose node lists one kind and one feature
 /// more; a package without a node, and a node without a package.
 const DOCUMENT: &str =
     "a b&dev b&build c&on=cfg(windows);f=b/g,x|b;g=|c|n / nodes a b&build&dev&normal c&on=cfg(windows);f e|b;g|c|q";
-
-/// What a document is asked about.
-trait Asked: Sized + Drop {
-    /// That of these words.
-    fn of_words(alloc: Global, words: &str) -> Result<Self, Fail>;
-
-    /// What is reported of it.
-    fn told<'a>(
-        &'a self,
-        alloc: Global,
-        asked: &Document<'a>,
-        setting: &Setting,
-    ) -> Result<String, AllocError>;
-}
-
-/// What a document answers about something under a setting, once it is admitted.
-fn answered<A: Asked>(
-    alloc: Global,
-    metadata: &Metadata,
-    setting: &Setting,
-    about: &A,
-) -> Result<String, Error> {
-    let ids = admit(alloc, metadata)?;
-    let asked = Document::new(alloc, metadata, &ids)?;
-    Ok(about.told(alloc, &asked, setting)?)
-}
-
-/// What the document answers about what the words of a line say.
-struct AnswersAbout<A> {
-    about: A,
-}
-
-impl<A: Asked> Question for AnswersAbout<A> {
-    fn told(alloc: Global, line: &str) -> Result<String, Fail> {
-        let (words, _) = line.split_once(" / ").unwrap_or((line, ""));
-        let about = A::of_words(alloc, words)?;
-        let setting = setting_of(alloc, line)?;
-        let metadata = metadata(alloc, DOCUMENT)?;
-        Ok(answered(alloc, &metadata, &setting, &about)?)
-    }
-}
-
-/// A crate, and the name of a feature.
-#[derive(Drop)]
-struct Feature {
-    krate: Kid,
-    name: String,
-}
 
 /// Adds whether a crate is a root and available, what there is for it, its package and whether it has a node.
 fn push_availability<'a>(told: &mut Text, asked: &Document<'a>, setting: &Setting, krate: &'a Kid) {
@@ -93,27 +45,20 @@ fn push_listed<'a>(told: &mut Text, asked: &Document<'a>, krate: &Kid, name: &'a
     }
 }
 
-impl Asked for Feature {
-    fn of_words(alloc: Global, words: &str) -> Result<Feature, Fail> {
-        let (krate, name) = words.split_once(' ').unwrap_or((words, ""));
-        let name = String::from_str(alloc, name)?;
-        let krate = kid_of(alloc, krate)?;
-        Ok(Feature { krate, name })
-    }
-
-    /// Whether the crate is a root and available, what there is for it, its package and whether it has a node; whether the feature is
-    /// listed, with its references; how many features are listed; and the crates on which its node depends.
-    fn told<'a>(
-        &'a self,
-        alloc: Global,
-        asked: &Document<'a>,
-        setting: &Setting,
-    ) -> Result<String, AllocError> {
-        let mut told = Text::new(alloc);
-        push_availability(&mut told, asked, setting, &self.krate);
-        push_listed(&mut told, asked, &self.krate, self.name.as_str());
-        told.whole()
-    }
+/// Adds what a document answers about a crate and the name of a feature.
+fn push_crate(
+    told: &mut Text,
+    metadata: &Metadata,
+    setting: &Setting,
+    words: &str,
+) -> Result<(), Fail> {
+    let (krate, name) = words.split_once(' ').unwrap_or((words, ""));
+    let krate = kid_of(told.allocator(), krate)?;
+    let ids = admit(told.allocator(), metadata)?;
+    let asked = Document::new(told.allocator(), metadata, &ids)?;
+    push_availability(told, &asked, setting, &krate);
+    push_listed(told, &asked, &krate, name);
+    Ok(())
 }
 
 /// The word for what there is for a dependency.
@@ -125,27 +70,40 @@ fn need_word(need: Need<'_>) -> &'static str {
     }
 }
 
-impl Asked for Edge {
-    fn of_words(alloc: Global, words: &str) -> Result<Edge, Fail> {
-        edge_of(alloc, words)
-    }
+/// Adds what there is for a dependency, how many kinds are listed, and as which kind it is declared.
+fn push_dependency(
+    told: &mut Text,
+    metadata: &Metadata,
+    setting: &Setting,
+    words: &str,
+) -> Result<(), Fail> {
+    let edge = edge_of(told.allocator(), words)?;
+    let ids = admit(told.allocator(), metadata)?;
+    let asked = Document::new(told.allocator(), metadata, &ids)?;
+    let need = asked.need(told.allocator(), setting, &edge.parent, &edge.child, &edge.info)?;
+    let kinds = asked.kinds(&edge.parent, &edge.child).len();
+    let declaration = asked.declaration(&edge.parent, &edge.child, &edge.info);
+    let declared = declaration.map(|dep: &Dependency| dep.kind);
+    write!(told, "{} of {kinds}, {declared:?}", need_word(need));
+    Ok(())
+}
 
-    /// What there is for the dependency, how many kinds are listed, and as which kind it is declared.
-    fn told<'a>(
-        &'a self,
-        alloc: Global,
-        asked: &Document<'a>,
-        setting: &Setting,
-    ) -> Result<String, AllocError> {
-        let need = need_word(asked.need(alloc, setting, &self.parent, &self.child, &self.info)?);
-        let kinds = asked.kinds(&self.parent, &self.child).len();
-        let declaration = asked.declaration(&self.parent, &self.child, &self.info);
-        let declared = declaration.map(|dep: &Dependency| dep.kind);
-        format!(in alloc; "{need} of {kinds}, {declared:?}")
+/// What the document answers about the crate and the feature, or about the dependency, that a line says.
+struct Answers;
+
+impl Tell for Answers {
+    fn tell(told: &mut Text, line: &str) -> Result<(), Fail> {
+        let (words, _) = line.split_once(" / ").unwrap_or((line, ""));
+        let setting = setting_of(told.allocator(), line)?;
+        let metadata = metadata_of(told.allocator(), DOCUMENT)?;
+        if words.split_whitespace().nth(2).is_some() {
+            return push_dependency(told, &metadata, &setting, words);
+        }
+        push_crate(told, &metadata, &setting, words)
     }
 }
 
-const CRATES: &[Row] = &[
+const ANSWERS: &[Row] = &[
     (
         "a f",
         r#"root true, stands true, Available(NodePlace { index: 0 }), package a, node true, lists true ["b/g", "x"] of 2: b c"#,
@@ -167,9 +125,7 @@ const CRATES: &[Row] = &[
         "q f",
         "root false, stands false, NoPackage, package none, node true, lists false [] of 0:",
     ),
-];
-
-const EDGES: &[Row] = &[
+    // dependencies
     ("a b dev", "wanted of 3, Some(Development)"),
     ("a b build / ignore dev", "wanted of 3, Some(Build)"),
     // what it is declared as doesn't depend on what is ignored
@@ -184,8 +140,7 @@ const EDGES: &[Row] = &[
 
 #[test]
 fn what_there_is_for_crates_and_dependencies(rt: HostRuntime) -> Result<(), Fail> {
-    hold::<AnswersAbout<Feature>>(rt.alloc(), CRATES)?;
-    hold::<AnswersAbout<Edge>>(rt.alloc(), EDGES)
+    hold::<Answers>(rt.alloc(), ANSWERS)
 }
 
 #[test]

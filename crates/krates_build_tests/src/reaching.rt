@@ -1,28 +1,17 @@
 //! Which crates lead to a node over a path of edges, and which nodes reach which.
 
 use crate::of_graph::{OfGraph, Told};
-use krates::{KrateMatch, Krates, NodeId, Package};
+use krates::{Krates, NodeId, Package};
 use krates_samples::table::{Row, hold};
 use krates_samples::text::Text;
 use std::alloc::AllocError;
 use std::test::Fail;
 
-/// Adds a node and a crate that depends on it: its number, its name, and the name in its id.
-fn push_dependent(text: &mut Text, node: NodeId, found: &KrateMatch<'_, Package>) {
-    write!(
-        text,
-        " {}<{}{}={}",
-        node.index(),
-        found.node_id.index(),
-        found.krate.name,
-        found.kid.name()
-    )
-}
-
-/// Adds all dependents of a number, each after `<`.
+/// Adds all dependents of a number, each after `<`: its number, its name, and the name in its id.
 fn push_dependents(text: &mut Text, krates: &Krates, node: NodeId) -> Result<(), AllocError> {
     for found in &krates.all_dependents(node)? {
-        push_dependent(text, node, found);
+        let (number, name) = (found.node_id.index(), found.krate.name.as_str());
+        write!(text, " {}<{number}{name}={}", node.index(), found.kid.name());
     }
     Ok(())
 }

@@ -2,24 +2,19 @@
 
 use crate::of_graph::{OfGraph, Told};
 use krates::cm::SourceKind;
-use krates::{DepKind, DirectDependent, KrateDetails, Krates, NodeId, Package};
+use krates::{DepKind, KrateDetails, Krates, NodeId, Package};
 use krates_samples::documents::section;
 use krates_samples::table::{Row, hold};
 use krates_samples::text::Text;
-use std::alloc::{AllocError, Global};
+use std::alloc::AllocError;
 use std::test::Fail;
 
-/// Adds a crate that depends on another, with the edge by which it does.
-fn push_dependent(text: &mut Text, krates: &Krates, found: &DirectDependent<'_, Package>) {
-    if let Some(edge) = krates.graph().raw_edges().get(found.edge_id.index()) {
-        write!(text, "{}{}, ", found.krate.name(), edge.weight);
-    }
-}
-
-/// Adds the crates that depend on a crate.
+/// Adds the crates that depend on a crate, each with the edge by which it does.
 fn push_dependents(text: &mut Text, krates: &Krates, node: NodeId) -> Result<(), AllocError> {
     for found in &krates.direct_dependents(node)? {
-        push_dependent(text, krates, found);
+        if let Some(edge) = krates.graph().raw_edges().get(found.edge_id.index()) {
+            write!(text, "{}{}, ", found.krate.name(), edge.weight);
+        }
     }
     Ok(())
 }
@@ -56,17 +51,6 @@ const DEPENDENTS: &[Row] = &[
     ("a b|b / of c", ""),
 ];
 
-/// Adds a crate that isn't the next one that is needed, and returns whether it is.
-fn push_other(text: &mut Text, krate: &Package, next: Option<&&Package>) -> bool {
-    match next {
-        Some(next) if next.id == krate.id => true,
-        _ => {
-            write!(text, "{}, ", krate.name());
-            false
-        }
-    }
-}
-
 /// The crates that only dev dependencies bring.
 struct ForTests;
 
@@ -75,8 +59,9 @@ impl Told<Package> for ForTests {
         let needed = krates.krates_filtered(DepKind::Dev)?;
         let mut place = 0usize;
         for krate in krates.krates() {
-            if push_other(text, krate, needed.get(place)) {
-                place = place.saturating_add(1);
+            match needed.get(place) {
+                Some(next) if next.id == krate.id => place = place.saturating_add(1),
+                _ => write!(text, "{}, ", krate.name()),
             }
         }
         Ok(())

@@ -1,11 +1,9 @@
 //! The steps by which what is selected was found, in numbers of the document.
 
-use crate::of_document::{OfDocument, OfSelection, ToldOfSelection};
-use krates_ids::Error;
-use krates_resolve::{NumberedFact, NumberedStep, Selection};
+use crate::of_document::{OfSelection, ToldOfSelection};
+use krates_resolve::{NumberedFact, Selection};
 use krates_samples::table::{Row, hold};
 use krates_samples::text::Text;
-use std::alloc::{AllocError, Global};
 use std::test::Fail;
 
 /// Adds a fact by its numbers.
@@ -29,35 +27,17 @@ fn push_use(text: &mut Text, used: Option<usize>) {
     }
 }
 
-/// Adds a step: the number of its rule, its fact and what it uses.
-fn push_step(text: &mut Text, step: &NumberedStep) {
-    write!(text, "{} ", step.reason.rule);
-    push_fact(text, step.fact);
-    push_use(text, step.reason.uses.first);
-    push_use(text, step.reason.uses.second);
-    text.push_str("; ");
-}
-
-/// Each step of a selection, in order.
-fn steps_of(alloc: Global, selection: &Selection) -> Result<String, AllocError> {
-    let mut text = Text::new(alloc);
-    for step in selection.steps.as_slice() {
-        push_step(&mut text, step);
-    }
-    text.whole()
-}
-
-/// The steps of a selection, or the text of the refusal.
+/// The steps of a selection in order, each with the number of its rule, its fact and what it uses.
 struct Stepped;
 
 impl ToldOfSelection for Stepped {
-    fn told_of_selection(
-        alloc: Global,
-        selected: &Result<Selection, Error>,
-    ) -> Result<String, AllocError> {
-        match selected {
-            Ok(selection) => steps_of(alloc, selection),
-            Err(error) => format!(in alloc; "{error}"),
+    fn push(told: &mut Text, selection: &Selection) {
+        for step in selection.steps.as_slice() {
+            write!(told, "{} ", step.reason.rule);
+            push_fact(told, step.fact);
+            push_use(told, step.reason.uses.first);
+            push_use(told, step.reason.uses.second);
+            told.push_str("; ");
         }
     }
 }
@@ -99,5 +79,5 @@ const STEPS: &[Row] = &[
 
 #[test]
 fn steps_of_selections(rt: HostRuntime) -> Result<(), Fail> {
-    hold::<OfDocument<OfSelection<Stepped>>>(rt.alloc(), STEPS)
+    hold::<OfSelection<Stepped>>(rt.alloc(), STEPS)
 }
