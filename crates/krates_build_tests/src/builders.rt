@@ -9,6 +9,7 @@ use crate::real_documents::metadata_of;
 use crate::setting::setting_of;
 use krates::{Builder, FromPackage, Krates, NoneFilter};
 use krates_samples::table::hold;
+use krates_samples::text::Text;
 use std::alloc::Global;
 use std::test::Fail;
 
@@ -48,7 +49,9 @@ impl<L: List> Ask for ByBuilder<L> {
     type Set = Builder;
 
     fn told(given: &Given<'_, Builder>, line: &str) -> Result<String, Fail> {
-        L::by_builder(given, list_in::<L>(line))
+        let mut told = Text::new(given.alloc);
+        L::push_by_builder(&mut told, given, list_in::<L>(line))?;
+        Ok(told.whole()?)
     }
 }
 

@@ -8,9 +8,8 @@ use crate::real_documents::metadata_of;
 use krates::cm::Metadata;
 use krates::{Builder, Error, Krates, OnFilter, Package};
 use krates_samples::documents::{kid_of, word_of};
-use krates_samples::table::{Question, Row, hold};
+use krates_samples::table::{Row, Tell, hold};
 use krates_samples::text::Text;
-use std::alloc::Global;
 use std::test::Fail;
 
 /// Adds a package after a mark: its name, and its word or id where that is another.
@@ -25,16 +24,7 @@ pub(crate) fn push_package(text: &mut Text, mark: &str, pkg: &Package) {
 /// The packages that aren't kept, each after a minus sign.
 #[derive(Drop)]
 pub(crate) struct Reported {
-    text: Text,
-}
-
-impl Reported {
-    /// None so far.
-    pub(crate) fn new(alloc: Global) -> Reported {
-        Reported {
-            text: Text::new(alloc),
-        }
-    }
+    pub(crate) text: Text,
 }
 
 impl OnFilter for Reported {
@@ -52,41 +42,37 @@ pub(crate) fn push_krates(text: &mut Text, krates: &Krates) {
     }
 }
 
-/// What a build kept and then what it reported, each in order, or the text of the refusal.
-pub(crate) fn told_of(
-    alloc: Global,
-    built: &Result<Krates, Error>,
-    reported: Reported,
-) -> Result<String, Fail> {
-    let reported = reported.text.whole()?;
-    let mut text = Text::new(alloc);
+/// Adds what a build kept and then what it reported, each in order, or the text of the refusal.
+pub(crate) fn push_built(told: &mut Text, built: &Result<Krates, Error>, reported: &Reported) {
     match built {
         Ok(krates) => {
-            push_krates(&mut text, krates);
-            text.push_str(reported.as_str());
+            push_krates(told, krates);
+            told.push_str(reported.text.as_str())
         }
-        Err(error) => write!(text, "{error}"),
+        Err(error) => write!(told, "{error}"),
     }
-    Ok(text.whole()?)
 }
 
-/// What a builder without an index keeps and reports.
-pub(crate) fn outcome(alloc: Global, builder: Builder, metadata: Metadata) -> Result<String, Fail>
+/// Adds what a builder without an index keeps and reports.
+pub(crate) fn push_outcome(told: &mut Text, builder: Builder, metadata: Box<Metadata>)
     requires no_index { builder.index ≡ None }
 {
-    let mut reported = Reported::new(alloc);
+    let text = Text::new(told.allocator());
+    let mut reported = Reported { text };
+    let metadata = Box::into_inner(metadata);
     let built: Result<Krates, Error> = builder.build_with_metadata(metadata, &mut reported);
-    told_of(alloc, &built, reported)
+    push_built(told, &built, &reported);
 }
 
 /// What is kept and reported of a document under the setting of its line.
 pub(crate) struct Built;
 
-impl Question for Built {
-    fn told(alloc: Global, line: &str) -> Result<String, Fail> {
-        let metadata = metadata_of(alloc, line)?;
-        let builder = builder_of(alloc, line)?;
-        outcome(alloc, builder, Box::into_inner(metadata))
+impl Tell for Built {
+    fn tell(told: &mut Text, line: &str) -> Result<(), Fail> {
+        let metadata = metadata_of(told.allocator(), line)?;
+        let builder = builder_of(told.allocator(), line)?;
+        push_outcome(told, builder, metadata);
+        Ok(())
     }
 }
 

@@ -3,11 +3,9 @@
 use crate::lists::{Ask, Given, List, OfLine, Steps, list_in};
 use krates_checkers::{CheckError, check};
 use krates_document::Setting;
-use krates_rules::Derivation;
 use krates_samples::facts::steps_of;
 use krates_samples::table::{Row, hold};
 use krates_samples::text::Text;
-use std::alloc::Global;
 use std::test::Fail;
 
 /// What is changed in a step.
@@ -34,64 +32,21 @@ const CHANGES: &[Change] = &[
     Change::Swapped,
 ];
 
-/// A step in words.
-#[derive(Clone, Copy)]
-struct Words<'a> {
-    rule: u8,
-    /// The plus sign of a crate that is kept.
-    sign: &'static str,
-    /// What is put before the name of the crate that the fact is about.
-    prefix: &'static str,
-    fact: &'a str,
-    uses: &'a str,
-    /// What it uses besides.
-    more: &'a str,
-}
-
-/// The words of a step after the change; where it uses itself, its own number comes before what it uses.
-fn changed(step: &str, change: Change) -> Result<Words<'_>, Fail> {
+/// Adds a step with this number after the change.
+fn push_changed(text: &mut Text, step: &str, number: usize, change: Change) -> Result<(), Fail> {
     let (rule, rest) = step.trim().split_once(' ').unwrap_or((step, ""));
     let (fact, uses) = rest.split_once(' ').unwrap_or((rest, ""));
     let (first, second) = uses.split_once(' ').unwrap_or((uses, ""));
-    let (sign, fact) = match fact.strip_prefix("+") {
-        Some(krate) => ("+", krate),
-        None => ("", fact),
-    };
-    let rule = rule.parse::<u8>()?;
-    let rule = if let Change::Rule = change {
-        rule % 7 + 1
-    } else {
-        rule
-    };
-    let prefix = if let Change::Crate = change { "z" } else { "" };
-    let (uses, more) = match change {
-        Change::Rule | Change::Crate => (uses, ""),
-        Change::Later => (second, ""),
-        Change::More => (uses, "0"),
-        Change::Swapped => (second, first),
-    };
-    Ok(Words {
-        rule,
-        sign,
-        prefix,
-        fact,
-        uses,
-        more,
-    })
-}
-
-/// Adds a step with this number after the change.
-fn push_changed(text: &mut Text, step: &str, number: usize, change: Change) -> Result<(), Fail> {
-    let words = changed(step, change)?;
-    write!(
-        text,
-        "{} {}{}{} ",
-        words.rule, words.sign, words.prefix, words.fact
-    );
-    if let Change::Later = change {
-        write!(text, "{number} ");
+    match change {
+        Change::Rule => write!(text, "{} {fact} {uses};", rule.parse::<u8>()? % 7 + 1),
+        Change::Crate => match fact.strip_prefix("+") {
+            Some(krate) => write!(text, "{rule} +z{krate} {uses};"),
+            None => write!(text, "{rule} z{fact} {uses};"),
+        },
+        Change::Later => write!(text, "{rule} {fact} {number} {second};"),
+        Change::More => write!(text, "{rule} {fact} {uses} 0;"),
+        Change::Swapped => write!(text, "{rule} {fact} {second} {first};"),
     }
-    write!(text, "{} {};", words.uses, words.more);
     Ok(())
 }
 
@@ -107,18 +62,6 @@ fn push_steps(text: &mut Text, steps: &str, number: usize, change: Change) -> Re
     Ok(())
 }
 
-/// The steps with the one of this number changed.
-fn with_change(
-    alloc: Global,
-    steps: &str,
-    number: usize,
-    change: Change,
-) -> Result<Derivation, Fail> {
-    let mut text = Text::new(alloc);
-    push_steps(&mut text, steps, number, change)?;
-    steps_of(alloc, text.whole()?.as_str())
-}
-
 /// Whether this change of the step with this number is refused for that step.
 fn is_refused(
     given: &Given<'_, Setting>,
@@ -126,7 +69,9 @@ fn is_refused(
     number: usize,
     change: Change,
 ) -> Result<bool, Fail> {
-    let derivation = with_change(given.alloc, steps, number, change)?;
+    let mut text = Text::new(given.alloc);
+    push_steps(&mut text, steps, number, change)?;
+    let derivation = steps_of(given.alloc, text.whole()?.as_str())?;
     let answer = check(given.alloc, given.metadata, given.set, None, &derivation);
     Ok(answer == Err(CheckError::Step(number)))
 }
@@ -142,14 +87,6 @@ fn refused(given: &Given<'_, Setting>, steps: &str, number: usize) -> Result<usi
     Ok(count)
 }
 
-/// Adds how many changes of each step are refused for it.
-fn push_refused(told: &mut String, given: &Given<'_, Setting>, steps: &str) -> Result<(), Fail> {
-    for (number, _) in steps.split(';').enumerate() {
-        write!(told, " {}", refused(given, steps, number)?)?;
-    }
-    Ok(())
-}
-
 /// What the check answers of the list, and of each step how many of its changes are refused for it.
 struct EachChanged;
 
@@ -158,9 +95,12 @@ impl Ask for EachChanged {
 
     fn told(given: &Given<'_, Setting>, line: &str) -> Result<String, Fail> {
         let steps = list_in::<Steps>(line);
-        let mut told = Steps::by_setting(given, None, steps)?;
-        push_refused(&mut told, given, steps)?;
-        Ok(told)
+        let mut told = Text::new(given.alloc);
+        Steps::push_by_setting(&mut told, given, None, steps)?;
+        for (number, _) in steps.split(';').enumerate() {
+            write!(told, " {}", refused(given, steps, number)?);
+        }
+        Ok(told.whole()?)
     }
 }
 

@@ -1,58 +1,13 @@
 //! Both checks with an index: what it adds to the features of a package counts, and without it doesn't.
 
+use crate::indexed::answer_of;
 use crate::lists::{Ask, Facts, Given, List, OfLine, Steps, list_in};
 use krates_document::Setting;
-use krates_ids::{CachingIndex, IndexAnswer, IndexKrate, IndexKrateVersion};
+use krates_ids::CachingIndex;
 use krates_samples::documents::section;
 use krates_samples::table::{Row, hold};
-use semver::Version;
-use std::alloc::Global;
-use std::collections::BTreeMap;
+use krates_samples::text::Text;
 use std::test::Fail;
-
-/// One feature with one reference, as `NAME=REFERENCE` says.
-fn features_of(alloc: Global, text: &str) -> Result<BTreeMap<String, Vec<String>>, Fail> {
-    let (name, reference) = text.split_once('=').unwrap_or((text, ""));
-    let values = vec![in alloc; String::from_str(alloc, reference)?]?;
-    let name = String::from_str(alloc, name)?;
-    let mut features = BTreeMap::new(alloc);
-    drop(features.insert(name, values)?);
-    Ok(features)
-}
-
-/// One version of a crate, with one feature, as `VERSION NAME=REFERENCE` says.
-fn indexed(alloc: Global, text: &str) -> Result<IndexKrate, Fail> {
-    let (version, feature) = text.split_once(' ').unwrap_or((text, ""));
-    let version = Version::parse(alloc, version)?;
-    let features = features_of(alloc, feature)?;
-    let known = IndexKrateVersion { version, features };
-    Ok(IndexKrate {
-        versions: vec![in alloc; known]?,
-    })
-}
-
-/// The index that has one crate, as `NAME@VERSION NAME=REFERENCE` says.
-fn index_of(alloc: Global, text: &str) -> Result<CachingIndex, Fail> {
-    let (name, rest) = text.split_once('@').unwrap_or((text, ""));
-    let known = indexed(alloc, rest)?;
-    let name = String::from_str(alloc, name)?;
-    let mut krates = BTreeMap::new(alloc);
-    drop(krates.insert(name, Some(known))?);
-    Ok(CachingIndex {
-        answer: IndexAnswer { krates },
-    })
-}
-
-/// What the check of a list answers with an index, and without it.
-fn both<L: List>(
-    given: &Given<'_, Setting>,
-    index: &CachingIndex,
-    text: &str,
-) -> Result<String, Fail> {
-    let with = L::by_setting(given, Some(index), text)?;
-    let without = L::by_setting(given, None, text)?;
-    Ok(format!(in given.alloc; "{with}, without {without}")?)
-}
 
 /// What the check of the list of a line answers with the index of the line, and without it.
 struct ByIndex<L> {
@@ -63,8 +18,13 @@ impl<L: List> Ask for ByIndex<L> {
     type Set = Setting;
 
     fn told(given: &Given<'_, Setting>, line: &str) -> Result<String, Fail> {
-        let index = index_of(given.alloc, section(line, "index ").unwrap_or(""))?;
-        both::<L>(given, &index, list_in::<L>(line))
+        let answer = answer_of(given.alloc, section(line, "index ").unwrap_or(""))?;
+        let index = CachingIndex { answer };
+        let mut told = Text::new(given.alloc);
+        L::push_by_setting(&mut told, given, Some(&index), list_in::<L>(line))?;
+        told.push_str(", without ");
+        L::push_by_setting(&mut told, given, None, list_in::<L>(line))?;
+        Ok(told.whole()?)
     }
 }
 

@@ -1,49 +1,40 @@
-//! Lists of facts: each is closed as it was written, and open without any one of its facts.
+//! Lists of facts: each is closed as it was written, and open without any one of its facts, or with one that drags others.
 
-use crate::facts::told;
+use crate::facts::push_answer;
 use crate::lists::{Ask, Checked, Facts, Given, List, OfLine, list_in};
 use krates_checkers::check_closed;
 use krates_document::Setting;
-use krates_rules::Fact;
 use krates_samples::facts::{facts_of, push_fact};
 use krates_samples::table::{Row, hold};
-use std::alloc::Global;
+use krates_samples::text::Text;
 use std::test::Fail;
 
-/// Adds what the check answers of these facts.
-fn push_answer(all: &mut String, given: &Given<'_, Setting>, facts: &[Fact]) -> Result<(), Fail> {
-    let alloc = given.alloc;
-    let answer = told(
-        alloc,
-        check_closed(alloc, given.metadata, given.set, None, facts),
-    )?;
-    write!(all, " {answer}")?;
-    Ok(())
-}
+/// Facts that drag others, which aren't there: a feature of a crate, an edge to one, and a feature that is toggled.
+const DRAGGING: &[&str] = &["z/f", "a>z", "a>a/z"];
 
-/// Adds what it answers of the facts of the words without the one at this place.
-fn push_without(
-    all: &mut String,
+/// Adds what the check answers of the facts of the words without the one at this place; or, at the places after them, with a fact that
+/// drags others.
+fn push_changed(
+    told: &mut Text,
     given: &Given<'_, Setting>,
     text: &str,
     place: usize,
 ) -> Result<(), Fail> {
     let mut facts = facts_of(given.alloc, text)?;
-    if place < facts.len() {
+    if let Some(after) = place.checked_sub(facts.len()) {
+        push_fact(&mut facts, given.alloc, DRAGGING.get(after).unwrap_or(&""))?;
+    } else {
         drop(facts.remove(place));
     }
-    push_answer(all, given, &facts)
-}
-
-/// Adds what it answers of the facts of the words without each of them in turn.
-fn push_without_each(all: &mut String, given: &Given<'_, Setting>, text: &str) -> Result<(), Fail> {
-    for (place, _) in text.split_whitespace().enumerate() {
-        push_without(all, given, text, place)?;
-    }
+    told.push_str(" ");
+    push_answer(
+        told,
+        check_closed(given.alloc, given.metadata, given.set, None, &facts),
+    );
     Ok(())
 }
 
-/// What it answers of the whole list, and after it what it answers without each of its facts.
+/// What it answers of the whole list, after it what it answers without each of its facts, and last with each fact that drags others.
 struct EachNeeded;
 
 impl Ask for EachNeeded {
@@ -51,71 +42,74 @@ impl Ask for EachNeeded {
 
     fn told(given: &Given<'_, Setting>, line: &str) -> Result<String, Fail> {
         let text = list_in::<Facts>(line);
-        let mut all = Facts::by_setting(given, None, text)?;
-        push_without_each(&mut all, given, text)?;
-        Ok(all)
+        let mut told = Text::new(given.alloc);
+        Facts::push_by_setting(&mut told, given, None, text)?;
+        for (place, _) in text.split_whitespace().chain(DRAGGING.iter().copied()).enumerate() {
+            push_changed(&mut told, given, text, place)?;
+        }
+        Ok(told.whole()?)
     }
 }
 
 const NEEDED: &[Row] = &[
-    ("a b&dev|b / facts +a a>b:dev +b", "yes open open open"),
+    ("a b&dev|b / facts +a a>b:dev +b", "yes open open open open open open"),
     (
         "a b?;b=dep:b w=b?/j|b;j= / facts +a a/b a/w a>b +b a>b/j b/j",
-        "yes open open open open open open open",
+        "yes open open open open open open open open open open",
     ),
     (
         "a b?;b=dep:b w=b?/j|b;j= / nodes a b;w|b;j / facts +a a/w",
-        "yes open open",
-    ),
-    (
-        "a b!&with=default|b / nodes a b|b;default / facts +a a>b +b b/default",
-        "yes open open open open",
-    ),
-    ("a b;x=b/nope|b / without b / facts +a a/x", "yes open open"),
-    (
-        "a b&dev;x=b/y|b;y= / facts +a a/x a>b:dev +b a>b/y b/y",
-        "yes open open open open open open",
-    ),
-    (
-        "a d|d@0.9.0|d@0.10.0 / nodes a d@0.9.0 d@0.10.0|d@0.9.0|d@0.10.0 / facts +a a>d@0.9.0 a>d@0.10.0 +d@0.9.0 +d@0.10.0",
         "yes open open open open open",
     ),
     (
+        "a b!&with=default|b / nodes a b|b;default / facts +a a>b +b b/default",
+        "yes open open open open open open open",
+    ),
+    ("a b;x=b/nope|b / without b / facts +a a/x", "yes open open open open open"),
+    (
+        "a b&dev;x=b/y|b;y= / facts +a a/x a>b:dev +b a>b/y b/y",
+        "yes open open open open open open open open open",
+    ),
+    (
+        "a d|d@0.9.0|d@0.10.0 / nodes a d@0.9.0 d@0.10.0|d@0.9.0|d@0.10.0 / facts +a a>d@0.9.0 a>d@0.10.0 +d@0.9.0 +d@0.10.0",
+        "yes open open open open open open open open",
+    ),
+    (
         "a b? b&dev;w=b?/j|b;j= / nodes a b&normal&dev;w|b;j / facts +a a/w a>b:dev +b a>b/j b/j",
-        "yes open open open open open open",
+        "yes open open open open open open open open open",
     ),
     (
         "a b?;s=b/k w=b?/j|b;j= k= / facts +a a/s a/w a>b +b a>b/j b/j a>b/k b/k",
-        "yes open open open open open open open open open",
+        "yes open open open open open open open open open open open open",
     ),
-    ("a;x=nope/y / facts +a a/x", "yes open open"),
-    ("a / nodes a;x / facts +a a/x", "yes open open"),
-    ("a;f=g g=f / facts +a a/f a/g", "yes open open open"),
-    ("a b!|b / facts +a a>b +b", "yes open open open"),
+    ("a;x=nope/y / facts +a a/x", "yes open open open open open"),
+    ("a / nodes a;x / facts +a a/x", "yes open open open open open"),
+    ("a;f=g g=f / facts +a a/f a/g", "yes open open open open open open"),
+    ("a b!|b / facts +a a>b +b", "yes open open open open open open"),
     (
         "a md-5?;x=md-5/std|md-5&lib=md5;std= / nodes a md-5&as=md5;x|md-5;std / facts +a a/x a>md-5 +md-5 a>md-5/std md-5/std",
-        "yes open open open open open open",
+        "yes open open open open open open open open open",
     ),
     (
         "a real?&as=alias;x=dep:alias|real / facts +a a/x a>real +real",
-        "yes open open open open",
+        "yes open open open open open open open",
     ),
     // a name that means the least of two versions, and both
     (
         "a d?;x=dep:d|d@0.10.0|d@0.9.0 / nodes a d@0.10.0 d@0.9.0;x|d@0.10.0|d@0.9.0 / facts +a a/x a>d@0.10.0 +d@0.10.0",
-        "yes open open open open",
+        "yes open open open open open open open",
     ),
     (
         "a d?;x=dep:d|d@0.10.0|d@0.9.0 / nodes a d@0.10.0 d@0.9.0;x|d@0.10.0|d@0.9.0 / names all / facts +a a/x a>d@0.10.0 +d@0.10.0 a>d@0.9.0 +d@0.9.0",
-        "yes open open open open open open",
+        "yes open open open open open open open open open",
     ),
     // a feature of both, to each of which an edge is kept
     (
         "a d;x=d?/f|d@0.10.0;f=|d@0.9.0;f= / nodes a d@0.10.0 d@0.9.0;x|d@0.10.0;f|d@0.9.0;f / names all / facts +a a/x a>d@0.10.0 +d@0.10.0 a>d@0.9.0 +d@0.9.0 a>d@0.10.0/f d@0.10.0/f a>d@0.9.0/f d@0.9.0/f",
-        "yes open open open open open open open open open open",
+        "yes open open open open open open open open open open open open open",
     ),
     // every crate needs the other
-    ("a b|b a / facts +a a>b +b b>a", "yes open open open open"),
+    ("a b|b a / facts +a a>b +b b>a", "yes open open open open open open open"),
 ];
 
 pub(crate) const ADDED: &[Row] = &[
@@ -167,88 +161,6 @@ pub(crate) const ADDED: &[Row] = &[
     ("a|b / facts +a a>b +b", "yes"),
 ];
 
-/// Adds what the check answers of the facts of the words and of one more.
-fn push_with(
-    all: &mut String,
-    given: &Given<'_, Setting>,
-    text: &str,
-    added: &str,
-) -> Result<(), Fail> {
-    let mut facts = facts_of(given.alloc, text)?;
-    push_fact(&mut facts, given.alloc, added)?;
-    push_answer(all, given, &facts)
-}
-
-/// Adds what it answers with each of three facts that drag others, which aren't there: a feature of a crate, an edge to one, and a
-/// feature that is toggled.
-fn push_with_each(all: &mut String, given: &Given<'_, Setting>, text: &str) -> Result<(), Fail> {
-    for &added in ["z/f", "a>z", "a>a/z"].as_slice() {
-        push_with(all, given, text, added)?;
-    }
-    Ok(())
-}
-
-/// What it answers of the list, and after it what it answers with each fact that drags others.
-struct Dragged;
-
-impl Ask for Dragged {
-    type Set = Setting;
-
-    fn told(given: &Given<'_, Setting>, line: &str) -> Result<String, Fail> {
-        let text = list_in::<Facts>(line);
-        let mut all = Facts::by_setting(given, None, text)?;
-        push_with_each(&mut all, given, text)?;
-        Ok(all)
-    }
-}
-
-const DRAGGED: &[Row] = &[
-    ("a b&dev|b / facts +a a>b:dev +b", "yes open open open"),
-    (
-        "a b?;b=dep:b w=b?/j|b;j= / facts +a a/b a/w a>b +b a>b/j b/j",
-        "yes open open open",
-    ),
-    (
-        "a b?;b=dep:b w=b?/j|b;j= / nodes a b;w|b;j / facts +a a/w",
-        "yes open open open",
-    ),
-    (
-        "a b!&with=default|b / nodes a b|b;default / facts +a a>b +b b/default",
-        "yes open open open",
-    ),
-    (
-        "a b;x=b/nope|b / without b / facts +a a/x",
-        "yes open open open",
-    ),
-    (
-        "a b&dev;x=b/y|b;y= / facts +a a/x a>b:dev +b a>b/y b/y",
-        "yes open open open",
-    ),
-    (
-        "a d|d@0.9.0|d@0.10.0 / nodes a d@0.9.0 d@0.10.0|d@0.9.0|d@0.10.0 / facts +a a>d@0.9.0 a>d@0.10.0 +d@0.9.0 +d@0.10.0",
-        "yes open open open",
-    ),
-    (
-        "a b? b&dev;w=b?/j|b;j= / nodes a b&normal&dev;w|b;j / facts +a a/w a>b:dev +b a>b/j b/j",
-        "yes open open open",
-    ),
-    (
-        "a b?;s=b/k w=b?/j|b;j= k= / facts +a a/s a/w a>b +b a>b/j b/j a>b/k b/k",
-        "yes open open open",
-    ),
-    ("a;x=nope/y / facts +a a/x", "yes open open open"),
-    ("a / nodes a;x / facts +a a/x", "yes open open open"),
-    ("a b!|b / facts +a a>b +b", "yes open open open"),
-    (
-        "a md-5?;x=md-5/std|md-5&lib=md5;std= / nodes a md-5&as=md5;x|md-5;std / facts +a a/x a>md-5 +md-5 a>md-5/std md-5/std",
-        "yes open open open",
-    ),
-    (
-        "a real?&as=alias;x=dep:alias|real / facts +a a/x a>real +real",
-        "yes open open open",
-    ),
-];
-
 pub(crate) const LOST: &[Row] = &[
     // what is lost keeps each list open: a feature, a package, a node, a dependency that isn't declared
     ("a b;x=b/nope|b / facts +a a/x a>b +b", "open"),
@@ -269,7 +181,6 @@ pub(crate) const LOST: &[Row] = &[
 #[test]
 fn lists_of_facts(rt: HostRuntime) -> Result<(), Fail> {
     hold::<OfLine<EachNeeded>>(rt.alloc(), NEEDED)?;
-    hold::<OfLine<Dragged>>(rt.alloc(), DRAGGED)?;
     hold::<OfLine<Checked<Facts>>>(rt.alloc(), ADDED)?;
     hold::<OfLine<Checked<Facts>>>(rt.alloc(), LOST)
 }

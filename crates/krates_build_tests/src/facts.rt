@@ -1,15 +1,15 @@
 //! Facts and steps of the checkers, in the small language of facts (`krates_samples::facts`), and what the checkers answer, in words.
 //!
-//! A line begins with a document, has the sections `ignore KIND`, `without SPECS` and `names all` where something is set, and
-//! ends with the section `steps` or the section `facts`.
+//! A line begins with a document, has the sections of a setting (`krates_samples::settings`) where something is set, and ends with the
+//! section `steps` or the section `facts`.
 
 use crate::lists::Sections;
+use crate::setting::setting_of;
 use krates_checkers::CheckError;
 use krates_document::Setting;
 use krates_ids::Kid;
-use krates_rules::{DepKind, Fact, Scope, Step};
-use krates_samples::documents::{kind_named, word_of};
-use krates_samples::settings::package_specs;
+use krates_rules::{DepKind, Fact, Step};
+use krates_samples::documents::word_of;
 use krates_samples::text::Text;
 use std::alloc::Global;
 use std::test::Fail;
@@ -72,37 +72,20 @@ pub(crate) fn push_steps(text: &mut Text, steps: &[Step]) {
     }
 }
 
-/// Sets what a section of a line asks.
-fn set(setting: &mut Setting, alloc: Global, section: &str) -> Result<(), Fail> {
-    let (setter, text) = section.split_once(' ').unwrap_or((section, ""));
-    match setter {
-        "ignore" => setting.ignore_kind(DepKind::from(kind_named(text)), Scope::All),
-        "names" => setting.all_named(text == "all"),
-        "without" => setting.exclude(package_specs(alloc, text)?)?,
-        _ => {}
-    }
-    Ok(())
-}
-
 impl Sections for Setting {
     fn of_line(alloc: Global, line: &str) -> Result<Setting, Fail> {
-        let mut setting = Setting::new(alloc);
-        for section in line.split(" / ") {
-            set(&mut setting, alloc, section)?;
-        }
-        Ok(setting)
+        setting_of(alloc, line)
     }
 }
 
-/// The word for an answer.
-pub(crate) fn told(alloc: Global, answer: Result<(), CheckError>) -> Result<String, Fail> {
-    let word = match answer {
-        Ok(()) => "yes",
-        Err(CheckError::Document) => "document",
-        Err(CheckError::Empty) => "empty",
-        Err(CheckError::Step(number)) => return Ok(format!(in alloc; "step {number}")?),
-        Err(CheckError::Memory) => "memory",
-        Err(CheckError::Open) => "open",
-    };
-    Ok(String::from_str(alloc, word)?)
+/// Adds the word for an answer.
+pub(crate) fn push_answer(text: &mut Text, answer: Result<(), CheckError>) {
+    match answer {
+        Ok(()) => text.push_str("yes"),
+        Err(CheckError::Document) => text.push_str("document"),
+        Err(CheckError::Empty) => text.push_str("empty"),
+        Err(CheckError::Step(number)) => write!(text, "step {number}"),
+        Err(CheckError::Memory) => text.push_str("memory"),
+        Err(CheckError::Open) => text.push_str("open"),
+    }
 }

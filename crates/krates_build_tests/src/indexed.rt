@@ -2,13 +2,13 @@
 
 ghost use Rattle.std.specs.Prelude.{⊤};
 
-use crate::building::{Reported, told_of};
+use crate::building::{Reported, push_built};
 use krates::index::{
     BuildIndexCache, FeaturesMap, IndexAnswer, IndexKrate, IndexKrateVersion, PackageNames,
 };
 use krates::{Builder, Error, Krates, OnFilter, Package};
 use krates_samples::documents::{metadata, section};
-use krates_samples::table::{Question, Row, hold};
+use krates_samples::table::{Row, Tell, hold};
 use krates_samples::text::Text;
 use semver::Version;
 use std::alloc::Global;
@@ -27,30 +27,29 @@ fn tally_of(names: &PackageNames) -> u8 {
     }
 }
 
-/// What a build reports whose index counts how often it is asked.
-fn told_counting(alloc: Global, line: &str, calls: Rc<Cell<u8>>) -> Result<String, Fail> {
-    let build: BuildIndexCache = Box::new(alloc, move |names: PackageNames| {
-        calls.set(calls.get().wrapping_add(tally_of(&names)));
-        IndexAnswer {
-            krates: BTreeMap::new(alloc),
-        }
-    })?;
-    let metadata = metadata(alloc, line)?;
-    let mut builder = Builder::new(alloc);
-    builder.with_crates_io_index(build);
-    let mut reported = Reported::new(alloc);
-    let built: Result<Krates, Error> = builder.build_with_metadata(metadata, &mut reported);
-    told_of(alloc, &built, reported)
-}
-
-/// What a build reports, and how often the index was asked.
+/// What a build reports, and how often its index was asked.
 struct AskedFor;
 
-impl Question for AskedFor {
-    fn told(alloc: Global, line: &str) -> Result<String, Fail> {
+impl Tell for AskedFor {
+    fn tell(told: &mut Text, line: &str) -> Result<(), Fail> {
+        let alloc = told.allocator();
         let calls = Rc::new(alloc, Cell::new(0u8))?;
-        let told = told_counting(alloc, line, calls.clone()?)?;
-        Ok(format!(in alloc; "{told}, asked {}", calls.get())?)
+        let counted = calls.clone()?;
+        let build: BuildIndexCache = Box::new(alloc, move |names: PackageNames| {
+            counted.set(counted.get().wrapping_add(tally_of(&names)));
+            IndexAnswer {
+                krates: BTreeMap::new(alloc),
+            }
+        })?;
+        let metadata = metadata(alloc, line)?;
+        let mut builder = Builder::new(alloc);
+        builder.with_crates_io_index(build);
+        let text = Text::new(alloc);
+        let mut reported = Reported { text };
+        let built: Result<Krates, Error> = builder.build_with_metadata(metadata, &mut reported);
+        push_built(told, &built, &reported);
+        write!(told, ", asked {}", calls.get());
+        Ok(())
     }
 }
 
@@ -119,42 +118,23 @@ pub(crate) fn answer_with(
     Ok(IndexAnswer { krates })
 }
 
-/// What an index knows of a version, as `VERSION NAME=REFERENCE` says.
-pub(crate) fn known_version(alloc: Global, text: &str) -> Result<IndexKrateVersion, Fail> {
-    let (version, feature) = text.split_once(' ').unwrap_or((text, ""));
+/// The answer of an index that has one crate, as `NAME@VERSION NAME=REFERENCE` says, and none of a second name.
+pub(crate) fn answer_of(alloc: Global, text: &str) -> Result<IndexAnswer, Fail> {
+    let (name, rest) = text.split_once('@').unwrap_or((text, ""));
+    let (version, feature) = rest.split_once(' ').unwrap_or((rest, ""));
     let version = Version::parse(alloc, version)?;
     let features = features_of(alloc, feature)?;
-    Ok(IndexKrateVersion { version, features })
-}
-
-/// The answer of an index that has one crate, as `NAME@VERSION NAME=REFERENCE` says, and none of a second name.
-fn answer_of(alloc: Global, text: &str) -> Result<IndexAnswer, Fail> {
-    let (name, rest) = text.split_once('@').unwrap_or((text, ""));
-    let mut answer = answer_with(alloc, name, known_version(alloc, rest)?)?;
+    let mut answer = answer_with(alloc, name, IndexKrateVersion { version, features })?;
     drop(answer.krates.insert(String::from_str(alloc, "q")?, None)?);
     Ok(answer)
-}
-
-/// How many crates a build kept, or the refusal, and how many features the reported packages have.
-fn told_counts(
-    alloc: Global,
-    built: &Result<Krates, Error>,
-    features: usize,
-) -> Result<String, Fail> {
-    let mut text = Text::new(alloc);
-    match built {
-        Ok(krates) => write!(text, "{} kept", krates.len()),
-        Err(error) => write!(text, "{error}"),
-    }
-    write!(text, ", {features} reported");
-    Ok(text.whole()?)
 }
 
 /// How many crates are kept, or the refusal, and how many features the reported packages have, with the index of the line.
 struct Corrected;
 
-impl Question for Corrected {
-    fn told(alloc: Global, line: &str) -> Result<String, Fail> {
+impl Tell for Corrected {
+    fn tell(told: &mut Text, line: &str) -> Result<(), Fail> {
+        let alloc = told.allocator();
         let answer = answer_of(alloc, section(line, "index ").unwrap_or(""))?;
         let build: BuildIndexCache = Box::new(alloc, move |names: PackageNames| {
             drop(names);
@@ -165,7 +145,12 @@ impl Question for Corrected {
         builder.with_crates_io_index(build);
         let mut reported = Features { count: 0 };
         let built: Result<Krates, Error> = builder.build_with_metadata(metadata, &mut reported);
-        told_counts(alloc, &built, reported.count)
+        match &built {
+            Ok(krates) => write!(told, "{} kept", krates.len()),
+            Err(error) => write!(told, "{error}"),
+        }
+        write!(told, ", {} reported", reported.count);
+        Ok(())
     }
 }
 

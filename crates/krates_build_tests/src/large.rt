@@ -3,13 +3,13 @@
 ghost use Rattle.std.specs.Prelude.{◌≡◌, None};
 
 use crate::builds_by_cargo::Count;
-use crate::starved_checks::push_step;
 use krates::cm::MetadataCommand;
-use krates::derive::{Derivation, Fact, check, check_closed};
+use krates::derive::{check, check_closed};
 use krates::{Builder, DepKind, Krates, Metadata, NodeId, OnFilter, Package};
-use krates_samples::documents::kid_of;
-use krates_samples::large::{FEATURES, PACKAGES, large_document, long_name};
+use krates_samples::facts::{facts_of, steps_of};
+use krates_samples::large::{FEATURES, large_document, long_name, push_names};
 use krates_samples::table::compare;
+use krates_samples::text::Text;
 use std::alloc::Global;
 use std::test::Fail;
 
@@ -28,9 +28,9 @@ pub(crate) fn built<F: OnFilter>(
     Ok(Box::new(alloc, krates)?)
 }
 
-/// How many crates, nodes and edges a graph has, how many crates the first of them depends on, how many depend on the second, how
+/// Adds how many crates, nodes and edges a graph has, how many crates the first of them depends on, how many depend on the second, how
 /// many are reached without dependencies for tests, and how long the last name is.
-fn sizes(alloc: Global, krates: &Krates) -> Result<String, Fail> {
+fn push_sizes(told: &mut Text, krates: &Krates) -> Result<(), Fail> {
     let nodes = krates.graph().node_count();
     if nodes == 0 {
         return Err(Fail::new("no node"));
@@ -39,22 +39,25 @@ fn sizes(alloc: Global, krates: &Krates) -> Result<String, Fail> {
     let needing = krates.direct_dependents(NodeId::new(1))?.len();
     let reached = krates.krates_filtered(DepKind::Dev)?.len();
     let last = krates.krates().last();
-    Ok(format!(in alloc;
+    write!(
+        told,
         "{} crates, {nodes} nodes, {} edges, {needed} needed, {needing} needing, {reached} reached, {} bytes",
         krates.len(),
         krates.graph().edge_count(),
         last.map_or(0, |pkg: &Package| pkg.name.len())
-    )?)
+    );
+    Ok(())
 }
 
-/// How many crates all in all depend on the second, and whether the first feature of the first crate, of which each names
+/// Adds how many crates all in all depend on the second, and whether the first feature of the first crate, of which each names
 /// the next, leads to the last, and that to the first.
-fn paths(alloc: Global, krates: &Krates) -> Result<String, Fail> {
+fn push_paths(told: &mut Text, krates: &Krates) -> Result<(), Fail> {
     let (first, last) = (NodeId::new(2_002), NodeId::new(7_002));
     let needing = krates.all_dependents(NodeId::new(1))?.len();
     let forth = krates.reaches(first, last)?;
     let back = krates.reaches(last, first)?;
-    Ok(format!(in alloc; "{needing} needing, {forth}, {back}")?)
+    write!(told, "; {needing} needing, {forth}, {back}");
+    Ok(())
 }
 
 #[test]
@@ -63,97 +66,43 @@ fn a_large_build(rt: HostRuntime) -> Result<(), Fail> {
     let json = large_document(alloc)?;
     let mut count = Count { packages: 0 };
     let krates = built(alloc, Builder::new(alloc), json.as_str(), &mut count)?;
-    let told = sizes(alloc, &krates)?;
+    let mut told = Text::new(alloc);
+    push_sizes(&mut told, &krates)?;
+    push_paths(&mut told, &krates)?;
     compare(
-        "sizes",
+        "the large document",
         told.as_str(),
-        "2002 crates, 7003 nodes, 12002 edges, 2001 needed, 1 needing, 2002 reached, 70000 bytes",
-    )?;
-    let told = paths(alloc, &krates)?;
-    compare("paths", told.as_str(), "2 needing, true, false")
+        "2002 crates, 7003 nodes, 12002 edges, 2001 needed, 1 needing, 2002 reached, 70000 bytes; 2 needing, true, false",
+    )
 }
 
-/// A feature of the member is enabled.
-fn feature(alloc: Global, number: u32) -> Result<Fact, Fail> {
-    Ok(Fact::Feature {
-        krate: kid_of(alloc, "a")?,
-        name: format!(in alloc; "f{number}")?,
-    })
+/// Adds a step for each feature, each by the one before it.
+fn push_steps(text: &mut Text) {
+    text.push_str("1 a/f1000;");
+    for (place, number) in FEATURES.enumerate() {
+        write!(text, "3 a/f{} {place};", number.saturating_add(1));
+    }
 }
 
-/// Adds a step for each feature after the first.
-fn push_steps(alloc: Global, derivation: &mut Derivation) -> Result<(), Fail> {
+/// Adds all facts of the document: the member and its features, and the crates that it needs with the edges to them.
+fn push_facts(text: &mut Text, long: &str) {
+    text.push_str("+a a/f6000");
     for number in FEATURES {
-        let fact = feature(alloc, number.saturating_add(1))?;
-        push_step(alloc, derivation, 3, fact)?;
+        write!(text, " a/f{number}");
     }
-    Ok(())
-}
-
-/// A step for each feature, each by the one before it.
-fn steps(alloc: Global) -> Result<Derivation, Fail> {
-    let steps = Vec::new(alloc);
-    let mut derivation = Derivation { steps };
-    push_step(alloc, &mut derivation, 1, feature(alloc, 1_000)?)?;
-    push_steps(alloc, &mut derivation)?;
-    Ok(derivation)
-}
-
-/// Adds the edge to a crate that the member needs, and that crate.
-fn push_needed(facts: &mut Vec<Fact>, alloc: Global, name: &str) -> Result<(), Fail> {
-    let child = kid_of(alloc, name)?;
-    facts.push(Fact::Crate(child.clone()?))?;
-    facts.push(Fact::Kept {
-        parent: kid_of(alloc, "a")?,
-        child,
-        kind: DepKind::Normal,
-        cfg: None,
-    })?;
-    Ok(())
-}
-
-/// Adds the same for one of the many packages.
-fn push_package(facts: &mut Vec<Fact>, alloc: Global, number: u32) -> Result<(), Fail> {
-    let name = format!(in alloc; "b{number}")?;
-    push_needed(facts, alloc, name.as_str())
-}
-
-/// Adds the same for each of them.
-fn push_each_package(facts: &mut Vec<Fact>, alloc: Global) -> Result<(), Fail> {
-    for number in PACKAGES {
-        push_package(facts, alloc, number)?;
-    }
-    Ok(())
-}
-
-/// Adds that each of the many features is enabled, except the last that they name.
-fn push_each_feature(facts: &mut Vec<Fact>, alloc: Global) -> Result<(), Fail> {
-    for number in FEATURES {
-        facts.push(feature(alloc, number)?)?;
-    }
-    Ok(())
-}
-
-/// Adds all facts of the document.
-fn push_facts(facts: &mut Vec<Fact>, alloc: Global) -> Result<(), Fail> {
-    facts.push(Fact::Crate(kid_of(alloc, "a")?))?;
-    facts.push(feature(alloc, 6_000)?)?;
-    push_each_feature(facts, alloc)?;
-    push_needed(facts, alloc, long_name(alloc)?.as_str())?;
-    push_each_package(facts, alloc)
-}
-
-/// All facts of the document.
-fn facts(alloc: Global) -> Result<Vec<Fact>, Fail> {
-    let mut facts = Vec::new(alloc);
-    push_facts(&mut facts, alloc)?;
-    Ok(facts)
+    write!(text, " +{long} a>{long}");
+    push_names(text, " +", "");
+    push_names(text, " a>", "")
 }
 
 /// Checks the steps and the facts.
 fn hold_lists(alloc: Global, metadata: &Metadata, builder: &Builder) -> Result<(), Fail> {
-    check(metadata, builder, None, &steps(alloc)?)?;
-    check_closed(metadata, builder, None, &facts(alloc)?)?;
+    let mut text = Text::new(alloc);
+    push_steps(&mut text);
+    check(metadata, builder, None, &steps_of(alloc, text.whole()?.as_str())?)?;
+    let mut text = Text::new(alloc);
+    push_facts(&mut text, long_name(alloc)?.as_str());
+    check_closed(metadata, builder, None, &facts_of(alloc, text.whole()?.as_str())?)?;
     Ok(())
 }
 
@@ -161,8 +110,6 @@ fn hold_lists(alloc: Global, metadata: &Metadata, builder: &Builder) -> Result<(
 fn large_lists(rt: HostRuntime) -> Result<(), Fail> {
     let alloc = rt.alloc();
     let json = large_document(alloc)?;
-    let metadata = MetadataCommand::parse(alloc, json.as_str())?;
-    let held = hold_lists(alloc, &metadata, &Builder::new(alloc));
-    metadata.let_go();
-    held
+    let metadata = Box::new(alloc, MetadataCommand::parse(alloc, json.as_str())?)?;
+    hold_lists(alloc, &metadata, &Builder::new(alloc))
 }

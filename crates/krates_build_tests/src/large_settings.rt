@@ -3,13 +3,13 @@
 ghost use Rattle.std.specs.Prelude.{◌≡◌, OnOk};
 
 use crate::builds_by_cargo::Count;
-use crate::indexed::{answer_with, known_version};
+use crate::indexed::answer_of;
 use crate::large::built;
+use crate::real_documents::metadata_of;
 use crate::starved_commands::parts;
 use krates::cm::{Features, MetadataCommand};
 use krates::index::CachingIndex;
-use krates::{Builder, Cmd, Kid, Metadata, Package, PackageId};
-use krates_samples::documents::metadata;
+use krates::{Builder, Cmd, Kid, Metadata, PackageId};
 use krates_samples::large::{large_document, push_features, push_names};
 use krates_samples::settings;
 use krates_samples::settings::{package_specs, targets_of};
@@ -30,19 +30,8 @@ fn names(alloc: Global, before: &str) -> Result<Vec<String>, Fail> {
     Ok(parts(alloc, names.as_str().trim_end(), ' ')?)
 }
 
-/// Makes roots of the crates at many paths, of which none is there, and of the member's.
-fn set_paths(builder: &mut Builder, alloc: Global) -> Result<(), Fail>
-    ensures index { OnOk result (builder.new.index ≡ builder.old.index) }
-{
-    let names = named(alloc, "/w/")?;
-    let paths = settings::words_of(alloc, names.as_str())?;
-    builder
-        .include_workspace_crates(paths.as_slice())?
-        .include_workspace_crates(&["/w/a"])?;
-    Ok(())
-}
-
-/// Excludes the packages of many names, includes the targets of these names, and makes roots of crates.
+/// Excludes the packages of many names, includes the targets of these names, and makes roots of the crates at many paths, of which none is
+/// there, and of the member's.
 fn set_lists(builder: &mut Builder, alloc: Global) -> Result<(), Fail>
     ensures index { OnOk result (builder.new.index ≡ builder.old.index) }
 {
@@ -50,7 +39,12 @@ fn set_lists(builder: &mut Builder, alloc: Global) -> Result<(), Fail>
     builder
         .exclude(package_specs(alloc, names.as_str())?)?
         .include_targets(targets_of(alloc, names.as_str())?)?;
-    set_paths(builder, alloc)
+    let names = named(alloc, "/w/")?;
+    let paths = settings::words_of(alloc, names.as_str())?;
+    builder
+        .include_workspace_crates(paths.as_slice())?
+        .include_workspace_crates(&["/w/a"])?;
+    Ok(())
 }
 
 #[test]
@@ -107,42 +101,23 @@ fn a_large_command(rt: HostRuntime) -> Result<(), Fail> {
     Ok(())
 }
 
-/// An index that knows a feature without references of the version 1.0.0 of `p`.
-fn index(alloc: Global) -> Result<CachingIndex, Fail> {
-    let known = known_version(alloc, "1.0.0 std")?;
-    let answer = answer_with(alloc, "p", known)?;
-    Ok(CachingIndex { answer })
-}
-
 /// The document of a package with the many features.
-fn featured(alloc: Global) -> Result<Metadata, Fail> {
+fn featured(alloc: Global) -> Result<Box<Metadata>, Fail> {
     let mut line = Text::new(alloc);
     line.push_str("p@1.0.0&crates.io;");
     push_features(&mut line);
-    metadata(alloc, line.whole()?.as_str())
-}
-
-/// Corrects the first of the packages; how many features it then has.
-fn correct_all(
-    alloc: Global,
-    index: &CachingIndex,
-    packages: &mut [Package],
-) -> Result<usize, Fail> {
-    let Some(pkg) = packages.first_mut() else {
-        return Err(Fail::new("no package"));
-    };
-    index.correct(alloc, pkg)?;
-    Ok(pkg.features.len())
+    metadata_of(alloc, line.whole()?.as_str())
 }
 
 #[test]
 fn a_large_package(rt: HostRuntime) -> Result<(), Fail> {
-    let alloc = rt.alloc();
-    let index = index(alloc)?;
-    let mut metadata = featured(alloc)?;
-    let count = correct_all(alloc, &index, metadata.packages.as_mut_slice());
-    metadata.let_go();
-    assert_eq!(rt; count?, 5_002);
+    let answer = answer_of(rt.alloc(), "p@1.0.0 std")?;
+    let mut metadata = featured(rt.alloc())?;
+    let Some(pkg) = metadata.packages.first_mut() else {
+        return Err(Fail::new("no package"));
+    };
+    CachingIndex { answer }.correct(rt.alloc(), pkg)?;
+    assert_eq!(rt; pkg.features.len(), 5_002);
     Ok(())
 }
 

@@ -1,6 +1,6 @@
 //! The two kinds of lists that the checkers are asked about, and what is given with them.
 
-use crate::facts::told;
+use crate::facts::push_answer;
 use crate::real_documents::metadata_of;
 use krates::Builder;
 use krates_cm::Metadata;
@@ -9,6 +9,7 @@ use krates_ids::CachingIndex;
 use krates_samples::documents::section;
 use krates_samples::facts::{facts_of, steps_of};
 use krates_samples::table::Question;
+use krates_samples::text::Text;
 use std::alloc::Global;
 use std::test::Fail;
 
@@ -58,15 +59,20 @@ pub(crate) trait List {
     /// The section of a line that has the list.
     const SECTION: &'static str;
 
-    /// What the check answers of the list of a text under a setting, with an index or without one.
-    fn by_setting(
+    /// Adds what the check answers of the list of a text under a setting, with an index or without one.
+    fn push_by_setting(
+        told: &mut Text,
         given: &Given<'_, Setting>,
         index: Option<&CachingIndex>,
         text: &str,
-    ) -> Result<String, Fail>;
+    ) -> Result<(), Fail>;
 
-    /// What the check answers of the list of a text by a builder, without an index.
-    fn by_builder(given: &Given<'_, Builder>, text: &str) -> Result<String, Fail>;
+    /// Adds what the check answers of the list of a text by a builder, without an index.
+    fn push_by_builder(
+        told: &mut Text,
+        given: &Given<'_, Builder>,
+        text: &str,
+    ) -> Result<(), Fail>;
 }
 
 /// The list of a line, as the text of its section.
@@ -80,24 +86,29 @@ pub(crate) struct Steps;
 impl List for Steps {
     const SECTION: &'static str = "steps";
 
-    fn by_setting(
+    fn push_by_setting(
+        told: &mut Text,
         given: &Given<'_, Setting>,
         index: Option<&CachingIndex>,
         text: &str,
-    ) -> Result<String, Fail> {
+    ) -> Result<(), Fail> {
         let steps = steps_of(given.alloc, text)?;
-        told(
-            given.alloc,
-            krates_checkers::check(given.alloc, given.metadata, given.set, index, &steps),
-        )
+        let answer = krates_checkers::check(given.alloc, given.metadata, given.set, index, &steps);
+        push_answer(told, answer);
+        Ok(())
     }
 
-    fn by_builder(given: &Given<'_, Builder>, text: &str) -> Result<String, Fail> {
+    fn push_by_builder(
+        told: &mut Text,
+        given: &Given<'_, Builder>,
+        text: &str,
+    ) -> Result<(), Fail> {
         let steps = steps_of(given.alloc, text)?;
-        told(
-            given.alloc,
+        push_answer(
+            told,
             krates::derive::check(given.metadata, given.set, None, &steps),
-        )
+        );
+        Ok(())
     }
 }
 
@@ -107,24 +118,31 @@ pub(crate) struct Facts;
 impl List for Facts {
     const SECTION: &'static str = "facts";
 
-    fn by_setting(
+    fn push_by_setting(
+        told: &mut Text,
         given: &Given<'_, Setting>,
         index: Option<&CachingIndex>,
         text: &str,
-    ) -> Result<String, Fail> {
+    ) -> Result<(), Fail> {
         let facts = facts_of(given.alloc, text)?;
-        told(
-            given.alloc,
+        push_answer(
+            told,
             krates_checkers::check_closed(given.alloc, given.metadata, given.set, index, &facts),
-        )
+        );
+        Ok(())
     }
 
-    fn by_builder(given: &Given<'_, Builder>, text: &str) -> Result<String, Fail> {
+    fn push_by_builder(
+        told: &mut Text,
+        given: &Given<'_, Builder>,
+        text: &str,
+    ) -> Result<(), Fail> {
         let facts = facts_of(given.alloc, text)?;
-        told(
-            given.alloc,
+        push_answer(
+            told,
             krates::derive::check_closed(given.metadata, given.set, None, &facts),
-        )
+        );
+        Ok(())
     }
 }
 
@@ -137,6 +155,8 @@ impl<L: List> Ask for Checked<L> {
     type Set = Setting;
 
     fn told(given: &Given<'_, Setting>, line: &str) -> Result<String, Fail> {
-        L::by_setting(given, None, list_in::<L>(line))
+        let mut told = Text::new(given.alloc);
+        L::push_by_setting(&mut told, given, None, list_in::<L>(line))?;
+        Ok(told.whole()?)
     }
 }

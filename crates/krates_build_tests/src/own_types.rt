@@ -10,7 +10,7 @@ use krates::{
     Builder, Edge, Error, FilterFn, FromEdge, FromPackage, KrateDetails, Krates, Package,
 };
 use krates_samples::documents::{metadata, section, word_of};
-use krates_samples::table::{Question, Row, hold};
+use krates_samples::table::{Row, Tell, hold};
 use krates_samples::text::Text;
 use std::alloc::{AllocError, Global};
 use std::mem;
@@ -103,30 +103,20 @@ fn push_krates(text: &mut Text, krates: &Krates<Named, IsDependency>) {
     }
 }
 
-/// The kept crates and the edges, or the refusal; and then the names that the closure was given.
-fn told_of(
-    alloc: Global,
-    built: &Result<Krates<Named, IsDependency>, Error>,
-    names: &str,
-) -> Result<String, Fail> {
-    let mut text = Text::new(alloc);
-    match built {
-        Ok(krates) => push_krates(&mut text, krates),
-        Err(error) => write!(text, "{error}"),
-    }
-    write!(text, ", closure {names}");
-    Ok(text.whole()?)
-}
-
 /// The names of the kept crates, whether each edge is a dependency, or the refusal; and then the names that a closure was given.
 struct Own;
 
-impl Question for Own {
-    fn told(alloc: Global, line: &str) -> Result<String, Fail> {
+impl Tell for Own {
+    fn tell(told: &mut Text, line: &str) -> Result<(), Fail> {
+        let alloc = told.allocator();
         let metadata = metadata(alloc, line)?;
         let mut names = String::new(alloc);
-        let built = built(alloc, line, metadata, &mut names);
-        told_of(alloc, &built, names.as_str())
+        match built(alloc, line, metadata, &mut names) {
+            Ok(krates) => push_krates(told, &krates),
+            Err(error) => write!(told, "{error}"),
+        }
+        write!(told, ", closure {names}");
+        Ok(())
     }
 }
 

@@ -1,9 +1,10 @@
 //! The names under which the library gives its items: each public path is called once.
 
 use crate::indexed::answer_with;
+use crate::real_documents::metadata_of;
 use krates::agenda::Agenda;
 use krates::cfg::{CfgError, Expression, TargetInfo, builtin};
-use krates::cm::{DependencyKind, Metadata};
+use krates::cm::DependencyKind;
 use krates::graph::Graph;
 use krates::index::{
     BuildIndexCache, CachingIndex, FeaturesMap, IndexAnswer, IndexKrateVersion, PackageNames,
@@ -14,8 +15,8 @@ use krates::{
     DepKind, EdgeId, Error, Feature, IdError, Kid, NodeId, PackageId, ParsedFeature, PkgSpec,
     Target, laws, path,
 };
-use krates_samples::documents::metadata;
-use krates_samples::table::{Question, Row, hold};
+use krates_samples::table::{Row, Tell, hold};
+use krates_samples::text::Text;
 use std::alloc::Global;
 use std::collections::{BTreeMap, BTreeSet};
 use std::test::Fail;
@@ -51,28 +52,6 @@ fn expression_fault(alloc: Global, text: &str) -> &'static str {
     }
 }
 
-/// The triple of a known target.
-fn triple_of(alloc: Global, text: &str) -> Result<String, Fail> {
-    let info: Option<TargetInfo> = builtin(alloc, text)?;
-    let triple = match &info {
-        Some(info) => info.triple.as_str(),
-        None => "none",
-    };
-    Ok(String::from_str(alloc, triple)?)
-}
-
-/// What is printed of a target.
-fn target_of(alloc: Global, text: &str) -> Result<String, Fail> {
-    let target = Target::new(alloc, text)?;
-    Ok(format!(in alloc; "{target}")?)
-}
-
-/// The name of a specification.
-fn name_of(alloc: Global, text: &str) -> Result<String, Fail> {
-    let spec = PkgSpec::from_str(alloc, text)?;
-    Ok(String::from_str(alloc, spec.name.as_str())?)
-}
-
 /// How many numbers a graph of two nodes and an agenda give.
 fn counted(alloc: Global) -> Result<usize, Fail> {
     let mut graph: Graph<u8, u8> = Graph::with_limits(alloc, 2, 1);
@@ -100,75 +79,57 @@ fn answered(alloc: Global) -> Result<usize, Fail> {
     Ok(index.answer.krates.len())
 }
 
-/// How many crates are selected of a document.
-fn selected_count(alloc: Global, metadata: &Metadata) -> Result<usize, Error> {
-    let ids = admit(alloc, metadata)?;
-    match select(alloc, metadata, &ids, &Setting::new(alloc)) {
-        Ok(selection) => Ok(selection.krates.len()),
-        Err(Error::NoRootKrates) => Ok(0),
-        Err(error) => Err(error),
-    }
-}
-
 /// How many crates are selected of the document of a line.
 fn selected(alloc: Global, line: &str) -> Result<usize, Fail> {
-    let metadata = metadata(alloc, line)?;
-    let count = selected_count(alloc, &metadata);
-    metadata.let_go();
-    Ok(count?)
-}
-
-/// The number that a call answers which this name names.
-fn number_of(alloc: Global, name: &str, text: &str) -> Result<usize, Fail> {
-    match name {
-        "graph::Graph" => counted(alloc),
-        "index::CachingIndex" => answered(alloc),
-        "resolve::Selection" => selected(alloc, text),
-        "NodeId" => Ok(NodeId::new(text.parse()?).index()),
-        "EdgeId" => Ok(EdgeId::new(text.parse()?).index()),
-        _ => Err(Fail::new("no such name")),
+    let metadata = metadata_of(alloc, line)?;
+    let ids = admit(alloc, &metadata)?;
+    match select(alloc, &metadata, &ids, &Setting::new(alloc)) {
+        Ok(selection) => Ok(selection.krates.len()),
+        Err(Error::NoRootKrates) => Ok(0),
+        Err(error) => Err(Fail::from(error)),
     }
 }
 
-/// The same as a text.
-struct Numbered;
+/// The triple of a known target.
+fn triple_of(info: &Option<TargetInfo>) -> &str {
+    match info {
+        Some(info) => info.triple.as_str(),
+        None => "none",
+    }
+}
 
-impl Question for Numbered {
-    fn told(alloc: Global, line: &str) -> Result<String, Fail> {
+/// What a call answers that the first word of the line names.
+struct Named;
+
+impl Tell for Named {
+    fn tell(told: &mut Text, line: &str) -> Result<(), Fail> {
+        let alloc = told.allocator();
         let (name, text) = line.split_once(' ').unwrap_or((line, ""));
-        Ok(format!(in alloc; "{}", number_of(alloc, name, text)?)?)
+        match name {
+            "NodeId" => write!(told, "{}", NodeId::new(text.parse()?).index()),
+            "EdgeId" => write!(told, "{}", EdgeId::new(text.parse()?).index()),
+            "graph::Graph" => write!(told, "{}", counted(alloc)?),
+            "index::CachingIndex" => write!(told, "{}", answered(alloc)?),
+            "resolve::Selection" => write!(told, "{}", selected(alloc, text)?),
+            "ParsedFeature" => told.push_str(form_of(text)),
+            "IdError" => told.push_str(fault_of(alloc, text)?),
+            "cfg::CfgError" => told.push_str(expression_fault(alloc, text)),
+            "path::parent" => told.push_str(path::parent(text).unwrap_or("none")),
+            "cfg::builtin" => told.push_str(triple_of(&builtin(alloc, text)?)),
+            "Target" => write!(told, "{}", Target::new(alloc, text)?),
+            "PkgSpec" => told.push_str(PkgSpec::from_str(alloc, text)?.name.as_str()),
+            _ => return Err(Fail::new("no such name")),
+        }
+        Ok(())
     }
 }
 
-const NUMBERS: &[Row] = &[
+const NAMES: &[Row] = &[
     ("NodeId 3", "3"),
     ("EdgeId 4", "4"),
     ("graph::Graph", "2"),
     ("index::CachingIndex", "1"),
     ("resolve::Selection a b|b|c", "2"),
-];
-
-/// What a call answers that the first word of the line names.
-struct Named;
-
-impl Question for Named {
-    fn told(alloc: Global, line: &str) -> Result<String, Fail> {
-        let (name, text) = line.split_once(' ').unwrap_or((line, ""));
-        let told = match name {
-            "ParsedFeature" => form_of(text),
-            "IdError" => fault_of(alloc, text)?,
-            "cfg::CfgError" => expression_fault(alloc, text),
-            "path::parent" => path::parent(text).unwrap_or("none"),
-            "cfg::builtin" => return triple_of(alloc, text),
-            "Target" => return target_of(alloc, text),
-            "PkgSpec" => return name_of(alloc, text),
-            _ => "no such name",
-        };
-        Ok(String::from_str(alloc, told)?)
-    }
-}
-
-const TEXTS: &[Row] = &[
     ("ParsedFeature a?/b", "weak"),
     ("IdError a/b", "stable"),
     ("cfg::CfgError cfg()", "syntax"),
@@ -183,10 +144,8 @@ const TEXTS: &[Row] = &[
 
 #[test]
 fn names_of_values_and_texts(rt: HostRuntime) -> Result<(), Fail> {
-    let alloc = rt.alloc();
     laws::narrowing();
     laws::reordering();
     assert!(rt; DepKind::Dev.is(DependencyKind::Development));
-    hold::<Numbered>(alloc, NUMBERS)?;
-    hold::<Named>(alloc, TEXTS)
+    hold::<Named>(rt.alloc(), NAMES)
 }

@@ -1,11 +1,11 @@
 //! What a build keeps and reports under each setting of the builder.
 
-use crate::building::{Built, outcome};
+use crate::building::{Built, push_outcome};
 use crate::real_documents::metadata_of;
 use krates::{Builder, DepKind, Scope};
 use krates_samples::settings::package_specs;
-use krates_samples::table::{Question, Row, hold};
-use std::alloc::Global;
+use krates_samples::table::{Row, Tell, hold};
+use krates_samples::text::Text;
 use std::test::Fail;
 
 const SETTINGS: &[Row] = &[
@@ -99,8 +99,9 @@ const SETTINGS: &[Row] = &[
 /// What is kept and reported of a document under setters that are chained.
 struct Chained;
 
-impl Question for Chained {
-    fn told(alloc: Global, line: &str) -> Result<String, Fail> {
+impl Tell for Chained {
+    fn tell(told: &mut Text, line: &str) -> Result<(), Fail> {
+        let alloc = told.allocator();
         let specs = package_specs(alloc, "e")?;
         let metadata = metadata_of(alloc, line)?;
         let mut builder = Builder::new(alloc);
@@ -110,7 +111,8 @@ impl Question for Chained {
             .ignore_kind(DepKind::Build, Scope::All)
             .ignore_kind(DepKind::Dev, Scope::Workspace)
             .ignore_kind(DepKind::Normal, Scope::NonWorkspace);
-        outcome(alloc, builder, Box::into_inner(metadata))
+        push_outcome(told, builder, metadata);
+        Ok(())
     }
 }
 

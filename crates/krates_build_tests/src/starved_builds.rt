@@ -41,19 +41,19 @@ struct Build {
     targets: &'static [usize],
 }
 
-/// The build without an index.
-const BUILT: &[Build] = &[Build {
-    line: FEATURES,
-    is_indexed: false,
-    targets: &[1, 4, 0, 1, 0, 4, 1],
-}];
-
-/// The build with an index, which gives the package a feature.
-const BUILT_INDEXED: &[Build] = &[Build {
-    line: "p@1.0.0&crates.io;default=foo foo=std|c / nodes p@1.0.0&crates.io;default foo std|c / members p@1.0.0&crates.io",
-    is_indexed: true,
-    targets: &[0, 2, 0, 3, 0],
-}];
+/// The build without an index, and the one with an index, which gives the package a feature.
+const BUILT: &[Build] = &[
+    Build {
+        line: FEATURES,
+        is_indexed: false,
+        targets: &[1, 4, 0, 1, 0, 4, 1],
+    },
+    Build {
+        line: "p@1.0.0&crates.io;default=foo foo=std|c / nodes p@1.0.0&crates.io;default foo std|c / members p@1.0.0&crates.io",
+        is_indexed: true,
+        targets: &[0, 2, 0, 3, 0],
+    },
+];
 
 /// Builds with an index that gives this answer.
 fn built_indexed(
@@ -116,11 +116,6 @@ impl Call for Build {
 }
 
 #[test]
-fn a_build(rt: HostRuntime) -> Result<(), Fail> {
+fn builds(rt: HostRuntime) -> Result<(), Fail> {
     starved(&rt, BUILT)
-}
-
-#[test]
-fn a_build_with_an_index(rt: HostRuntime) -> Result<(), Fail> {
-    starved(&rt, BUILT_INDEXED)
 }

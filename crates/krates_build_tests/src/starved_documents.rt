@@ -1,8 +1,8 @@
 //! The document: reading it, and its own small questions.
 
+use crate::real_documents::metadata_of;
 use krates_cm::{Error, Metadata, Package, PackageId, WorkspaceDefaultMembers};
 use krates_cm_json::parse;
-use krates_samples::documents::metadata;
 use krates_samples::stand_in::DOCUMENT;
 use krates_samples::starving::{Call, answered, granted, other_refusal, refused, starved};
 use std::alloc::{AllocError, Global};
@@ -17,12 +17,6 @@ struct Parse;
 
 /// The document is read.
 const PARSED: &[Parse] = &[Parse];
-
-/// What is read of this text with ample memory, printed.
-fn read_of(alloc: Global, text: &str) -> Result<String, AllocError> {
-    let read = parse(alloc, text);
-    format!(in alloc; "{read:?}")
-}
 
 impl Call for Parse {
     type Given = String;
@@ -45,8 +39,8 @@ impl Call for Parse {
     ) -> Result<bool, Fail> {
         match answer {
             Ok(_) => {
-                let ample = read_of(alloc, given.as_str())?;
-                granted(format!(in alloc; "{answer:?}")? == ample)
+                let ample = parse(alloc, given.as_str());
+                granted(format!(in alloc; "{answer:?}")? == format!(in alloc; "{ample:?}")?)
             }
             Err(Error::Memory) => refused(true),
             Err(_) => other_refusal(),
@@ -67,11 +61,6 @@ pub(crate) fn are_a_and_b(packages: &[&Package]) -> bool {
     }
 }
 
-/// The document of a line, in a box.
-pub(crate) fn boxed(alloc: Global, line: &str) -> Result<Box<Metadata>, Fail> {
-    Ok(Box::new(alloc, metadata(alloc, line)?)?)
-}
-
 /// What a document is asked that has default members.
 #[derive(Debug)]
 enum Asked {
@@ -88,7 +77,7 @@ impl Call for Asked {
     type Answer = Result<bool, AllocError>;
 
     fn given(&self, alloc: Global) -> Result<Box<Metadata>, Fail> {
-        let mut given = boxed(alloc, LINE)?;
+        let mut given = metadata_of(alloc, LINE)?;
         let ids = given.workspace_members.clone()?;
         given.workspace_default_members = WorkspaceDefaultMembers(Some(ids));
         Ok(given)

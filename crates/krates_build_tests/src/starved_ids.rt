@@ -1,10 +1,10 @@
 //! Ids, and the correction of a package by an index.
 
 use crate::indexed::answer_with;
+use crate::real_documents::metadata_of;
 use crate::starved_commands::parts;
-use crate::starved_documents::boxed;
 use krates_cm::{Metadata, PackageId};
-use krates_ids::{CachingIndex, FeaturesMap, IdError, IndexAnswer, IndexKrateVersion, Kid};
+use krates_ids::{CachingIndex, IdError, IndexAnswer, IndexKrateVersion, Kid};
 use krates_samples::starving::{Call, granted, other_refusal, refused, starved};
 use semver::Version;
 use std::alloc::{AllocError, Global};
@@ -56,18 +56,12 @@ fn an_id_with_an_escape(rt: HostRuntime) -> Result<(), Fail> {
     starved(&rt, READ)
 }
 
-/// The features that an index has of a package: a default one with a reference, and one without.
-fn known(alloc: Global) -> Result<FeaturesMap, Fail> {
+/// The answer of an index about the version 1.0.0 of `p`, which has a default feature with a reference, and one without.
+pub(crate) fn answer(alloc: Global) -> Result<IndexAnswer, Fail> {
     let references = parts(alloc, "x", ',')?;
     let mut features = BTreeMap::new(alloc);
     drop(features.insert(String::from_str(alloc, "default")?, references)?);
     drop(features.insert(String::from_str(alloc, "std")?, Vec::new(alloc))?);
-    Ok(features)
-}
-
-/// The answer of an index about the version 1.0.0 of `p`, which has these features.
-pub(crate) fn answer(alloc: Global) -> Result<IndexAnswer, Fail> {
-    let features = known(alloc)?;
     let version = Version::parse(alloc, "1.0.0")?;
     answer_with(alloc, "p", IndexKrateVersion { version, features })
 }
@@ -77,14 +71,6 @@ pub(crate) fn answer(alloc: Global) -> Result<IndexAnswer, Fail> {
 struct Indexed {
     index: CachingIndex,
     metadata: Box<Metadata>,
-}
-
-/// The features of the first package.
-fn features_told(alloc: Global, metadata: &Metadata) -> Result<String, AllocError> {
-    match metadata.packages.first() {
-        Some(pkg) => format!(in alloc; "{:?}", pkg.features),
-        None => format!(in alloc; "no package"),
-    }
 }
 
 /// Corrects the package.
@@ -100,7 +86,7 @@ impl Call for Correct {
     type Answer = Result<(), AllocError>;
 
     fn given(&self, alloc: Global) -> Result<Indexed, Fail> {
-        let metadata = boxed(alloc, "p@1.0.0&crates.io;default=std,foo")?;
+        let metadata = metadata_of(alloc, "p@1.0.0&crates.io;default=std,foo")?;
         let answer = answer(alloc)?;
         let index = CachingIndex { answer };
         Ok(Indexed { index, metadata })
@@ -119,7 +105,10 @@ impl Call for Correct {
         given: &mut Indexed,
         answer: &Result<(), AllocError>,
     ) -> Result<bool, Fail> {
-        let told = features_told(alloc, &given.metadata)?;
+        let Some(pkg) = given.metadata.packages.first() else {
+            return Err(Fail::new("no package"));
+        };
+        let told = format!(in alloc; "{:?}", pkg.features)?;
         match answer {
             Ok(()) => granted(
                 told.as_str() == r#"{"default": ["std", "foo"], "foo": ["dep:foo"], "std": []}"#,

@@ -42,30 +42,6 @@ fn is_dependency(krates: &Krates) -> Result<bool, AllocError> {
     }
 }
 
-/// Whether the first crate alone depends directly on the second, by the first edge.
-fn is_dependent(krates: &Krates) -> Result<bool, AllocError> {
-    match krates.direct_dependents(NodeId::new(1))?.as_slice() {
-        [found] => Ok(found.node_id.index() == 0 && found.edge_id.index() == 0),
-        _ => Ok(false),
-    }
-}
-
-/// Whether the first crate and the second are all that depends on the second.
-fn are_all_dependents(krates: &Krates) -> Result<bool, AllocError> {
-    match krates.all_dependents(NodeId::new(1))?.as_slice() {
-        [first, second] => Ok(first.node_id.index() == 0 && second.node_id.index() == 1),
-        _ => Ok(false),
-    }
-}
-
-/// Whether three steps say why the second crate is there.
-fn has_reason(krates: &Krates) -> Result<bool, AllocError> {
-    match krates.why(NodeId::new(1))? {
-        Some(derivation) => Ok(derivation.steps.len() == 3),
-        None => Ok(false),
-    }
-}
-
 impl Call for Asked {
     type Given = Krates;
 
@@ -79,12 +55,22 @@ impl Call for Asked {
     fn answer(&self, _alloc: Global, given: &mut Krates) -> Result<bool, AllocError> {
         match self {
             Asked::Dependencies => is_dependency(given),
-            Asked::Dependents => is_dependent(given),
-            Asked::AllDependents => are_all_dependents(given),
+            // the first crate alone depends directly on the second, by the first edge
+            Asked::Dependents => match given.direct_dependents(NodeId::new(1))?.as_slice() {
+                [found] => Ok(found.node_id.index() == 0 && found.edge_id.index() == 0),
+                _ => Ok(false),
+            },
+            Asked::AllDependents => match given.all_dependents(NodeId::new(1))?.as_slice() {
+                [first, second] => Ok(first.node_id.index() == 0 && second.node_id.index() == 1),
+                _ => Ok(false),
+            },
             Asked::Reaches => given.reaches(NodeId::new(0), NodeId::new(1)),
             // without dependencies for tests
             Asked::Filtered => Ok(are_a_and_b(&given.krates_filtered(DepKind::Dev)?)),
-            Asked::Why => has_reason(given),
+            Asked::Why => match given.why(NodeId::new(1))? {
+                Some(derivation) => Ok(derivation.steps.len() == 3),
+                None => Ok(false),
+            },
             Asked::Facts => Ok(given.facts()?.len() == 7),
         }
     }

@@ -1,12 +1,12 @@
 //! The builder's setters that append, each called on a builder on which it was called before.
 
-use crate::starved_checks::push_step;
-use crate::starved_documents::boxed;
-use krates::derive::{Derivation, Fact, check};
-use krates::{Builder, DepKind, PkgSpec, Target};
-use krates_samples::documents::kid_of;
+use crate::real_documents::metadata_of;
+use krates::derive::check;
+use krates::{Builder, PkgSpec, Target};
+use krates_samples::facts::steps_of;
 use krates_samples::settings::{package_specs, targets_of, words_of};
 use krates_samples::starving::{Call, granted, refused, starved};
+use krates_samples::text::Text;
 use std::alloc::Global;
 use std::mem::replace;
 use std::test::Fail;
@@ -14,52 +14,29 @@ use std::test::Fail;
 /// Two members, of which the first needs two crates, the second of these on Windows alone.
 const LINE: &str = "a b c&on=cfg(windows)|b|c|d / members a d";
 
-/// The edge from the first crate to this one.
-fn edge_to(alloc: Global, child: &str) -> Result<Fact, Fail> {
-    let cfg = match child {
-        "c" => Some(String::from_str(alloc, "cfg(windows)")?),
-        _ => None,
-    };
-    let parent = kid_of(alloc, "a")?;
-    let child = kid_of(alloc, child)?;
-    let kind = DepKind::Normal;
-    Ok(Fact::Kept {
-        parent,
-        child,
-        kind,
-        cfg,
-    })
-}
+/// The steps by which the edge from the first crate to another is kept, or another as a root.
+const STEPS: &[(&str, &str)] = &[
+    ("b", "1 +a; 5 a>b 0"),
+    ("c", "1 +a; 5 a>c::cfg(windows) 0"),
+    ("d", "1 +d"),
+];
 
-/// The steps by which the edge from the first crate to this one is kept, or this one as a root, where it is `d`.
-fn steps_to(alloc: Global, krate: &str) -> Result<Derivation, Fail> {
-    let steps = Vec::new(alloc);
-    let mut derivation = Derivation { steps };
-    if krate == "d" {
-        push_step(alloc, &mut derivation, 1, Fact::Crate(kid_of(alloc, "d")?))?;
-        return Ok(derivation);
-    }
-    push_step(alloc, &mut derivation, 1, Fact::Crate(kid_of(alloc, "a")?))?;
-    push_step(alloc, &mut derivation, 5, edge_to(alloc, krate)?)?;
-    Ok(derivation)
-}
-
-/// Whether the steps to a crate follow under what the builder has set.
-fn follows(alloc: Global, builder: &Builder, krate: &str) -> Result<bool, Fail> {
-    let steps = steps_to(alloc, krate)?;
-    let metadata = boxed(alloc, LINE)?;
+/// Whether these steps follow under what the builder has set.
+fn follow(alloc: Global, builder: &Builder, steps: &str) -> Result<bool, Fail> {
+    let steps = steps_of(alloc, steps)?;
+    let metadata = metadata_of(alloc, LINE)?;
     Ok(check(&metadata, builder, None, &steps).is_ok())
 }
 
 /// What is kept under what the builder has set: `b` and `c` where the edge to that crate is, `d` where that is a root.
 fn kept(alloc: Global, builder: &Builder) -> Result<String, Fail> {
-    let mut text = String::new(alloc);
-    for krate in ["b", "c", "d"] {
-        if follows(alloc, builder, krate)? {
-            text.push_str(krate)?;
+    let mut text = Text::new(alloc);
+    for &(krate, steps) in STEPS {
+        if follow(alloc, builder, steps)? {
+            text.push_str(krate);
         }
     }
-    Ok(text)
+    Ok(text.whole()?)
 }
 
 /// A setter.
