@@ -57,7 +57,10 @@ fn push_meant(
     let (krate, name) = words.split_once(' ').unwrap_or((words, ""));
     let krate = kid_of(told.allocator(), krate)?;
     if question == "referent" {
-        told.push_str(asked.referent(&krate, name).map_or("none", |child| child.name()));
+        told.push_str(match asked.referent(&krate, name) {
+            Some(child) => child.name(),
+            None => "none",
+        });
         return Ok(());
     }
     for referent in &asked.referents(told.allocator(), setting, &krate, name)? {

@@ -44,7 +44,8 @@ impl Ask for EachNeeded {
         let text = list_in::<Facts>(line);
         let mut told = Text::new(given.alloc);
         Facts::push_by_setting(&mut told, given, None, text)?;
-        for (place, _) in text.split_whitespace().chain(DRAGGING.iter().copied()).enumerate() {
+        let changed = text.split_whitespace().chain(DRAGGING.iter().copied());
+        for (place, _) in changed.enumerate() {
             push_changed(&mut told, given, text, place)?;
         }
         Ok(told.whole()?)
@@ -52,7 +53,10 @@ impl Ask for EachNeeded {
 }
 
 const NEEDED: &[Row] = &[
-    ("a b&dev|b / facts +a a>b:dev +b", "yes open open open open open open"),
+    (
+        "a b&dev|b / facts +a a>b:dev +b",
+        "yes open open open open open open",
+    ),
     (
         "a b?;b=dep:b w=b?/j|b;j= / facts +a a/b a/w a>b +b a>b/j b/j",
         "yes open open open open open open open open open open",
@@ -65,7 +69,10 @@ const NEEDED: &[Row] = &[
         "a b!&with=default|b / nodes a b|b;default / facts +a a>b +b b/default",
         "yes open open open open open open open",
     ),
-    ("a b;x=b/nope|b / without b / facts +a a/x", "yes open open open open open"),
+    (
+        "a b;x=b/nope|b / without b / facts +a a/x",
+        "yes open open open open open",
+    ),
     (
         "a b&dev;x=b/y|b;y= / facts +a a/x a>b:dev +b a>b/y b/y",
         "yes open open open open open open open open open",
@@ -83,9 +90,18 @@ const NEEDED: &[Row] = &[
         "yes open open open open open open open open open open open open",
     ),
     ("a;x=nope/y / facts +a a/x", "yes open open open open open"),
-    ("a / nodes a;x / facts +a a/x", "yes open open open open open"),
-    ("a;f=g g=f / facts +a a/f a/g", "yes open open open open open open"),
-    ("a b!|b / facts +a a>b +b", "yes open open open open open open"),
+    (
+        "a / nodes a;x / facts +a a/x",
+        "yes open open open open open",
+    ),
+    (
+        "a;f=g g=f / facts +a a/f a/g",
+        "yes open open open open open open",
+    ),
+    (
+        "a b!|b / facts +a a>b +b",
+        "yes open open open open open open",
+    ),
     (
         "a md-5?;x=md-5/std|md-5&lib=md5;std= / nodes a md-5&as=md5;x|md-5;std / facts +a a/x a>md-5 +md-5 a>md-5/std md-5/std",
         "yes open open open open open open open open open",
@@ -109,7 +125,10 @@ const NEEDED: &[Row] = &[
         "yes open open open open open open open open open open open open open",
     ),
     // every crate needs the other
-    ("a b|b a / facts +a a>b +b b>a", "yes open open open open open open open"),
+    (
+        "a b|b a / facts +a a>b +b b>a",
+        "yes open open open open open open open",
+    ),
 ];
 
 pub(crate) const ADDED: &[Row] = &[

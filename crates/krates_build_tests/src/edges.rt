@@ -13,8 +13,9 @@ use std::test::Fail;
 /// Adds the direct dependents of a number, each after `<` with its id and its edge.
 fn push_dependents(text: &mut Text, krates: &Krates, node: NodeId) -> Result<(), AllocError> {
     for found in &krates.direct_dependents(node)? {
-        let (other, kid) = (found.node_id.index(), word_of(found.kid.repr()));
-        write!(text, " {}<{other} {kid} by {}", node.index(), found.edge_id.index());
+        let (other, edge) = (found.node_id.index(), found.edge_id.index());
+        let kid = word_of(found.kid.repr());
+        write!(text, " {}<{other} {kid} by {edge}", node.index());
     }
     Ok(())
 }
@@ -25,8 +26,9 @@ fn push_dependencies(text: &mut Text, krates: &Krates, node: NodeId) -> Result<(
         return Ok(());
     }
     for found in &krates.direct_dependencies(node)? {
-        let (other, kid) = (found.node_id.index(), word_of(found.kid.repr()));
-        write!(text, " {}>{other} {kid} by {}", node.index(), found.edge_id.index());
+        let (other, edge) = (found.node_id.index(), found.edge_id.index());
+        let kid = word_of(found.kid.repr());
+        write!(text, " {}>{other} {kid} by {edge}", node.index());
     }
     Ok(())
 }
@@ -63,10 +65,7 @@ const DIRECT: &[Row] = &[
         " 0>2 d@0.9.0 by 1 1<0 a by 0 2<0 a by 1",
     ),
     // a circle
-    (
-        "a b|b a",
-        " 0<1 b by 1 0>1 b by 0 1<0 a by 0 1>0 a by 1",
-    ),
+    ("a b|b a", " 0<1 b by 1 0>1 b by 0 1<0 a by 0 1>0 a by 1"),
     // two declared dependencies on one crate name it once
     (
         "a b b&dev|b / nodes a b&normal&dev|b",

@@ -99,10 +99,12 @@ fn push_facts(text: &mut Text, long: &str) {
 fn hold_lists(alloc: Global, metadata: &Metadata, builder: &Builder) -> Result<(), Fail> {
     let mut text = Text::new(alloc);
     push_steps(&mut text);
-    check(metadata, builder, None, &steps_of(alloc, text.whole()?.as_str())?)?;
+    let steps = steps_of(alloc, text.whole()?.as_str())?;
+    check(metadata, builder, None, &steps)?;
     let mut text = Text::new(alloc);
     push_facts(&mut text, long_name(alloc)?.as_str());
-    check_closed(metadata, builder, None, &facts_of(alloc, text.whole()?.as_str())?)?;
+    let facts = facts_of(alloc, text.whole()?.as_str())?;
+    check_closed(metadata, builder, None, &facts)?;
     Ok(())
 }
 

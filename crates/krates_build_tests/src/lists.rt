@@ -68,11 +68,7 @@ pub(crate) trait List {
     ) -> Result<(), Fail>;
 
     /// Adds what the check answers of the list of a text by a builder, without an index.
-    fn push_by_builder(
-        told: &mut Text,
-        given: &Given<'_, Builder>,
-        text: &str,
-    ) -> Result<(), Fail>;
+    fn push_by_builder(told: &mut Text, given: &Given<'_, Builder>, text: &str) -> Result<(), Fail>;
 }
 
 /// The list of a line, as the text of its section.

@@ -77,10 +77,11 @@ fn push_dependency(
     setting: &Setting,
     words: &str,
 ) -> Result<(), Fail> {
-    let edge = edge_of(told.allocator(), words)?;
-    let ids = admit(told.allocator(), metadata)?;
-    let asked = Document::new(told.allocator(), metadata, &ids)?;
-    let need = asked.need(told.allocator(), setting, &edge.parent, &edge.child, &edge.info)?;
+    let alloc = told.allocator();
+    let edge = edge_of(alloc, words)?;
+    let ids = admit(alloc, metadata)?;
+    let asked = Document::new(alloc, metadata, &ids)?;
+    let need = asked.need(alloc, setting, &edge.parent, &edge.child, &edge.info)?;
     let kinds = asked.kinds(&edge.parent, &edge.child).len();
     let declaration = asked.declaration(&edge.parent, &edge.child, &edge.info);
     let declared = declaration.map(|dep: &Dependency| dep.kind);

@@ -10,8 +10,9 @@ use std::test::Fail;
 /// Adds all dependents of a number, each after `<`: its number, its name, and the name in its id.
 fn push_dependents(text: &mut Text, krates: &Krates, node: NodeId) -> Result<(), AllocError> {
     for found in &krates.all_dependents(node)? {
-        let (number, name) = (found.node_id.index(), found.krate.name.as_str());
-        write!(text, " {}<{number}{name}={}", node.index(), found.kid.name());
+        let (number, name) = (found.node_id.index(), found.kid.name());
+        let package = found.krate.name.as_str();
+        write!(text, " {}<{number}{package}={name}", node.index());
     }
     Ok(())
 }

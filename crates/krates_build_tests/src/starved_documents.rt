@@ -39,8 +39,8 @@ impl Call for Parse {
     ) -> Result<bool, Fail> {
         match answer {
             Ok(_) => {
-                let ample = parse(alloc, given.as_str());
-                granted(format!(in alloc; "{answer:?}")? == format!(in alloc; "{ample:?}")?)
+                let ample = format!(in alloc; "{:?}", parse(alloc, given.as_str()))?;
+                granted(format!(in alloc; "{answer:?}")? == ample)
             }
             Err(Error::Memory) => refused(true),
             Err(_) => other_refusal(),
