@@ -22,12 +22,10 @@ impl Tell for Admitted {
 
 // In each of these documents the default members, and the `dependencies` of each node, have a text that isn't an id: nothing looks
 // at them.
-const ADMITTED_DOCUMENTS: &[Row] = &[
+const DOCUMENTS: &[Row] = &[
     ("a|b / nodes a b / members a a", "2 packages"),
     (" / nodes / members", "0 packages"),
-];
-
-const INVALID: &[Row] = &[
+    // refused: without a graph, or with an id that isn't one
     // without a graph no id is looked at
     (
         "a|b / members &id=x / null graph",
@@ -42,9 +40,7 @@ const INVALID: &[Row] = &[
         "a|b / nodes a b@1",
         "invalid package id: path+file:///w/b#b@1",
     ),
-];
-
-const DOUBLED: &[Row] = &[
+    // an id that is doubled
     // even where the root is lost, since it has no node
     ("a|a / nodes", "doubled id: path+file:///w/a#0.1.0"),
     ("a|b / nodes a|a", "doubled id: path+file:///w/a#0.1.0"),
@@ -61,7 +57,5 @@ const DOUBLED: &[Row] = &[
 
 #[test]
 fn documents_that_are_admitted_or_refused(rt: HostRuntime) -> Result<(), Fail> {
-    hold::<Admitted>(rt.alloc(), ADMITTED_DOCUMENTS)?;
-    hold::<Admitted>(rt.alloc(), INVALID)?;
-    hold::<Admitted>(rt.alloc(), DOUBLED)
+    hold::<Admitted>(rt.alloc(), DOCUMENTS)
 }

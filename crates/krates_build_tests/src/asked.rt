@@ -151,9 +151,9 @@ struct Asked;
 impl Tell for Asked {
     fn tell(told: &mut Text, line: &str) -> Result<(), Fail> {
         let (question, _) = line.split_once(" / ").unwrap_or((line, ""));
+        let document = format!(in told.allocator(); "{MEMBERS} / {line}")?;
+        let metadata = metadata_of(told.allocator(), document.as_str())?;
         let setting = setting_of(told.allocator(), line)?;
-        let line = format!(in told.allocator(); "{MEMBERS} / {line}")?;
-        let metadata = metadata_of(told.allocator(), line.as_str())?;
         push_answer(told, &metadata, &setting, question)
     }
 }

@@ -2,13 +2,10 @@
 
 ghost use Rattle.std.specs.Prelude.{◌≡◌, IfOk, None};
 
-use crate::closed_lists::{ADDED, LOST};
-use crate::derivations::{DECLARED, ORDERED, STRONG};
-use crate::lists::{Ask, Facts, Given, List, OfLine, Sections, Steps, list_in};
+use crate::lists::{Ask, Given, List, Sections, list_in};
 use crate::real_documents::metadata_of;
 use crate::setting::setting_of;
 use krates::{Builder, FromPackage, Krates, NoneFilter};
-use krates_samples::table::hold;
 use krates_samples::text::Text;
 use std::alloc::Global;
 use std::test::Fail;
@@ -41,7 +38,7 @@ pub(crate) fn krates_of<N: FromPackage + Drop>(
 }
 
 /// What the check of the list of a line answers by a builder.
-struct ByBuilder<L> {
+pub(crate) struct ByBuilder<L> {
     list: L,
 }
 
@@ -53,13 +50,4 @@ impl<L: List> Ask for ByBuilder<L> {
         L::push_by_builder(&mut told, given, list_in::<L>(line))?;
         Ok(told.whole()?)
     }
-}
-
-#[test]
-fn lists_by_a_builder(rt: HostRuntime) -> Result<(), Fail> {
-    hold::<OfLine<ByBuilder<Steps>>>(rt.alloc(), ORDERED)?;
-    hold::<OfLine<ByBuilder<Steps>>>(rt.alloc(), STRONG)?;
-    hold::<OfLine<ByBuilder<Steps>>>(rt.alloc(), DECLARED)?;
-    hold::<OfLine<ByBuilder<Facts>>>(rt.alloc(), ADDED)?;
-    hold::<OfLine<ByBuilder<Facts>>>(rt.alloc(), LOST)
 }

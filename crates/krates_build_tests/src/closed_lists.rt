@@ -1,5 +1,6 @@
 //! Lists of facts: each is closed as it was written, and open without any one of its facts, or with one that drags others.
 
+use crate::builders::ByBuilder;
 use crate::facts::push_answer;
 use crate::lists::{Ask, Checked, Facts, Given, List, OfLine, list_in};
 use krates_checkers::check_closed;
@@ -131,7 +132,7 @@ const NEEDED: &[Row] = &[
     ),
 ];
 
-pub(crate) const ADDED: &[Row] = &[
+const ADDED: &[Row] = &[
     // a fact that drags others, which aren't there, or are
     (
         "a b?;b=dep:b w=b?/j|b;j= / nodes a b;w|b;j / facts +a a/w +b",
@@ -178,9 +179,6 @@ pub(crate) const ADDED: &[Row] = &[
     // an edge that no node lists gives its crate alone
     ("a|b / facts +a a>b", "open"),
     ("a|b / facts +a a>b +b", "yes"),
-];
-
-pub(crate) const LOST: &[Row] = &[
     // what is lost keeps each list open: a feature, a package, a node, a dependency that isn't declared
     ("a b;x=b/nope|b / facts +a a/x a>b +b", "open"),
     ("a;x=y / nodes a;x / facts +a a/x", "open"),
@@ -201,5 +199,5 @@ pub(crate) const LOST: &[Row] = &[
 fn lists_of_facts(rt: HostRuntime) -> Result<(), Fail> {
     hold::<OfLine<EachNeeded>>(rt.alloc(), NEEDED)?;
     hold::<OfLine<Checked<Facts>>>(rt.alloc(), ADDED)?;
-    hold::<OfLine<Checked<Facts>>>(rt.alloc(), LOST)
+    hold::<OfLine<ByBuilder<Facts>>>(rt.alloc(), ADDED)
 }

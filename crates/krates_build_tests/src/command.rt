@@ -166,10 +166,10 @@ fn push_process(text: &mut Text, process: &Command) {
 
 /// Adds the variables, the program, the directory and the words of a command.
 pub(crate) fn push_command(text: &mut Text, command: &MetadataCommand) -> Result<(), Error> {
-    let process = command.cargo_command(None)?;
-    push_process(text, &process);
     let words = command.args()?;
     let barred = words.as_slice().join(text.allocator(), "|")?;
+    let process = command.cargo_command(None)?;
+    push_process(text, &process);
     text.push_str(barred.as_str());
     Ok(())
 }

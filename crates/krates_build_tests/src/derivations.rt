@@ -1,12 +1,13 @@
 //! Lists of steps: each is accepted as it was written, and refused after one change; and what a refusal prints.
 
+use crate::builders::ByBuilder;
 use crate::lists::{Checked, OfLine, Steps};
 use krates_checkers::CheckError;
 use krates_samples::table::{Row, Tell, hold};
 use krates_samples::text::Text;
 use std::test::Fail;
 
-pub(crate) const ORDERED: &[Row] = &[
+const STEPS: &[Row] = &[
     // a crate that the only member needs for its tests
     ("a b&dev|b / steps 1 +a; 5 a>b:dev 0; 5 +b 1", "yes"),
     // a later step is used, one is missing, the kind is ignored, there is none, the document has no graph
@@ -27,9 +28,6 @@ pub(crate) const ORDERED: &[Row] = &[
     ("a b&dev|b / steps 1 +a; 5 a>b:dev 0; 5 +b 1 0", "step 2"),
     ("a b&dev|b / steps 1 +b; 5 a>b:dev 0; 9 +b 1", "step 0"),
     ("a b&dev|b / steps 1 +a; 5 a>b:dev 0; 5 +b 0 1 1", "step 2"),
-];
-
-const WEAK: &[Row] = &[
     // a weak reference over an edge that another feature keeps
     (
         "a b?;b=dep:b w=b?/j|b;j= / steps 1 +a; 1 a/b; 1 a/w; 4 a>b 1; 5 +b 3; 7 a>b/j 2 3; 7 b/j 5",
@@ -78,9 +76,6 @@ const WEAK: &[Row] = &[
         "a b? b&dev;w=b?/j|b;j= / nodes a b&normal&dev;w|b;j / steps 1 a/w; 2 +a 0; 5 a>b 1; 7 a>b/j 0 2; 7 b/j 3",
         "step 2",
     ),
-];
-
-pub(crate) const STRONG: &[Row] = &[
     // a strong reference beside a weak one
     (
         "a b?;s=b/k w=b?/j|b;j= k= / steps 1 a/s; 1 a/w; 4 a>b 0; 4 a>b/k 0 2; 7 b/k 3; 7 a>b/j 1 2; 7 b/j 5; 2 +b 6",
@@ -132,9 +127,6 @@ pub(crate) const STRONG: &[Row] = &[
         "step 2",
     ),
     ("a b;x=b/nope|b / without b / steps 1 +a; 5 a>b 0", "step 1"),
-];
-
-pub(crate) const DECLARED: &[Row] = &[
     // the default feature by the list, and by use where it is listed
     (
         "a b!&with=default|b / nodes a b|b;default / steps 1 +a; 5 a>b 0; 6 b/default 1",
@@ -213,9 +205,7 @@ const REFUSED: &[Row] = &[
 
 #[test]
 fn lists_of_steps(rt: HostRuntime) -> Result<(), Fail> {
-    hold::<OfLine<Checked<Steps>>>(rt.alloc(), ORDERED)?;
-    hold::<OfLine<Checked<Steps>>>(rt.alloc(), WEAK)?;
-    hold::<OfLine<Checked<Steps>>>(rt.alloc(), STRONG)?;
-    hold::<OfLine<Checked<Steps>>>(rt.alloc(), DECLARED)?;
+    hold::<OfLine<Checked<Steps>>>(rt.alloc(), STEPS)?;
+    hold::<OfLine<ByBuilder<Steps>>>(rt.alloc(), STEPS)?;
     hold::<Refused>(rt.alloc(), REFUSED)
 }

@@ -23,24 +23,6 @@ fn push_mapping(text: &mut Text, mapping: &[Option<NodeId>]) {
     }
 }
 
-/// Adds a node.
-fn push_node(text: &mut Text, node: &Node<Package>) {
-    match node {
-        Node::Krate {
-            id,
-            dep_mapping,
-            ..
-        } => {
-            text.push_str(word_of(id.repr()));
-            push_mapping(text, dep_mapping);
-        }
-        Node::Feature { krate_index, name } => {
-            write!(text, "{}/{name}", krate_index.index());
-        }
-    }
-    text.push_str(" ")
-}
-
 /// The mark of an edge, and the kind of dependency that it says, where it says one.
 fn mark_of(edge: &Edge) -> (&'static str, DepKind) {
     match edge {
@@ -68,7 +50,20 @@ pub(crate) struct Graphed;
 impl Told<Package> for Graphed {
     fn push(text: &mut Text, krates: &Krates, _line: &str) -> Result<(), Fail> {
         for node in krates.graph().raw_nodes() {
-            push_node(text, node);
+            match node {
+                Node::Krate {
+                    id,
+                    dep_mapping,
+                    ..
+                } => {
+                    text.push_str(word_of(id.repr()));
+                    push_mapping(text, dep_mapping);
+                }
+                Node::Feature { krate_index, name } => {
+                    write!(text, "{}/{name}", krate_index.index());
+                }
+            }
+            text.push_str(" ");
         }
         text.push_str("|");
         push_edges(text, krates.graph().raw_edges());

@@ -95,17 +95,20 @@ fn push_facts(text: &mut Text, long: &str) {
     push_names(text, " a>", "")
 }
 
-/// Checks the steps and the facts.
-fn hold_lists(alloc: Global, metadata: &Metadata, builder: &Builder) -> Result<(), Fail> {
+/// Checks the steps.
+fn hold_steps(alloc: Global, metadata: &Metadata, builder: &Builder) -> Result<(), Fail> {
     let mut text = Text::new(alloc);
     push_steps(&mut text);
     let steps = steps_of(alloc, text.whole()?.as_str())?;
-    check(metadata, builder, None, &steps)?;
+    Ok(check(metadata, builder, None, &steps)?)
+}
+
+/// Checks the facts.
+fn hold_facts(alloc: Global, metadata: &Metadata, builder: &Builder) -> Result<(), Fail> {
     let mut text = Text::new(alloc);
     push_facts(&mut text, long_name(alloc)?.as_str());
     let facts = facts_of(alloc, text.whole()?.as_str())?;
-    check_closed(metadata, builder, None, &facts)?;
-    Ok(())
+    Ok(check_closed(metadata, builder, None, &facts)?)
 }
 
 #[test]
@@ -113,5 +116,7 @@ fn large_lists(rt: HostRuntime) -> Result<(), Fail> {
     let alloc = rt.alloc();
     let json = large_document(alloc)?;
     let metadata = Box::new(alloc, MetadataCommand::parse(alloc, json.as_str())?)?;
-    hold_lists(alloc, &metadata, &Builder::new(alloc))
+    let builder = Builder::new(alloc);
+    hold_steps(alloc, &metadata, &builder)?;
+    hold_facts(alloc, &metadata, &builder)
 }

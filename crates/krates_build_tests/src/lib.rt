@@ -42,8 +42,6 @@ mod drawing;
 #[cfg(test)]
 mod edges;
 #[cfg(test)]
-mod enabled;
-#[cfg(test)]
 mod explained;
 #[cfg(test)]
 mod facts;
@@ -81,8 +79,6 @@ mod readme;
 mod real_documents;
 #[cfg(test)]
 mod rebuilt;
-#[cfg(test)]
-mod referents;
 #[cfg(test)]
 mod reports;
 #[cfg(test)]

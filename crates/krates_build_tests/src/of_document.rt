@@ -1,10 +1,10 @@
 //! Questions to what is selected of the document of a line.
 
-use crate::real_documents::metadata_of;
 use crate::setting::setting_of;
 use krates_cm::Metadata;
 use krates_ids::Error;
 use krates_resolve::{Selection, Setting, admit, select};
+use krates_samples::documents::metadata;
 use krates_samples::table::Tell;
 use krates_samples::text::Text;
 use std::marker::PhantomData;
@@ -37,8 +37,10 @@ fn push_selected<T: ToldOfSelection>(
 
 impl<T: ToldOfSelection> Tell for OfSelection<T> {
     fn tell(told: &mut Text, line: &str) -> Result<(), Fail> {
-        let metadata = metadata_of(told.allocator(), line)?;
         let setting = setting_of(told.allocator(), line)?;
-        Ok(push_selected::<T>(told, &metadata, &setting)?)
+        let metadata = metadata(told.allocator(), line)?;
+        let selected = push_selected::<T>(told, &metadata, &setting);
+        metadata.let_go();
+        Ok(selected?)
     }
 }

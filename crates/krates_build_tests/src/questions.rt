@@ -95,8 +95,8 @@ struct Answers;
 impl Tell for Answers {
     fn tell(told: &mut Text, line: &str) -> Result<(), Fail> {
         let (words, _) = line.split_once(" / ").unwrap_or((line, ""));
-        let setting = setting_of(told.allocator(), line)?;
         let metadata = metadata_of(told.allocator(), DOCUMENT)?;
+        let setting = setting_of(told.allocator(), line)?;
         if words.split_whitespace().nth(2).is_some() {
             return push_dependency(told, &metadata, &setting, words);
         }

@@ -59,10 +59,10 @@ impl Call for OfCommand {
     type Answer = Result<Option<Vec<String>>, Error>;
 
     fn given(&self, alloc: Global) -> Result<Named, Fail> {
+        let names = parts(alloc, MORE, ',')?;
         let mut command = MetadataCommand::new(alloc);
         let settings = "no-deps manifest=p other=--z selected=a env=A,1";
         set_all(&mut Text::new(alloc), &mut command, settings);
-        let names = parts(alloc, MORE, ',')?;
         Ok(Named { command, names })
     }
 
@@ -147,10 +147,10 @@ impl Call for OfOptions {
     type Answer = Result<Option<MetadataCommand>, Error>;
 
     fn given(&self, alloc: Global) -> Result<Options, Fail> {
+        let names = parts(alloc, MORE, ',')?;
         let mut cmd = Cmd::new(alloc);
         let settings = "feature=a other=--a all manifest=x/Cargo.toml";
         ask_all(alloc, &mut cmd, settings)?;
-        let names = parts(alloc, MORE, ',')?;
         Ok(Options { cmd, names })
     }
 
