@@ -58,9 +58,9 @@ mod lists;
 #[cfg(test)]
 mod lookups;
 #[cfg(test)]
-mod of_document;
-#[cfg(test)]
 mod of_graph;
+#[cfg(test)]
+mod of_selection;
 #[cfg(test)]
 mod own_types;
 #[cfg(test)]

@@ -1,6 +1,6 @@
 //! What is selected of a document: crates, edges with their places, and features, each in order; features and references by the rules.
 
-use crate::of_document::{OfSelection, ToldOfSelection};
+use crate::of_selection::{OfSelection, ToldOfSelection};
 use krates_cm::DependencyKind;
 use krates_resolve::Selection;
 use krates_samples::documents::word_of;

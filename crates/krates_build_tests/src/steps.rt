@@ -1,6 +1,6 @@
 //! The steps by which what is selected was found, in numbers of the document.
 
-use crate::of_document::{OfSelection, ToldOfSelection};
+use crate::of_selection::{OfSelection, ToldOfSelection};
 use krates_resolve::{NumberedFact, Selection};
 use krates_samples::table::{Row, hold};
 use krates_samples::text::Text;
