@@ -1,6 +1,8 @@
-use Rattle.std.proofs.Common.{◌≡◌, IfOk, filter, map, subst, arith}
+use Rattle.std.proofs.Common.{◌≡◌, IfOk, filter, map, subst, sym, arith}
 use Rattle.std.proofs.lemmas.Grind.{elements}
 use Rattle.krates_cm.specs.Document.{DependencyModel, dependency_view, node_view, text_view}
+use Rattle.krates_questions.specs.Lookup.{resolved_view}
+use Rattle.krates_rules.specs.Resolved.{HasNode, id_of}
 use Rattle.krates_text.specs.Texts.{has_text}
 use Rattle.krates_drawing.specs.Outline.{asked_by}
 use Rattle.krates_drawing.specs.declared.gather.CrateRecord.{CrateRecord}
@@ -12,3 +14,20 @@ returns c b =
     let declared : dependency_view c.index-declared.result.now ≡ b.dependency = grind (arith, elements) in
     subst (λ (k : CrateRecord). IfOk c.given_of.result (λ given. map text_view given.items ≡ filter (has_text (node_view k.node.now).features) (asked_by b.dependency))) child
     (subst (λ (d : DependencyModel). IfOk c.given_of.result (λ given. map text_view given.items ≡ filter (has_text (node_view c.index-records-edge-2.result.node.now).features) (asked_by d))) declared c.given_of.ensures)
+
+pub given_of-requires : goal.given_of-requires
+given_of-requires c =
+    let child : c.index-records-edge-2.result ≡ c.requires.child = grind (arith, elements) in
+    record { node = subst (λ (k : CrateRecord). HasNode (resolved_view c.args.document.now) (id_of k.krate) (node_view k.node.now)) (sym child) c.requires.node }
+
+pub bounds-records-edge : goal.bounds-records-edge
+bounds-records-edge c = grind (arith, elements)
+
+pub bounds-records-edge-2 : goal.bounds-records-edge-2
+bounds-records-edge-2 c = grind (arith, elements)
+
+pub bounds-records-edge-3 : goal.bounds-records-edge-3
+bounds-records-edge-3 c = grind (arith, elements)
+
+pub index-declared-requires : goal.index-declared-requires
+index-declared-requires c = grind (arith, elements)
