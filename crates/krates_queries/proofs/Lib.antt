@@ -1,4 +1,5 @@
 pub mod DirectLemmas
+pub mod FoundLemmas
 pub mod KrateNodeLemmas
 pub mod NodeLemmas
 pub mod ReachedLemmas

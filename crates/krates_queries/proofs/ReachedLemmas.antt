@@ -85,7 +85,7 @@ in_front xs i x n lt is =
       ]),
     )
 
-pub past : (xs : List ℕ) (k : ℕ) → slice_get xs k ≡ None → length xs ≤ k
+pub past : {A : Type 0} (xs : List A) (k : ℕ) → slice_get xs k ≡ None → length xs ≤ k
 past xs k none = elim (cases_lt k (length xs)) [
   | inl lt ↦ (let w = got xs k lt in absurd (none-some w.0 (sym none ∙ w.1)))
   | inr le ↦ le

@@ -10,6 +10,7 @@ ghost use Rattle.krates_graph.specs.declared.graph.edge.Direction.TheVariants.{O
 ghost use Rattle.krates_queries.specs.Direct.{AreDependencies, AreDependents, AreInOrder, deps_of, first_edge, home, id_and_value_at, is_feature_of as is_feature, joined_all, joined_by, joined_view, named_by, number_in, numbers_in, resolved_at, sources_into, sources_over, sources_to, target_in, target_of, targets_from};
 
 use crate::kept::Krates;
+use crate::numbers::{node_at, standing_at};
 use crate::queries::krate_nodes::{KrateMatch, krate_at};
 use krates_drawing::node::Node;
 use krates_graph::graph::{Direction, EdgeId, Graph, GraphEdge, NodeId};
@@ -51,7 +52,7 @@ fn first_edge(neighbours: &[Neighbour], number: NodeId) -> Option<EdgeId>
 fn is_feature_of<N>(nodes: &[Node<N>], krate: NodeId, number: NodeId) -> bool
     ensures { result ≡ is_feature nodes.now krate number }
 {
-    match nodes.get(number.index()) {
+    match node_at(nodes, number.index()) {
         Some(node) => node.is_feature_of(krate),
         None => false,
     }
@@ -152,7 +153,7 @@ fn named<N>(alloc: Global, node: &Node<N>) -> Result<Vec<NodeId>, AllocError>
 fn home_of<N>(nodes: &[Node<N>], number: NodeId) -> NodeId
     ensures { result ≡ home nodes.now number }
 {
-    match nodes.get(number.index()) {
+    match node_at(nodes, number.index()) {
         Some(Node::Feature { krate_index, .. }) => *krate_index,
         Some(Node::Krate { .. }) => number,
         None => number,
@@ -317,7 +318,7 @@ fn dep_by<'a, N, E>(
     ensures { target_of nodes.now (slice_get edges.now id) ≡ Some (result.0.now, result.1.now) }
 {
     let edge = &edges[id.index()];
-    let node = &nodes[edge.target.index()];
+    let node = standing_at(nodes, edge.target.index());
     (node, &edge.weight)
 }
 
@@ -387,7 +388,7 @@ impl<N, E> Krates<N, E> {
         ensures { option_map (λ krate. krate.now) result ≡ resolved_at self.now.graph.nodes node place }
     {
         let nodes = self.graph().raw_nodes();
-        let number = mapped_number(nodes.get(node.index())?, place)?;
+        let number = mapped_number(node_at(nodes, node.index())?, place)?;
         // No `?` here: what it makes of no crate would have to own references.
         let Some(found) = krate_at(nodes, number) else {
             return None;

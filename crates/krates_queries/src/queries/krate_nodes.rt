@@ -9,7 +9,7 @@ ghost use Rattle.krates_queries.specs.KrateNodes.{crates_of, fits, has_fitting, 
 
 use crate::from_package::KrateDetails;
 use crate::kept::Krates;
-use crate::numbers::standing_at;
+use crate::numbers::{node_at, standing_at};
 use krates_drawing::node::Node;
 use krates_graph::graph::NodeId;
 use krates_ids::Kid;
@@ -34,7 +34,7 @@ pub(crate) fn krate_at<N>(nodes: &[Node<N>], number: NodeId) -> Option<KrateMatc
         ≡ id_and_value_at nodes.now number }
     ensures value { option_map (λ found. found.krate.now) result ≡ value_at nodes.now number }
 {
-    match nodes.get(number.index()) {
+    match node_at(nodes, number.index()) {
         Some(Node::Krate { id, krate, .. }) => Some(KrateMatch {
             krate,
             kid: id,

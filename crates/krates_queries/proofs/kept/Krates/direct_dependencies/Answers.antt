@@ -1,10 +1,13 @@
 use Rattle.std.proofs.Common.{◌≡◌, ◌↔◌, ◌∙◌, List, ℕ, Contains, slice_get, sym, ap, subst}
 use Rattle.std.proofs.lemmas.Result.{IfOk-weaker}
-use Rattle.krates_queries.specs.Direct.{Joined, id_and_value_at, joined_all, AreDependencies, named_by, targets_from, first_edge}
+use Rattle.krates_queries.specs.Direct.{AreInOrder, Joined, id_and_value_at, joined_all, AreDependencies, named_by, targets_from, first_edge}
 use Rattle.krates_drawing.specs.declared.node.Node.{Node}
 use Rattle.krates_queries.specs.declared.queries.direct.Neighbour.{Neighbour}
 use Rattle.krates_queries.proofs.DirectLemmas.{are_dependencies}
 use Rattle.krates_queries.proofs.kept.Krates.direct_dependencies.Goals as goal
+
+pub joined_krates-requires : goal.joined_krates-requires
+joined_krates-requires g c = subst AreInOrder (sym c.deref.ensures.value) c.ordered-targets.ensures.ordered
 
 pub returns : goal.returns
 returns g c =

@@ -1,4 +1,4 @@
-use Rattle.std.proofs.Common.{◌≡◌, ◌∙◌, Bor, List, Some, map, option_map, rules, sym, subst, ap}
+use Rattle.std.proofs.Common.{◌≡◌, ◌∙◌, Bor, List, Some, arith, length, map, option_map, rules, sym, subst, ap}
 use Rattle.std.proofs.lemmas.Option.{slice_get_within}
 use Rattle.std.specs.List.{slice_get}
 use Rattle.krates_drawing.specs.Node.{crate_ids}
@@ -6,6 +6,7 @@ use Rattle.krates_ids.specs.Identity.{Identity}
 use Rattle.krates_selection.specs.KeptFacts.{IsStepOf, kids_of}
 use Rattle.krates_selection.specs.declared.kept.Explanation.{Explanation}
 use Rattle.krates_selection.specs.declared.kept.KeptStep.{KeptStep}
+use Rattle.krates_queries.proofs.ReachedLemmas.{past}
 use Rattle.krates_queries.proofs.WhyLemmas.{is_explanation, is_why}
 use Rattle.krates_queries.specs.Why.{AreExplained, node_says}
 use Rattle.krates_queries.specs.Kept.{AreNodes, ids_of}
@@ -22,6 +23,12 @@ pub derivation_of-requires-clause-within : goal.derivation_of-requires-clause-wi
 derivation_of-requires-clause-within g c =
     let found = c.in-Some-step_of.ensures in
     slice_get_within c.steps-steps.result.now c.in-Some-step_of.number found.step found.at
+
+pub returns-in_default : goal.returns-in_default
+returns-in_default g c =
+    let beyond = past c.nodes.result.now c.index.result (sym c.in_default.ensures) in
+    let same = ap length c.nodes.ensures.nodes in
+    omega (arith, beyond, same, c.index.ensures)
 
 pub returns : goal.returns
 returns g c =

@@ -1,5 +1,10 @@
+use Rattle.std.proofs.Common.{All, subst, sym}
+use Rattle.krates_graph.specs.Graph.{HasEnds}
 use Rattle.krates_queries.proofs.ReachedLemmas.{ends_more}
 use Rattle.krates_queries.proofs.queries.reached.put_ends.Goals as goal
+
+pub put_end-requires : goal.put_end-requires
+put_end-requires g c = subst (λ size. All (HasEnds size) c.args.edges.now) (sym c.loop-id.invariant.size) c.requires
 
 pub loop-id-preserved : goal.loop-id-preserved
 loop-id-preserved g c =
