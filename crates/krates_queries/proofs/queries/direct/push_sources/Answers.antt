@@ -4,7 +4,7 @@ use Rattle.krates_drawing.specs.Views.{listed}
 use Rattle.krates_graph.specs.declared.graph.edge.GraphEdge.{GraphEdge}
 use Rattle.krates_queries.specs.Direct.{source_in}
 use Rattle.krates_queries.specs.declared.queries.direct.Neighbour.{Neighbour}
-use Rattle.krates_queries.proofs.FoundLemmas.{one_more}
+use Rattle.krates_queries.proofs.FoundLemmas.{all_found, one_more}
 use Rattle.krates_queries.proofs.queries.direct.push_sources.Goals as goal
 use Rattle.krates_queries.proofs.queries.direct.push_sources.Goals.{in-Some+in_ok-push, in_default}
 
@@ -31,3 +31,12 @@ loop-id-preserved g c =
     ] in
     one_more source ids c.loop-id.id-index id before c.match-edge_endpoints.sources.items (c.args.sources.now.items ++ filter_map source ids)
     c.loop-id-test.true c.id-item.is c.loop-id.invariant new
+
+pub returns : goal.returns
+returns g c =
+    let edges = c.args.graph.now.edges in
+    let ids = c.edge_numbers-id-items.result.now in
+    let before = c.args.sources.now.items in
+    let source = λ (k : ℕ). source_in k (slice_get edges k) in
+    all_found source ids c.loop-id.id-index c.loop-id.sources.items (before ++ filter_map source ids) c.loop-id-test.false c.loop-id.invariant
+    ∙ ap (λ numbers. before ++ filter_map source numbers) c.edge_numbers-id-items.ensures
