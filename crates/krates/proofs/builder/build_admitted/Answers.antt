@@ -20,7 +20,7 @@ use Rattle.krates.specs.Members.{AreNumbersOf}
 use Rattle.krates_drawing.specs.Node.{crate_ids}
 use Rattle.krates.proofs.BuildLemmas.{package_ids, ids_distinct}
 use Rattle.krates.proofs.ConnectedLemmas.{connects}
-use Rattle.krates.proofs.DrawnLemmas.{builds_outline, is_built, kept_ids, outline_stands}
+use Rattle.krates.proofs.DrawnLemmas.{builds_outline, counted, is_built, kept_ids, outline_stands}
 use Rattle.krates.proofs.ExplainedLemmas.{explains, kept_steps}
 use Rattle.krates.proofs.Numbered.{numbered, numbered_graph, undrawn, undrawn_names}
 use Rattle.krates.proofs.MemberLemmas.{crate_numbers, kept_members}
@@ -153,3 +153,8 @@ returns-clause-built g c =
     rw (c.new.ensures, c.rest_of-rest.ensures) (is_built g.F.OnFilter.filters g.N.FromPackage.made_from g.E.FromEdge.made_from_edge c.args.metadata c.args.setting.now c.in_ok-sketch.sketch.outline division c.in_ok-graph.graph numbers c.args.filter.now c.handed_over.new.filter c.in_ok-sketch.sketch.work
     c.in_ok-sketch.ensures.sketched.outline b c.in_ok-graph.ensures.graph run c.in_ok-sketch.ensures.sketched.work
     (resolvable (metadata_view c.args.metadata) (ids_view c.args.ids) c.requires.admitted) (numbered g.E.FromEdge.made_from_edge (outline_view c.in_ok-sketch.sketch.outline) c.in_ok-graph.graph c.in_ok-graph.ensures.graph.drawing c.in_ok-graph.ensures.within c.in_ok-graph.ensures.limits) members steps explained)
+
+pub new-requires-clause-counted : goal.new-requires-clause-counted
+new-requires-clause-counted g c =
+    let kept = c.in_ok-division.division.kept in
+    c.len-count.ensures ∙ kept.ok.0 ∙ counted kept.items c.in_ok-graph.graph.nodes c.in_ok-graph.ensures.graph.ids
