@@ -1,6 +1,5 @@
 -- What is drawn within the limits of numbers, and what isn't.
 use Rattle.std.proofs.Common.{◌≡◌, ℕ, ◌-◌, ◌<◌, ◌≤◌, ◌^◌, List, Result, Ok, Err, IfOk, IfErr, length, sym, subst, inl, inr, arith}
-use Rattle.std.specs.List.{AllZip}
 use Rattle.krates_cm.specs.Document.{MetadataModel}
 use Rattle.krates_drawing.specs.Drawing.{planned_edges, planned_nodes}
 use Rattle.krates_drawing.specs.Limits.{DrawingRefusal, HasLimits, IsBeyond, IsWithin}
