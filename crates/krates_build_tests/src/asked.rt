@@ -1,10 +1,11 @@
 //! What a document and a setting answer to the questions of the rules, asked one by one.
 
+use crate::of_document::{ToldOfDocument, push_told};
 use crate::real_documents::metadata_of;
 use crate::setting::setting_of;
 use krates_cm::{DepKindInfo, Metadata, Package};
 use krates_ids::Kid;
-use krates_resolve::{Document, Setting, admit};
+use krates_resolve::{Document, Setting};
 use krates_samples::documents::{kid_of, kind_named};
 use krates_samples::table::{Row, Tell, hold};
 use krates_samples::text::Text;
@@ -46,73 +47,110 @@ pub(crate) fn edge_of(alloc: Global, words: &str) -> Result<Edge, Fail> {
     })
 }
 
-/// Adds the name of the crate that a name means to a crate, or the names of those that it means under a setting.
-fn push_meant(
-    told: &mut Text,
-    asked: &Document<'_>,
-    setting: &Setting,
-    question: &str,
-    words: &str,
-) -> Result<(), Fail> {
-    let (krate, name) = words.split_once(' ').unwrap_or((words, ""));
-    let krate = kid_of(told.allocator(), krate)?;
-    if question == "referent" {
+/// The crate that a name means to a crate.
+struct Referent;
+
+impl ToldOfDocument for Referent {
+    fn push(
+        told: &mut Text,
+        asked: &Document<'_>,
+        _setting: &Setting,
+        words: &str,
+    ) -> Result<(), Fail> {
+        let (krate, name) = words.split_once(' ').unwrap_or((words, ""));
+        let krate = kid_of(told.allocator(), krate)?;
         told.push_str(match asked.referent(&krate, name) {
             Some(child) => child.name(),
             None => "none",
         });
-        return Ok(());
+        Ok(())
     }
-    for referent in &asked.referents(told.allocator(), setting, &krate, name)? {
-        told.push_str(referent.id.name());
-    }
-    Ok(())
 }
 
-/// Adds the place of the declared dependency of an edge, or whether the edge is open.
-fn push_edge(
-    told: &mut Text,
-    asked: &Document<'_>,
-    setting: &Setting,
-    question: &str,
-    words: &str,
-) -> Result<(), Fail> {
-    let Edge {
-        parent,
-        child,
-        info,
-    } = edge_of(told.allocator(), words)?;
-    if question == "declared" {
-        write!(told, "{:?}", asked.declared(&parent, &child, &info));
-        return Ok(());
-    }
-    let is_open = asked.is_open(told.allocator(), setting, &parent, &child, &info)?;
-    write!(told, "{is_open}");
-    Ok(())
-}
+/// The crates that a name means to a crate under a setting.
+struct Referents;
 
-/// Adds the names of the roots.
-fn push_roots(told: &mut Text, asked: &Document<'_>, setting: &Setting) -> Result<(), Fail> {
-    for krate in &asked.roots(told.allocator(), setting)? {
-        told.push_str(krate.name());
-    }
-    Ok(())
-}
-
-/// Adds whether a dependency with a target text passes, whether a kind of dependency is ignored, of a member or of another crate, or
-/// whether a name means all.
-fn push_set(told: &mut Text, setting: &Setting, question: &str, words: &str) -> Result<(), Fail> {
-    let (kind, krate) = words.split_once(' ').unwrap_or((words, ""));
-    let is_so = match question {
-        "passes" => {
-            let text = target_text(told.allocator(), words)?;
-            setting.passes(told.allocator(), &text)?
+impl ToldOfDocument for Referents {
+    fn push(
+        told: &mut Text,
+        asked: &Document<'_>,
+        setting: &Setting,
+        words: &str,
+    ) -> Result<(), Fail> {
+        let (krate, name) = words.split_once(' ').unwrap_or((words, ""));
+        let krate = kid_of(told.allocator(), krate)?;
+        for referent in &asked.referents(told.allocator(), setting, &krate, name)? {
+            told.push_str(referent.id.name());
         }
-        "ignores" => setting.ignores(kind_named(kind), krate == "member"),
-        _ => setting.is_all_named(),
-    };
-    write!(told, "{is_so}");
+        Ok(())
+    }
+}
+
+/// The place of the declared dependency of an edge.
+struct Declared;
+
+impl ToldOfDocument for Declared {
+    fn push(
+        told: &mut Text,
+        asked: &Document<'_>,
+        _setting: &Setting,
+        words: &str,
+    ) -> Result<(), Fail> {
+        let edge = edge_of(told.allocator(), words)?;
+        let declared = asked.declared(&edge.parent, &edge.child, &edge.info);
+        write!(told, "{declared:?}");
+        Ok(())
+    }
+}
+
+/// Whether an edge is open.
+struct Open;
+
+impl ToldOfDocument for Open {
+    fn push(
+        told: &mut Text,
+        asked: &Document<'_>,
+        setting: &Setting,
+        words: &str,
+    ) -> Result<(), Fail> {
+        let alloc = told.allocator();
+        let edge = edge_of(alloc, words)?;
+        let is_open = asked.is_open(alloc, setting, &edge.parent, &edge.child, &edge.info)?;
+        write!(told, "{is_open}");
+        Ok(())
+    }
+}
+
+/// The roots.
+struct Roots;
+
+impl ToldOfDocument for Roots {
+    fn push(
+        told: &mut Text,
+        asked: &Document<'_>,
+        setting: &Setting,
+        _words: &str,
+    ) -> Result<(), Fail> {
+        for krate in &asked.roots(told.allocator(), setting)? {
+            told.push_str(krate.name());
+        }
+        Ok(())
+    }
+}
+
+/// Adds whether a dependency with a target text passes.
+fn push_passes(told: &mut Text, setting: &Setting, text: &str) -> Result<(), Fail> {
+    let text = target_text(told.allocator(), text)?;
+    let passes = setting.passes(told.allocator(), &text)?;
+    write!(told, "{passes}");
     Ok(())
+}
+
+/// Adds whether a kind of dependency is ignored, of a member or of another crate.
+fn push_ignores(told: &mut Text, setting: &Setting, words: &str) {
+    let (kind, krate) = words.split_once(' ').unwrap_or((words, ""));
+    let ignores = setting.ignores(kind_named(kind), krate == "member");
+    write!(told, "{ignores}")
 }
 
 /// Adds the names of packages, each after a minus sign where it is excluded.
@@ -123,26 +161,26 @@ fn push_signed(told: &mut Text, setting: &Setting, packages: &[Package]) {
     }
 }
 
-/// Adds what a document answers to a question under a setting, once it is admitted.
+/// Adds what a document and a setting answer to a question.
 fn push_answer(
     told: &mut Text,
     metadata: &Metadata,
     setting: &Setting,
     question: &str,
 ) -> Result<(), Fail> {
-    let ids = admit(told.allocator(), metadata)?;
-    let asked = Document::new(told.allocator(), metadata, &ids)?;
     let (question, words) = question.split_once(' ').unwrap_or((question, ""));
     match question {
-        "referent" | "referents" => push_meant(told, &asked, setting, question, words),
-        "declared" | "open" => push_edge(told, &asked, setting, question, words),
-        "passes" | "ignores" | "names" => push_set(told, setting, question, words),
-        "roots" => push_roots(told, &asked, setting),
-        _ => {
-            push_signed(told, setting, &metadata.packages);
-            Ok(())
-        }
+        "referent" => return push_told::<Referent>(told, metadata, setting, words),
+        "referents" => return push_told::<Referents>(told, metadata, setting, words),
+        "declared" => return push_told::<Declared>(told, metadata, setting, words),
+        "open" => return push_told::<Open>(told, metadata, setting, words),
+        "roots" => return push_told::<Roots>(told, metadata, setting, words),
+        "passes" => return push_passes(told, setting, words),
+        "ignores" => push_ignores(told, setting, words),
+        "names" => write!(told, "{}", setting.is_all_named()),
+        _ => push_signed(told, setting, &metadata.packages),
     }
+    Ok(())
 }
 
 /// What the document of the two members answers to the question that a line begins with, under the setting of the line.

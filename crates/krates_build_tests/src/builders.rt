@@ -45,9 +45,7 @@ pub(crate) struct ByBuilder<L> {
 impl<L: List> Ask for ByBuilder<L> {
     type Set = Builder;
 
-    fn told(given: &Given<'_, Builder>, line: &str) -> Result<String, Fail> {
-        let mut told = Text::new(given.alloc);
-        L::push_by_builder(&mut told, given, list_in::<L>(line))?;
-        Ok(told.whole()?)
+    fn push(told: &mut Text, given: &Given<'_, Builder>, line: &str) -> Result<(), Fail> {
+        L::push_by_builder(told, given, list_in::<L>(line))
     }
 }

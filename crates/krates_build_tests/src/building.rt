@@ -110,6 +110,14 @@ const BUILT: &[Row] = &[
     ("b|b / nodes b", "doubled id: path+file:///w/b#0.1.0"),
 ];
 
+/// Adds how many crates are kept, or the text of the refusal.
+pub(crate) fn push_count(told: &mut Text, built: &Result<Krates, Error>) {
+    match built {
+        Ok(krates) => write!(told, "{} kept", krates.len()),
+        Err(error) => write!(told, "{error}"),
+    }
+}
+
 /// Adds the number of a crate and its enabled features, or that there is none.
 fn push_answers(text: &mut Text, krates: &Krates, name: &str) -> Result<(), Fail> {
     write!(text, ", {name} is ");
@@ -126,7 +134,7 @@ struct Queried;
 impl Told<Package> for Queried {
     fn push(text: &mut Text, krates: &Krates, _line: &str) -> Result<(), Fail> {
         write!(text, "{} of {}", krates.len(), krates.workspace_root());
-        for name in ["a", "b", "c"] {
+        for name in &["a", "b", "c"] {
             push_answers(text, krates, name)?;
         }
         Ok(())

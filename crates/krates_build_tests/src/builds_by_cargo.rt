@@ -2,9 +2,12 @@
 
 ghost use Rattle.std.specs.Prelude.{⊤};
 
+use crate::builders::builder_of;
+use crate::building::push_count;
 use crate::stand_in::command;
 use crate::table::{Question, hold_beginnings};
-use krates::{Builder, DepKind, Error, Krates, OnFilter, Package, Scope};
+use krates::cm::MetadataCommand;
+use krates::{Error, Krates, OnFilter, Package};
 use krates_samples::table::Row;
 use krates_samples::text::Text;
 use std::test::Fail;
@@ -52,27 +55,27 @@ const BUILDS: &[Row] = &[
     ),
 ];
 
+/// The command with this last word, or with this program.
+fn command_of(rt: &HostRuntime, last: &str) -> Result<MetadataCommand, Fail> {
+    let mut command = command(rt, last)?;
+    if last.starts_with('/') {
+        command.cargo_path(String::from_str(rt.alloc(), last)?);
+    }
+    Ok(command)
+}
+
 /// The answer of a build by a command with this last word, or with this program, under the setting after it.
 struct Built;
 
 impl Question for Built {
     fn tell(told: &mut Text, rt: &HostRuntime, line: &str) -> Result<(), Fail> {
-        let (last, setting) = line.split_once(" / ").unwrap_or((line, ""));
-        let mut command = command(rt, last)?;
-        if last.starts_with('/') {
-            command.cargo_path(String::from_str(rt.alloc(), last)?);
-        }
+        let (last, _) = line.split_once(" / ").unwrap_or((line, ""));
+        let builder = builder_of(rt.alloc(), line)?;
+        let command = command_of(rt, last)?;
         let mut count = Count { packages: 0 };
-        let mut builder = Builder::new(rt.alloc());
-        if setting == "ignore dev" {
-            builder.ignore_kind(DepKind::Dev, Scope::All);
-        }
         let built: Result<Krates, Error> = builder.build(command, None, rt, &mut count);
         write!(told, "{} reported, ", count.packages);
-        match &built {
-            Ok(krates) => write!(told, "{} kept", krates.len()),
-            Err(error) => write!(told, "{error}"),
-        }
+        push_count(told, &built);
         Ok(())
     }
 }

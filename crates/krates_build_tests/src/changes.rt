@@ -93,14 +93,13 @@ struct EachChanged;
 impl Ask for EachChanged {
     type Set = Setting;
 
-    fn told(given: &Given<'_, Setting>, line: &str) -> Result<String, Fail> {
+    fn push(told: &mut Text, given: &Given<'_, Setting>, line: &str) -> Result<(), Fail> {
         let steps = list_in::<Steps>(line);
-        let mut told = Text::new(given.alloc);
-        Steps::push_by_setting(&mut told, given, None, steps)?;
+        Steps::push_by_setting(told, given, None, steps)?;
         for (number, _) in steps.split(';').enumerate() {
             write!(told, " {}", refused(given, steps, number)?);
         }
-        Ok(told.whole()?)
+        Ok(())
     }
 }
 

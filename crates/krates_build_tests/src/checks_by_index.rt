@@ -9,6 +9,18 @@ use krates_samples::table::{Row, hold};
 use krates_samples::text::Text;
 use std::test::Fail;
 
+/// Adds what the check of the list of a line answers with an index, and without it.
+fn push_both<L: List>(
+    told: &mut Text,
+    given: &Given<'_, Setting>,
+    index: &CachingIndex,
+    line: &str,
+) -> Result<(), Fail> {
+    L::push_by_setting(told, given, Some(index), list_in::<L>(line))?;
+    told.push_str(", without ");
+    L::push_by_setting(told, given, None, list_in::<L>(line))
+}
+
 /// What the check of the list of a line answers with the index of the line, and without it.
 struct ByIndex<L> {
     list: L,
@@ -17,14 +29,9 @@ struct ByIndex<L> {
 impl<L: List> Ask for ByIndex<L> {
     type Set = Setting;
 
-    fn told(given: &Given<'_, Setting>, line: &str) -> Result<String, Fail> {
+    fn push(told: &mut Text, given: &Given<'_, Setting>, line: &str) -> Result<(), Fail> {
         let answer = answer_of(given.alloc, section(line, "index ").unwrap_or(""))?;
-        let index = CachingIndex { answer };
-        let mut told = Text::new(given.alloc);
-        L::push_by_setting(&mut told, given, Some(&index), list_in::<L>(line))?;
-        told.push_str(", without ");
-        L::push_by_setting(&mut told, given, None, list_in::<L>(line))?;
-        Ok(told.whole()?)
+        push_both::<L>(told, given, &CachingIndex { answer }, line)
     }
 }
 

@@ -41,15 +41,14 @@ struct EachNeeded;
 impl Ask for EachNeeded {
     type Set = Setting;
 
-    fn told(given: &Given<'_, Setting>, line: &str) -> Result<String, Fail> {
+    fn push(told: &mut Text, given: &Given<'_, Setting>, line: &str) -> Result<(), Fail> {
         let text = list_in::<Facts>(line);
-        let mut told = Text::new(given.alloc);
-        Facts::push_by_setting(&mut told, given, None, text)?;
+        Facts::push_by_setting(told, given, None, text)?;
         let changed = text.split_whitespace().chain(DRAGGING.iter().copied());
         for (place, _) in changed.enumerate() {
-            push_changed(&mut told, given, text, place)?;
+            push_changed(told, given, text, place)?;
         }
-        Ok(told.whole()?)
+        Ok(())
     }
 }
 

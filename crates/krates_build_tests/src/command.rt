@@ -239,6 +239,15 @@ pub(crate) fn ask_all(alloc: Global, cmd: &mut Cmd, line: &str) -> Result<(), Al
     Ok(())
 }
 
+/// Adds what is reported of the command that options become, or why they become none.
+fn push_becomes(told: &mut Text, command: &Result<MetadataCommand, Error>) -> Result<(), Fail> {
+    match command {
+        Ok(command) => push_command(told, command)?,
+        Err(error) => write!(told, "{error}"),
+    }
+    Ok(())
+}
+
 /// What is reported of the command that the settings of a tool's options become.
 struct OfOptions;
 
@@ -246,11 +255,7 @@ impl Tell for OfOptions {
     fn tell(told: &mut Text, line: &str) -> Result<(), Fail> {
         let mut cmd = Cmd::new(told.allocator());
         ask_all(told.allocator(), &mut cmd, line)?;
-        match cmd.into_command() {
-            Ok(command) => push_command(told, &command)?,
-            Err(error) => write!(told, "{error}"),
-        }
-        Ok(())
+        push_becomes(told, &cmd.into_command())
     }
 }
 

@@ -49,19 +49,29 @@ fn are_closed(
     Ok(answer_without(given, krates, count)?.is_ok())
 }
 
+/// Adds how many nodes and facts a build has, and whether they are explained.
+fn push_explained(
+    told: &mut Text,
+    given: &Given<'_, Builder>,
+    krates: &Krates,
+) -> Result<(), Fail> {
+    let nodes = krates.graph().raw_nodes().len();
+    let facts = krates.facts()?.len();
+    let accepted = are_accepted(given, krates)?;
+    let closed = are_closed(given, krates, facts)?;
+    write!(told, "{nodes} nodes {accepted}, {facts} facts {closed}");
+    Ok(())
+}
+
 /// How many nodes and facts a build has, and whether they are explained.
 struct Explained;
 
 impl Ask for Explained {
     type Set = Builder;
 
-    fn told(given: &Given<'_, Builder>, line: &str) -> Result<String, Fail> {
+    fn push(told: &mut Text, given: &Given<'_, Builder>, line: &str) -> Result<(), Fail> {
         let krates = krates_of(given.alloc, line)?;
-        let nodes = krates.graph().raw_nodes().len();
-        let facts = krates.facts()?.len();
-        let accepted = are_accepted(given, &krates)?;
-        let closed = are_closed(given, &krates, facts)?;
-        Ok(format!(in given.alloc; "{nodes} nodes {accepted}, {facts} facts {closed}")?)
+        push_explained(told, given, &krates)
     }
 }
 
@@ -113,6 +123,19 @@ fn push_reason(
     Ok(())
 }
 
+/// Adds the derivation of a node and what the check answers of it and of all facts.
+fn push_rechecked(
+    told: &mut Text,
+    given: &Given<'_, Builder>,
+    krates: &Krates,
+    node: NodeId,
+) -> Result<(), Fail> {
+    push_reason(told, given, krates, node)?;
+    told.push_str(", facts ");
+    push_answer(told, answer_without(given, krates, usize::MAX)?);
+    Ok(())
+}
+
 /// What a build explains, checked by what the line sets, which may be something else than what the build has set, where the section
 /// `built` sets that: the derivation of the node in the section `why`, and all facts.
 struct Rechecked;
@@ -120,16 +143,12 @@ struct Rechecked;
 impl Ask for Rechecked {
     type Set = Builder;
 
-    fn told(given: &Given<'_, Builder>, line: &str) -> Result<String, Fail> {
+    fn push(told: &mut Text, given: &Given<'_, Builder>, line: &str) -> Result<(), Fail> {
         let node = section(line, "why ").unwrap_or("").parse()?;
         let set = section(line, "built ").unwrap_or("");
         let line = format!(in given.alloc; "{line} / {set}")?;
         let krates = krates_of(given.alloc, line.as_str())?;
-        let mut told = Text::new(given.alloc);
-        push_reason(&mut told, given, &krates, NodeId::new(node))?;
-        told.push_str(", facts ");
-        push_answer(&mut told, answer_without(given, &krates, usize::MAX)?);
-        Ok(told.whole()?)
+        push_rechecked(told, given, &krates, NodeId::new(node))
     }
 }
 

@@ -2,7 +2,7 @@
 
 ghost use Rattle.std.specs.Prelude.{⊤};
 
-use crate::building::{Reported, push_built};
+use crate::building::{Reported, push_built, push_count};
 use krates::index::{
     BuildIndexCache, FeaturesMap, IndexAnswer, IndexKrate, IndexKrateVersion, PackageNames,
 };
@@ -145,10 +145,7 @@ impl Tell for Corrected {
         builder.with_crates_io_index(build);
         let mut reported = Features { count: 0 };
         let built: Result<Krates, Error> = builder.build_with_metadata(metadata, &mut reported);
-        match &built {
-            Ok(krates) => write!(told, "{} kept", krates.len()),
-            Err(error) => write!(told, "{error}"),
-        }
+        push_count(told, &built);
         write!(told, ", {} reported", reported.count);
         Ok(())
     }

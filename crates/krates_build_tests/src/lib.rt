@@ -58,6 +58,8 @@ mod lists;
 #[cfg(test)]
 mod lookups;
 #[cfg(test)]
+mod of_document;
+#[cfg(test)]
 mod of_graph;
 #[cfg(test)]
 mod of_selection;

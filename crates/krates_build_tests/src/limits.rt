@@ -6,8 +6,9 @@
 use crate::real_documents::metadata_of;
 use krates_cm::Metadata;
 use krates_drawing::gather::outline_of;
-use krates_drawing::limits::{Limits, plan_within};
+use krates_drawing::limits::{Limits, Plan, plan_within};
 use krates_drawing::outline::Outline;
+use krates_ids::Error;
 use krates_resolve::{Document, Setting, admit, select};
 use krates_samples::documents::section;
 use krates_samples::table::{Row, Tell, hold};
@@ -34,6 +35,17 @@ fn outline(alloc: Global, metadata: &Metadata) -> Result<Outline, Fail> {
     Ok(outline_of(alloc, &document, &setting, selection)?)
 }
 
+/// Adds how many nodes and edges are planned, or why nothing is.
+fn push_planned(told: &mut Text, planned: &Result<Plan, Error>) {
+    match planned {
+        Ok(plan) => {
+            let nodes = plan.planned_nodes.mappings.len() + plan.planned_nodes.features.len();
+            write!(told, "{nodes} nodes, {} edges", plan.planned_edges.len())
+        }
+        Err(error) => write!(told, "{error}"),
+    }
+}
+
 /// How many nodes and edges are drawn of a document within the limits of its line, or why nothing is.
 struct Drawn;
 
@@ -42,13 +54,7 @@ impl Tell for Drawn {
         let limits = limits_of(line)?;
         let metadata = metadata_of(told.allocator(), line)?;
         let outline = outline(told.allocator(), &metadata)?;
-        match plan_within(told.allocator(), &outline, limits) {
-            Ok(plan) => {
-                let nodes = plan.planned_nodes.mappings.len() + plan.planned_nodes.features.len();
-                write!(told, "{nodes} nodes, {} edges", plan.planned_edges.len())
-            }
-            Err(error) => write!(told, "{error}"),
-        }
+        push_planned(told, &plan_within(told.allocator(), &outline, limits));
         Ok(())
     }
 }

@@ -8,7 +8,7 @@ use krates_document::Setting;
 use krates_ids::CachingIndex;
 use krates_samples::documents::section;
 use krates_samples::facts::{facts_of, steps_of};
-use krates_samples::table::Question;
+use krates_samples::table::Tell;
 use krates_samples::text::Text;
 use std::alloc::Global;
 use std::test::Fail;
@@ -32,8 +32,8 @@ pub(crate) trait Ask {
     /// What is set.
     type Set: Sections;
 
-    /// The answer to a line.
-    fn told(given: &Given<'_, Self::Set>, line: &str) -> Result<String, Fail>;
+    /// Adds the answer to a line.
+    fn push(told: &mut Text, given: &Given<'_, Self::Set>, line: &str) -> Result<(), Fail>;
 }
 
 /// What is asked of the document of a line under what its sections set.
@@ -41,8 +41,9 @@ pub(crate) struct OfLine<A> {
     asked: A,
 }
 
-impl<A: Ask> Question for OfLine<A> {
-    fn told(alloc: Global, line: &str) -> Result<String, Fail> {
+impl<A: Ask> Tell for OfLine<A> {
+    fn tell(told: &mut Text, line: &str) -> Result<(), Fail> {
+        let alloc = told.allocator();
         let metadata = metadata_of(alloc, line)?;
         let set: A::Set = Sections::of_line(alloc, line)?;
         let given = Given {
@@ -50,7 +51,7 @@ impl<A: Ask> Question for OfLine<A> {
             metadata: &metadata,
             set: &set,
         };
-        A::told(&given, line)
+        A::push(told, &given, line)
     }
 }
 
@@ -150,9 +151,7 @@ pub(crate) struct Checked<L> {
 impl<L: List> Ask for Checked<L> {
     type Set = Setting;
 
-    fn told(given: &Given<'_, Setting>, line: &str) -> Result<String, Fail> {
-        let mut told = Text::new(given.alloc);
-        L::push_by_setting(&mut told, given, None, list_in::<L>(line))?;
-        Ok(told.whole()?)
+    fn push(told: &mut Text, given: &Given<'_, Setting>, line: &str) -> Result<(), Fail> {
+        L::push_by_setting(told, given, None, list_in::<L>(line))
     }
 }

@@ -3,7 +3,8 @@
 //! A line is a word for a crate and the name of a feature, or two crates, a kind and a target text; after it comes what is set, in
 //! sections.
 
-use crate::asked::edge_of;
+use crate::asked::{Edge, edge_of};
+use crate::of_document::{ToldOfDocument, push_told};
 use crate::real_documents::metadata_of;
 use crate::setting::setting_of;
 use krates_cm::{Dependency, Metadata};
@@ -73,20 +74,32 @@ fn need_word(need: Need<'_>) -> &'static str {
 /// Adds what there is for a dependency, how many kinds are listed, and as which kind it is declared.
 fn push_dependency(
     told: &mut Text,
-    metadata: &Metadata,
+    asked: &Document<'_>,
     setting: &Setting,
-    words: &str,
+    edge: &Edge,
 ) -> Result<(), Fail> {
-    let alloc = told.allocator();
-    let edge = edge_of(alloc, words)?;
-    let ids = admit(alloc, metadata)?;
-    let asked = Document::new(alloc, metadata, &ids)?;
-    let need = asked.need(alloc, setting, &edge.parent, &edge.child, &edge.info)?;
-    let kinds = asked.kinds(&edge.parent, &edge.child).len();
-    let declaration = asked.declaration(&edge.parent, &edge.child, &edge.info);
+    let (parent, child, info) = (&edge.parent, &edge.child, &edge.info);
+    let need = need_word(asked.need(told.allocator(), setting, parent, child, info)?);
+    let kinds = asked.kinds(parent, child).len();
+    let declaration = asked.declaration(parent, child, info);
     let declared = declaration.map(|dep: &Dependency| dep.kind);
-    write!(told, "{} of {kinds}, {declared:?}", need_word(need));
+    write!(told, "{need} of {kinds}, {declared:?}");
     Ok(())
+}
+
+/// What there is for the dependency that words say.
+struct OfDependency;
+
+impl ToldOfDocument for OfDependency {
+    fn push(
+        told: &mut Text,
+        asked: &Document<'_>,
+        setting: &Setting,
+        words: &str,
+    ) -> Result<(), Fail> {
+        let edge = edge_of(told.allocator(), words)?;
+        push_dependency(told, asked, setting, &edge)
+    }
 }
 
 /// What the document answers about the crate and the feature, or about the dependency, that a line says.
@@ -98,7 +111,7 @@ impl Tell for Answers {
         let metadata = metadata_of(told.allocator(), DOCUMENT)?;
         let setting = setting_of(told.allocator(), line)?;
         if words.split_whitespace().nth(2).is_some() {
-            return push_dependency(told, &metadata, &setting, words);
+            return push_told::<OfDependency>(told, &metadata, &setting, words);
         }
         push_crate(told, &metadata, &setting, words)
     }

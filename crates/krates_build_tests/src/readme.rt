@@ -6,6 +6,7 @@ use krates::derive::{CheckError, Derivation, Fact, Step, check, check_closed};
 use krates::{Builder, Cmd, Error, Kid, Krates, Metadata, NoneFilter};
 use krates_samples::documents::kid_of;
 use krates_samples::table::{Row, hold};
+use krates_samples::text::Text;
 use std::alloc::{AllocError, Global};
 use std::test::Fail;
 
@@ -53,11 +54,12 @@ struct Example;
 impl Ask for Example {
     type Set = Builder;
 
-    fn told(given: &Given<'_, Builder>, _: &str) -> Result<String, Fail> {
+    fn push(told: &mut Text, given: &Given<'_, Builder>, _: &str) -> Result<(), Fail> {
         let alloc = given.alloc;
         let shown = shown(alloc, given.metadata, given.set, kid_of(alloc, "a")?)?;
         let bounded = bounded(alloc, given.metadata, given.set, kid_of(alloc, "a")?)?;
-        Ok(format!(in alloc; "{shown}; {bounded}")?)
+        write!(told, "{shown}; {bounded}");
+        Ok(())
     }
 }
 
