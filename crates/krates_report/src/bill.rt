@@ -134,6 +134,15 @@ impl Bill<'_> {
         with_licences(alloc, krate, members).object()
     }
 
+    /// The kept crates.
+    fn components(&self, alloc: Global) -> Result<Value, AllocError> {
+        let mut components = Values::new(alloc);
+        for material in &self.materials {
+            components.add(self.component(alloc, material));
+        }
+        components.list()
+    }
+
     /// A crate with those on which it depends directly.
     fn dependency(&self, alloc: Global, material: &Material<'_>) -> Result<Value, AllocError> {
         let needed = &material.depends_on;
@@ -141,6 +150,15 @@ impl Bill<'_> {
             .text("ref", material.krate.krate.id.repr.as_str())
             .put("dependsOn", ids_json(alloc, &self.builds.all, needed))
             .object()
+    }
+
+    /// Each kept crate with those on which it depends directly.
+    fn dependencies(&self, alloc: Global) -> Result<Value, AllocError> {
+        let mut dependencies = Values::new(alloc);
+        for material in &self.materials {
+            dependencies.add(self.dependency(alloc, material));
+        }
+        dependencies.list()
     }
 }
 
@@ -153,19 +171,13 @@ impl Shown for Bill<'_> {
     /// `components`, the kept crates, and `dependencies`, with an entry for each of them. There is no time and no serial number in it, so
     /// that the same document gives the same bytes.
     fn json(&self, alloc: Global) -> Result<Value, AllocError> {
-        let mut components = Values::new(alloc);
-        let mut dependencies = Values::new(alloc);
-        for material in &self.materials {
-            components.add(self.component(alloc, material));
-            dependencies.add(self.dependency(alloc, material));
-        }
         JsonObject::new(alloc)
             .text("$schema", "http://cyclonedx.org/schema/bom-1.5.schema.json")
             .text("bomFormat", "CycloneDX")
             .text("specVersion", "1.5")
             .put("version", Ok(Value::from(1u64)))
-            .put("components", components.list())
-            .put("dependencies", dependencies.list())
+            .put("components", self.components(alloc))
+            .put("dependencies", self.dependencies(alloc))
             .object()
     }
 }

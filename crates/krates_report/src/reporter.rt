@@ -147,21 +147,14 @@ impl Reporter<'_> {
     fn of_one(&self, metadata: Metadata) -> Result<Report, ReportError> {
         match &self.asked.word {
             Word::List { .. } | Word::Duplicates | Word::Licences | Word::Graph => {
-                let krates = self.built(metadata)?;
-                self.in_graph(&krates)
+                self.of_graph(metadata)
             }
             Word::Tree { .. }
             | Word::Dependents { .. }
             | Word::Why { .. }
             | Word::Features { .. }
-            | Word::Certify { .. } => {
-                let divided = self.divided(metadata)?;
-                self.in_divided(&divided)
-            }
-            Word::Uses | Word::Sbom => {
-                let builds = builds(self.alloc, &self.asked.choice, metadata)?;
-                self.in_builds(&builds)
-            }
+            | Word::Certify { .. } => self.of_divided(metadata),
+            Word::Uses | Word::Sbom => self.of_builds(metadata),
             Word::Queries => self.queries(metadata),
             Word::Unreachable { spec } => self.unreachable(metadata, spec.as_str()),
             Word::Diff { .. } => {
@@ -169,6 +162,24 @@ impl Reporter<'_> {
                 Err(ReportError::NoOther)
             }
         }
+    }
+
+    /// What is printed of the graph of a document.
+    fn of_graph(&self, metadata: Metadata) -> Result<Report, ReportError> {
+        let krates = self.built(metadata)?;
+        self.in_graph(&krates)
+    }
+
+    /// What is printed of the graph of a document and the packages that it doesn't keep.
+    fn of_divided(&self, metadata: Metadata) -> Result<Report, ReportError> {
+        let divided = self.divided(metadata)?;
+        self.in_divided(&divided)
+    }
+
+    /// What is printed of the three graphs of a document.
+    fn of_builds(&self, metadata: Metadata) -> Result<Report, ReportError> {
+        let builds = builds(self.alloc, &self.asked.choice, metadata)?;
+        self.in_builds(&builds)
     }
 
     /// What is printed of an answer that is a yes, if there was memory to make it.
@@ -205,25 +216,36 @@ impl Reporter<'_> {
 
     /// What the graph of each of two documents has alone.
     fn difference(&self, first: Metadata, second: Metadata) -> Result<Report, ReportError> {
-        let first = match self.built(first) {
-            Ok(first) => first,
+        match self.built(first) {
+            Ok(first) => self.difference_from(&first, second),
             Err(refusal) => {
                 second.let_go();
-                return Err(refusal);
+                Err(refusal)
             }
-        };
+        }
+    }
+
+    /// What another graph and the graph of a document have alone.
+    fn difference_from(&self, first: &Krates, second: Metadata) -> Result<Report, ReportError> {
         let second = self.built(second)?;
-        self.shown(Difference::between(self.alloc, &first, &second))
+        self.shown(Difference::between(self.alloc, first, &second))
     }
 
     /// What each query answers.
     fn queries(&self, metadata: Metadata) -> Result<Report, ReportError> {
-        let Ok(ids) = ids_of(self.alloc, &metadata.packages) else {
-            metadata.let_go();
-            return Err(ReportError::Memory);
-        };
+        match ids_of(self.alloc, &metadata.packages) {
+            Ok(ids) => self.queries_of(metadata, &ids),
+            Err(AllocError) => {
+                metadata.let_go();
+                Err(ReportError::Memory)
+            }
+        }
+    }
+
+    /// The same, where the packages of the document have these ids.
+    fn queries_of(&self, metadata: Metadata, ids: &[PackageId]) -> Result<Report, ReportError> {
         let krates = self.built(metadata)?;
-        self.query_lines(&krates, &ids)
+        self.query_lines(&krates, ids)
     }
 
     /// Whether it is certain that a package isn't reached.
@@ -253,12 +275,15 @@ impl Reporter<'_> {
             Word::Duplicates => self.shown(Duplicates::of(self.alloc, krates)),
             Word::Licences => self.shown(licences(self.alloc, krates)),
             // the word `graph`
-            _ => {
-                let mut lines = String::new(self.alloc);
-                push_graph(&mut lines, krates.graph())?;
-                Ok(Report::yes(lines))
-            }
+            _ => self.graph_lines(krates),
         }
+    }
+
+    /// The drawn graph, number by number.
+    fn graph_lines(&self, krates: &Krates) -> Result<Report, ReportError> {
+        let mut lines = String::new(self.alloc);
+        push_graph(&mut lines, krates.graph())?;
+        Ok(Report::yes(lines))
     }
 
     /// The answer to a word about one crate: the tree of what it needs or of those that need it, why it is kept, its enabled features,
@@ -266,21 +291,10 @@ impl Reporter<'_> {
     fn in_divided(&self, divided: &Divided) -> Result<Report, ReportError> {
         match &self.asked.word {
             Word::Tree { spec } => self.tree_below(divided, spec.as_ref()),
-            Word::Dependents { spec } => {
-                let roots = self.root(divided, spec.as_str())?;
-                let links = DirectLinks::dependents(self.alloc, &divided.krates);
-                self.shown(Tree::of(self.alloc, &divided.krates, links, &roots))
-            }
+            Word::Dependents { spec } => self.tree_above(divided, spec.as_str()),
             Word::Why { spec, steps } => self.why_in(divided, spec.as_str(), *steps),
-            Word::Features { spec } => {
-                let found = divided.packages().one(self.alloc, spec.as_str())?;
-                self.shown(ExplainedFeatures::of(self.alloc, &divided.krates, found))
-            }
-            Word::Certify { spec } => {
-                let certificate = self.certificate(divided, spec.as_ref())?;
-                let text = pretty(self.alloc, certificate.to_value(self.alloc))?;
-                Ok(Report::yes(text))
-            }
+            Word::Features { spec } => self.features_in(divided, spec.as_str()),
+            Word::Certify { spec } => self.certificate_in(divided, spec.as_ref()),
             // no other word comes here
             _ => Err(ReportError::NoOther),
         }
@@ -302,6 +316,13 @@ impl Reporter<'_> {
             None => members_of(self.alloc, &divided.krates)?,
         };
         let links = DirectLinks::dependencies(self.alloc, &divided.krates);
+        self.shown(Tree::of(self.alloc, &divided.krates, links, &roots))
+    }
+
+    /// The tree of those that need a crate.
+    fn tree_above(&self, divided: &Divided, spec: &str) -> Result<Report, ReportError> {
+        let roots = self.root(divided, spec)?;
+        let links = DirectLinks::dependents(self.alloc, &divided.krates);
         self.shown(Tree::of(self.alloc, &divided.krates, links, &roots))
     }
 
@@ -327,6 +348,23 @@ impl Reporter<'_> {
             })),
             None => Ok(Report::yes(String::new(self.alloc))),
         }
+    }
+
+    /// The enabled features of a crate.
+    fn features_in(&self, divided: &Divided, spec: &str) -> Result<Report, ReportError> {
+        let found = divided.packages().one(self.alloc, spec)?;
+        self.shown(ExplainedFeatures::of(self.alloc, &divided.krates, found))
+    }
+
+    /// The requested certificate as JSON.
+    fn certificate_in(
+        &self,
+        divided: &Divided,
+        spec: Option<&String>,
+    ) -> Result<Report, ReportError> {
+        let certificate = self.certificate(divided, spec)?;
+        let text = pretty(self.alloc, certificate.to_value(self.alloc))?;
+        Ok(Report::yes(text))
     }
 
     /// What each query answers, where packages have these ids.
