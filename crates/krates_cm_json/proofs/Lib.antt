@@ -13,3 +13,4 @@ pub mod ReadableLemmas
 pub mod VersionsAgain
 pub mod WrittenFields
 pub mod WrittenLists
+pub mod ZippedReading

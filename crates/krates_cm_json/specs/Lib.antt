@@ -11,3 +11,4 @@ pub mod RoundTrip
 pub mod Tables
 pub mod WrittenTables
 pub mod WrittenTexts
+pub mod Zipped

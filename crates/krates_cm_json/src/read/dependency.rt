@@ -5,7 +5,7 @@ ghost use Rattle.krates_cm.specs.declared.dependency.DependencyKind.{DependencyK
 ghost use Rattle.krates_cm_json.specs.Tables.{dependency, dependency_kind};
 
 use crate::JsonRef;
-use crate::read::fields::{expect_object, optional, or_default, required};
+use crate::read::fields::{expect_object, optional, or_default, required, zip_four, zip_three};
 use crate::read::from_value::FromValue;
 use krates_cm::{Dependency, DependencyKind, ReadError};
 use std::alloc::Global;
@@ -50,18 +50,36 @@ impl FromValue for Dependency {
         key: &'static str,
     ) -> Result<Dependency, ReadError> {
         expect_object(value, key)?;
+        let named = zip_four(
+            required(alloc, value, "name"),
+            optional(alloc, value, "source"),
+            required(alloc, value, "req"),
+            or_default(alloc, value, "kind", DependencyKind::Normal),
+        );
+        let asked = zip_four(
+            required(alloc, value, "optional"),
+            required(alloc, value, "uses_default_features"),
+            required(alloc, value, "features"),
+            optional(alloc, value, "target"),
+        );
+        let found = zip_three(
+            optional(alloc, value, "rename"),
+            optional(alloc, value, "registry"),
+            optional(alloc, value, "path"),
+        );
+        let (named, asked, found) = zip_three(named, asked, found)?;
         Ok(Dependency {
-            name: required(alloc, value, "name")?,
-            source: optional(alloc, value, "source")?,
-            req: required(alloc, value, "req")?,
-            kind: or_default(alloc, value, "kind", DependencyKind::Normal)?,
-            optional: required(alloc, value, "optional")?,
-            uses_default_features: required(alloc, value, "uses_default_features")?,
-            features: required(alloc, value, "features")?,
-            target: optional(alloc, value, "target")?,
-            rename: optional(alloc, value, "rename")?,
-            registry: optional(alloc, value, "registry")?,
-            path: optional(alloc, value, "path")?,
+            name: named.0,
+            source: named.1,
+            req: named.2,
+            kind: named.3,
+            optional: asked.0,
+            uses_default_features: asked.1,
+            features: asked.2,
+            target: asked.3,
+            rename: found.0,
+            registry: found.1,
+            path: found.2,
         })
     }
 }

@@ -1,9 +1,10 @@
 //! The fields of a JSON object.
 
-ghost use Rattle.std.specs.Prelude.{[], map, option_map};
+ghost use Rattle.std.specs.Prelude.{◌≡◌, [], map, option_map};
 ghost use Rattle.serde_json.specs.Data.{null};
 ghost use Rattle.serde_json.specs.View.{view as data_of};
 ghost use Rattle.krates_cm_json.specs.Reading.{Gives, object, required, or_default, optional, list, any};
+ghost use Rattle.krates_cm_json.specs.Zipped.{zip_three, zip_four};
 
 use crate::JsonRef;
 use crate::read::from_value::FromValue;
@@ -82,4 +83,29 @@ pub(crate) fn any_or_null<J: JsonRef>(
     ensures { Gives data_of result (or_default any null key.now (J.meaning object)) }
 {
     or_default(alloc, object, key, Value::Null)
+}
+
+/// Three values, where each of them was read, or else the first refusal.
+///
+/// A struct of many fields is read in groups: each `?` in a body has to drop all that was read before it.
+pub(crate) fn zip_three<A: Drop, B: Drop, C: Drop>(
+    first: Result<A, ReadError>,
+    second: Result<B, ReadError>,
+    third: Result<C, ReadError>,
+) -> Result<(A, B, C), ReadError>
+    ensures { result ≡ zip_three first second third }
+{
+    Ok((first?, second?, third?))
+}
+
+/// The same of four.
+pub(crate) fn zip_four<A: Drop, B: Drop, C: Drop, D: Drop>(
+    first: Result<A, ReadError>,
+    second: Result<B, ReadError>,
+    third: Result<C, ReadError>,
+    fourth: Result<D, ReadError>,
+) -> Result<(A, B, C, D), ReadError>
+    ensures { result ≡ zip_four first second third fourth }
+{
+    Ok((first?, second?, third?, fourth?))
 }

@@ -6,7 +6,7 @@ ghost use Rattle.krates_cm_json.specs.Reading.{text, list, present};
 ghost use Rattle.krates_cm_json.specs.Tables.{metadata};
 
 use crate::JsonRef;
-use crate::read::fields::{any_or_null, expect_object, optional, or_default, required};
+use crate::read::fields::{any_or_null, expect_object, optional, or_default, required, zip_three};
 use crate::read::from_value::FromValue;
 use krates_cm::{Metadata, ReadError, WorkspaceDefaultMembers};
 use std::alloc::Global;
@@ -43,21 +43,33 @@ impl FromValue for Metadata {
         key: &'static str,
     ) -> Result<Metadata, ReadError> {
         expect_object(value, key)?;
+        let no_default = WorkspaceDefaultMembers(None);
+        let packages = zip_three(
+            required(alloc, value, "packages"),
+            required(alloc, value, "workspace_members"),
+            or_default(alloc, value, "workspace_default_members", no_default),
+        );
+        let graph = zip_three(
+            optional(alloc, value, "resolve"),
+            required(alloc, value, "workspace_root"),
+            required(alloc, value, "target_directory"),
+        );
+        let rest = zip_three(
+            optional(alloc, value, "build_directory"),
+            any_or_null(alloc, value, "metadata"),
+            or_default(alloc, value, "version", 0),
+        );
+        let (packages, graph, rest) = zip_three(packages, graph, rest)?;
         Ok(Metadata {
-            packages: required(alloc, value, "packages")?,
-            workspace_members: required(alloc, value, "workspace_members")?,
-            workspace_default_members: or_default(
-                alloc,
-                value,
-                "workspace_default_members",
-                WorkspaceDefaultMembers(None),
-            )?,
-            resolve: optional(alloc, value, "resolve")?,
-            workspace_root: required(alloc, value, "workspace_root")?,
-            target_directory: required(alloc, value, "target_directory")?,
-            build_directory: optional(alloc, value, "build_directory")?,
-            workspace_metadata: any_or_null(alloc, value, "metadata")?,
-            version: or_default(alloc, value, "version", 0)?,
+            packages: packages.0,
+            workspace_members: packages.1,
+            workspace_default_members: packages.2,
+            resolve: graph.0,
+            workspace_root: graph.1,
+            target_directory: graph.2,
+            build_directory: rest.0,
+            workspace_metadata: rest.1,
+            version: rest.2,
         })
     }
 }

@@ -7,7 +7,7 @@ ghost use Rattle.krates_cm_json.specs.Tables.{about, settings, package_reader};
 
 use crate::JsonRef;
 use crate::read::fields::{
-    any_or_null, expect_object, list_or_empty, optional, or_default, required,
+    any_or_null, expect_object, list_or_empty, optional, or_default, required, zip_four, zip_three,
 };
 use crate::read::from_value::FromValue;
 use crate::read::versions::RustVersion;
@@ -47,17 +47,34 @@ impl FromValue for About {
         value: J,
         _key: &'static str,
     ) -> Result<About, ReadError> {
+        let terms = zip_four(
+            list_or_empty(alloc, value, "authors"),
+            optional(alloc, value, "description"),
+            optional(alloc, value, "license"),
+            optional(alloc, value, "license_file"),
+        );
+        let index = zip_three(
+            list_or_empty(alloc, value, "categories"),
+            list_or_empty(alloc, value, "keywords"),
+            optional(alloc, value, "readme"),
+        );
+        let links = zip_three(
+            optional(alloc, value, "repository"),
+            optional(alloc, value, "homepage"),
+            optional(alloc, value, "documentation"),
+        );
+        let (terms, index, links) = zip_three(terms, index, links)?;
         Ok(About {
-            authors: list_or_empty(alloc, value, "authors")?,
-            description: optional(alloc, value, "description")?,
-            license: optional(alloc, value, "license")?,
-            license_file: optional(alloc, value, "license_file")?,
-            categories: list_or_empty(alloc, value, "categories")?,
-            keywords: list_or_empty(alloc, value, "keywords")?,
-            readme: optional(alloc, value, "readme")?,
-            repository: optional(alloc, value, "repository")?,
-            homepage: optional(alloc, value, "homepage")?,
-            documentation: optional(alloc, value, "documentation")?,
+            authors: terms.0,
+            description: terms.1,
+            license: terms.2,
+            license_file: terms.3,
+            categories: index.0,
+            keywords: index.1,
+            readme: index.2,
+            repository: links.0,
+            homepage: links.1,
+            documentation: links.2,
         })
     }
 }
@@ -75,13 +92,27 @@ impl FromValue for Settings {
         value: J,
         _key: &'static str,
     ) -> Result<Settings, ReadError> {
+        let build = zip_three(
+            or_default(alloc, value, "edition", Edition::E2015),
+            any_or_null(alloc, value, "metadata"),
+            optional(alloc, value, "links"),
+        );
+        let publish = optional(alloc, value, "publish");
+        let default_run = optional(alloc, value, "default_run");
+        let rust_version = optional::<RustVersion, J>(alloc, value, "rust_version");
+        let (build, publish, default_run, rust_version) = zip_four(
+            build,
+            publish,
+            default_run,
+            rust_version,
+        )?;
         Ok(Settings {
-            edition: or_default(alloc, value, "edition", Edition::E2015)?,
-            metadata: any_or_null(alloc, value, "metadata")?,
-            links: optional(alloc, value, "links")?,
-            publish: optional(alloc, value, "publish")?,
-            default_run: optional(alloc, value, "default_run")?,
-            rust_version: optional::<RustVersion, J>(alloc, value, "rust_version")?.map(|v| v.0),
+            edition: build.0,
+            metadata: build.1,
+            links: build.2,
+            publish,
+            default_run,
+            rust_version: rust_version.map(|v| v.0),
         })
     }
 }
@@ -100,28 +131,36 @@ impl FromValue for Package {
         key: &'static str,
     ) -> Result<Package, ReadError> {
         expect_object(value, key)?;
-        let name = required(alloc, value, "name")?;
-        let version = required(alloc, value, "version")?;
-        let id = required(alloc, value, "id")?;
-        let source = optional(alloc, value, "source")?;
-        let dependencies = required(alloc, value, "dependencies")?;
-        let targets = required(alloc, value, "targets")?;
-        let features = required(alloc, value, "features")?;
-        let manifest_path = required(alloc, value, "manifest_path")?;
-        let about = About::from_json_at(alloc, value, key)?;
-        let settings = Settings::from_json_at(alloc, value, key)?;
+        let named = zip_four(
+            required(alloc, value, "name"),
+            required(alloc, value, "version"),
+            required(alloc, value, "id"),
+            optional(alloc, value, "source"),
+        );
+        let parts = zip_three(
+            required(alloc, value, "dependencies"),
+            required(alloc, value, "targets"),
+            required(alloc, value, "features"),
+        );
+        let rest = zip_three(
+            required(alloc, value, "manifest_path"),
+            About::from_json_at(alloc, value, key),
+            Settings::from_json_at(alloc, value, key),
+        );
+        let (named, parts, rest) = zip_three(named, parts, rest)?;
+        let (manifest_path, about, settings) = rest;
         Ok(Package {
-            name,
-            version,
+            name: named.0,
+            version: named.1,
             authors: about.authors,
-            id,
-            source,
+            id: named.2,
+            source: named.3,
             description: about.description,
-            dependencies,
+            dependencies: parts.0,
             license: about.license,
             license_file: about.license_file,
-            targets,
-            features,
+            targets: parts.1,
+            features: parts.2,
             manifest_path,
             categories: about.categories,
             keywords: about.keywords,

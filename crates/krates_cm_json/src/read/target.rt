@@ -7,7 +7,7 @@ ghost use Rattle.krates_cm.specs.declared.target.Edition.{Edition};
 ghost use Rattle.krates_cm_json.specs.Tables.{target, target_kind, crate_type, edition};
 
 use crate::JsonRef;
-use crate::read::fields::{expect_object, list_or_empty, or_default, required};
+use crate::read::fields::{expect_object, list_or_empty, or_default, required, zip_three};
 use crate::read::from_value::FromValue;
 use krates_cm::{CrateType, Edition, ReadError, Target, TargetKind};
 use std::alloc::Global;
@@ -79,16 +79,32 @@ impl FromValue for Target {
         key: &'static str,
     ) -> Result<Target, ReadError> {
         expect_object(value, key)?;
+        let kinds = zip_three(
+            required(alloc, value, "name"),
+            required(alloc, value, "kind"),
+            list_or_empty(alloc, value, "crate_types"),
+        );
+        let source = zip_three(
+            list_or_empty(alloc, value, "required-features"),
+            required(alloc, value, "src_path"),
+            or_default(alloc, value, "edition", Edition::E2015),
+        );
+        let uses = zip_three(
+            or_default(alloc, value, "doctest", true),
+            or_default(alloc, value, "test", true),
+            or_default(alloc, value, "doc", true),
+        );
+        let (kinds, source, uses) = zip_three(kinds, source, uses)?;
         Ok(Target {
-            name: required(alloc, value, "name")?,
-            kind: required(alloc, value, "kind")?,
-            crate_types: list_or_empty(alloc, value, "crate_types")?,
-            required_features: list_or_empty(alloc, value, "required-features")?,
-            src_path: required(alloc, value, "src_path")?,
-            edition: or_default(alloc, value, "edition", Edition::E2015)?,
-            doctest: or_default(alloc, value, "doctest", true)?,
-            test: or_default(alloc, value, "test", true)?,
-            doc: or_default(alloc, value, "doc", true)?,
+            name: kinds.0,
+            kind: kinds.1,
+            crate_types: kinds.2,
+            required_features: source.0,
+            src_path: source.1,
+            edition: source.2,
+            doctest: uses.0,
+            test: uses.1,
+            doc: uses.2,
         })
     }
 }
