@@ -6,7 +6,7 @@ use krates_rules::Fact;
 use krates_samples::facts::{facts_of, steps_of};
 use krates_samples::settings::all_of;
 use krates_samples::table::{Row, Tell, hold};
-use krates_samples::text::Text;
+use krates_text::text::Text;
 use serde_json::json;
 use std::alloc::AllocError;
 use std::test::Fail;

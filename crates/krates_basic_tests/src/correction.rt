@@ -6,7 +6,7 @@ use krates_ids::{
     BuildIndexCache, CachingIndex, IndexAnswer, IndexKrate, IndexKrateVersion, PackageNames,
 };
 use krates_samples::table::{Row, Tell, hold};
-use krates_samples::text::Text;
+use krates_text::text::Text;
 use semver::Version;
 use std::alloc::{AllocError, Global};
 use std::collections::{BTreeMap, BTreeSet};

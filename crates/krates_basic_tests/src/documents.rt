@@ -4,7 +4,7 @@ use krates_cm::{Error, Metadata};
 use krates_cm_json::parse;
 use krates_samples::stand_in::DOCUMENT;
 use krates_samples::table::{Row, Tell, hold};
-use krates_samples::text::Text;
+use krates_text::text::Text;
 use std::alloc::AllocError;
 use std::test::Fail;
 

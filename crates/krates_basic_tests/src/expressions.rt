@@ -2,9 +2,9 @@
 
 use krates_samples::settings::FromText;
 use krates_samples::table::{Row, Tell, hold};
-use krates_samples::text::Text;
 use krates_text::cfg::{CfgError, Expression};
 use krates_text::target::Target;
+use krates_text::text::Text;
 use std::alloc::{AllocError, Global};
 use std::test::Fail;
 

@@ -3,7 +3,7 @@
 use krates_graph::agenda::{Agenda, Taken};
 use krates_graph::graph::{Direction, EdgeId, Graph, GraphError, NodeId};
 use krates_samples::table::{Row, Tell, compare, hold};
-use krates_samples::text::Text;
+use krates_text::text::Text;
 use std::alloc::Global;
 use std::test::Fail;
 

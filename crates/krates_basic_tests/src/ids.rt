@@ -7,7 +7,7 @@ ghost use Rattle.krates_ids.specs.Identity.{id_cmp};
 use krates_cm::PackageId;
 use krates_ids::{IdError, Kid};
 use krates_samples::table::{Row, Tell, compare, hold};
-use krates_samples::text::Text;
+use krates_text::text::Text;
 use std::alloc::{AllocError, Global};
 use std::collections::BTreeMap;
 use std::hash::{DefaultHasher, Hash, Hasher};

@@ -3,7 +3,7 @@
 use json::Scratch;
 use krates_cm_json::{JsonRef, Owned, Parsed};
 use krates_samples::table::{Row, Tell, compare, hold};
-use krates_samples::text::Text;
+use krates_text::text::Text;
 use serde_json::Value;
 use std::alloc::{AllocError, Global};
 use std::test::Fail;

@@ -42,4 +42,6 @@ mod specifications;
 #[cfg(test)]
 mod targets;
 #[cfg(test)]
+mod texts;
+#[cfg(test)]
 mod writing;

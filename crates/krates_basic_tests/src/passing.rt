@@ -3,8 +3,8 @@
 use crate::expressions::opened;
 use krates_samples::settings::targets_of;
 use krates_samples::table::{Row, Tell, hold};
-use krates_samples::text::Text;
 use krates_text::passing::passes;
+use krates_text::text::Text;
 use std::test::Fail;
 
 /// Targets, each with the feature that is enabled there after a plus sign, and after a bar a target text, if there is one; and whether

@@ -1,8 +1,8 @@
 //! Paths: their components, their parents, and how they are joined and compared.
 
 use krates_samples::table::{Row, Tell, hold};
-use krates_samples::text::Text;
 use krates_text::path::{components, ends_with, join, parent, same};
+use krates_text::text::Text;
 use std::test::Fail;
 
 /// A path and its components, in order, each after a bar.

@@ -8,7 +8,7 @@ use krates_cm::{
 };
 use krates_cm_json::FromValue;
 use krates_samples::table::{Row, Tell, compare, hold};
-use krates_samples::text::Text;
+use krates_text::text::Text;
 use std::alloc::{AllocError, Global};
 use std::fmt::Debug;
 use std::marker::PhantomData;

@@ -8,7 +8,7 @@ use krates_cm::{
 };
 use krates_cm_json::{Borrowed, FromValue, JsonRef, Parsed};
 use krates_samples::table::{Row, Tell, compare, hold};
-use krates_samples::text::Text;
+use krates_text::text::Text;
 use serde_json::Value;
 use std::alloc::{AllocError, Global};
 use std::fmt::Debug;

@@ -1,8 +1,8 @@
 //! Feature references: which form each text has.
 
 use krates_samples::table::{Row, Tell, hold};
-use krates_samples::text::Text;
 use krates_text::features::ParsedFeature;
+use krates_text::text::Text;
 use std::test::Fail;
 
 /// A text and the form that it has.

@@ -5,7 +5,7 @@ use crate::ids::kid;
 use krates_cm::{Error as MetadataError, ReadError, UnknownName};
 use krates_ids::{Error, Kid, Lost};
 use krates_samples::table::{Question, Row, Tell, compare, hold};
-use krates_samples::text::Text;
+use krates_text::text::Text;
 use std::alloc::Global;
 use std::test::Fail;
 use std::{io, str};

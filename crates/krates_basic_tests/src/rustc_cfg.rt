@@ -1,8 +1,8 @@
 //! Targets as rustc describes them: the lines that `rustc --print cfg --target TRIPLE` of Rust 1.95 prints.
 
 use krates_samples::table::{Row, Tell, compare, hold};
-use krates_samples::text::Text;
 use krates_text::target::{TargetInfo, builtin};
+use krates_text::text::Text;
 use std::alloc::{AllocError, Global};
 use std::test::Fail;
 

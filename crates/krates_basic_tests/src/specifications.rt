@@ -3,7 +3,7 @@
 use crate::packages::package;
 use krates_ids::PkgSpec;
 use krates_samples::table::{Question, Row, Tell, hold};
-use krates_samples::text::Text;
+use krates_text::text::Text;
 use std::test::Fail;
 
 /// Texts, and the name, version and url of the specification that each is.

@@ -1,8 +1,8 @@
 //! Targets: the table row by row, and how a target is printed.
 
 use krates_samples::table::{Row, Tell, hold};
-use krates_samples::text::Text;
 use krates_text::target::{Target, builtin};
+use krates_text::text::Text;
 use std::test::Fail;
 
 /// A triple and the description of its target, with each of its fields.

@@ -4,7 +4,7 @@ use crate::packages::{read, same_fields, told_within};
 use krates_cm::{Dependency, Metadata, Node, Package, PackageId, Resolve, Source, Target};
 use krates_cm_json::{FromValue, ToValue};
 use krates_samples::table::{Row, Tell, hold};
-use krates_samples::text::Text;
+use krates_text::text::Text;
 use std::fmt::Debug;
 use std::test::Fail;
 

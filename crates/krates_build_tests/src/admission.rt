@@ -3,7 +3,7 @@
 use crate::real_documents::metadata_of;
 use krates_resolve::admit;
 use krates_samples::table::{Row, Tell, hold};
-use krates_samples::text::Text;
+use krates_text::text::Text;
 use std::test::Fail;
 
 /// How many ids of packages are read of the document of a line, or the text of the refusal.

@@ -8,7 +8,7 @@ use krates_ids::Kid;
 use krates_resolve::{Document, Setting};
 use krates_samples::documents::{kid_of, kind_named};
 use krates_samples::table::{Row, Tell, hold};
-use krates_samples::text::Text;
+use krates_text::text::Text;
 use std::alloc::Global;
 use std::test::Fail;
 

@@ -6,7 +6,7 @@ use crate::lists::{Ask, Given, List, Sections, list_in};
 use crate::real_documents::metadata_of;
 use crate::setting::setting_of;
 use krates::{Builder, FromPackage, Krates, NoneFilter};
-use krates_samples::text::Text;
+use krates_text::text::Text;
 use std::alloc::Global;
 use std::test::Fail;
 

@@ -9,7 +9,7 @@ use krates::cm::Metadata;
 use krates::{Builder, Error, Krates, OnFilter, Package};
 use krates_samples::documents::{kid_of, word_of};
 use krates_samples::table::{Row, Tell, hold};
-use krates_samples::text::Text;
+use krates_text::text::Text;
 use std::test::Fail;
 
 /// Adds a package after a mark: its name, and its word or id where that is another.

@@ -9,7 +9,7 @@ use crate::table::{Question, hold_beginnings};
 use krates::cm::MetadataCommand;
 use krates::{Error, Krates, OnFilter, Package};
 use krates_samples::table::Row;
-use krates_samples::text::Text;
+use krates_text::text::Text;
 use std::test::Fail;
 
 /// Counts the packages that aren't kept.

@@ -5,7 +5,7 @@ use krates_checkers::{CheckError, check};
 use krates_document::Setting;
 use krates_samples::facts::steps_of;
 use krates_samples::table::{Row, hold};
-use krates_samples::text::Text;
+use krates_text::text::Text;
 use std::test::Fail;
 
 /// What is changed in a step.

@@ -6,7 +6,7 @@ use krates_document::Setting;
 use krates_ids::CachingIndex;
 use krates_samples::documents::section;
 use krates_samples::table::{Row, hold};
-use krates_samples::text::Text;
+use krates_text::text::Text;
 use std::test::Fail;
 
 /// Adds what the check of the list of a line answers with an index, and without it.

@@ -7,7 +7,7 @@ use krates_checkers::check_closed;
 use krates_document::Setting;
 use krates_samples::facts::{facts_of, push_fact};
 use krates_samples::table::{Row, hold};
-use krates_samples::text::Text;
+use krates_text::text::Text;
 use std::test::Fail;
 
 /// Facts that drag others, which aren't there: a feature of a crate, an edge to one, and a feature that is toggled.

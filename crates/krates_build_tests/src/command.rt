@@ -6,7 +6,7 @@ use krates_cargo::{Cmd, Features, LockOptions, MetadataCommand};
 use krates_cm::{Error, Metadata};
 use krates_samples::stand_in::DOCUMENT;
 use krates_samples::table::{Row, Tell, compare, hold};
-use krates_samples::text::Text;
+use krates_text::text::Text;
 use std::alloc::{AllocError, Global};
 use std::process::Command;
 use std::test::Fail;

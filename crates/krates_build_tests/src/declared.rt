@@ -3,7 +3,7 @@
 use crate::building::Built;
 use krates_document::declared_source::is_path_of;
 use krates_samples::table::{Row, Tell, hold};
-use krates_samples::text::Text;
+use krates_text::text::Text;
 use std::test::Fail;
 
 /// Paths, sources, and whether the source is that of the path.

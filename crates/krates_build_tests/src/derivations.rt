@@ -4,7 +4,7 @@ use crate::builders::ByBuilder;
 use crate::lists::{Checked, OfLine, Steps};
 use krates_checkers::CheckError;
 use krates_samples::table::{Row, Tell, hold};
-use krates_samples::text::Text;
+use krates_text::text::Text;
 use std::test::Fail;
 
 const STEPS: &[Row] = &[

@@ -10,7 +10,7 @@ use krates::graph::GraphEdge;
 use krates::{DepKind, Edge, Krates, Node, NodeId, Package};
 use krates_samples::documents::word_of;
 use krates_samples::table::{Row, hold};
-use krates_samples::text::Text;
+use krates_text::text::Text;
 use std::test::Fail;
 
 /// Adds what the declared dependencies of a crate mean.

@@ -6,7 +6,7 @@ use krates::graph::Direction;
 use krates::{DepKind, EdgeId, Krates, Node, NodeId, Package};
 use krates_samples::documents::word_of;
 use krates_samples::table::{Row, hold};
-use krates_samples::text::Text;
+use krates_text::text::Text;
 use std::alloc::AllocError;
 use std::test::Fail;
 

@@ -7,7 +7,7 @@ use krates::derive::{CheckError, check, check_closed};
 use krates::{Builder, Krates, NodeId};
 use krates_samples::documents::section;
 use krates_samples::table::{Row, hold};
-use krates_samples::text::Text;
+use krates_text::text::Text;
 use std::alloc::AllocError;
 use std::test::Fail;
 

@@ -10,7 +10,7 @@ use krates_document::Setting;
 use krates_ids::Kid;
 use krates_rules::{DepKind, Fact, Step};
 use krates_samples::documents::word_of;
-use krates_samples::text::Text;
+use krates_text::text::Text;
 use std::alloc::Global;
 use std::test::Fail;
 

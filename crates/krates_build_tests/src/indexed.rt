@@ -9,7 +9,7 @@ use krates::index::{
 use krates::{Builder, Error, Krates, OnFilter, Package};
 use krates_samples::documents::{metadata, section};
 use krates_samples::table::{Row, Tell, hold};
-use krates_samples::text::Text;
+use krates_text::text::Text;
 use semver::Version;
 use std::alloc::Global;
 use std::cell::Cell;

@@ -9,7 +9,7 @@ use krates::{Builder, DepKind, Krates, Metadata, NodeId, OnFilter, Package};
 use krates_samples::facts::{facts_of, steps_of};
 use krates_samples::large::{FEATURES, large_document, long_name, push_names};
 use krates_samples::table::compare;
-use krates_samples::text::Text;
+use krates_text::text::Text;
 use std::alloc::Global;
 use std::test::Fail;
 

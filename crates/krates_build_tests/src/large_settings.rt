@@ -13,7 +13,7 @@ use krates::{Builder, Cmd, Kid, Metadata, PackageId};
 use krates_samples::large::{large_document, push_features, push_names};
 use krates_samples::settings;
 use krates_samples::settings::{package_specs, targets_of};
-use krates_samples::text::Text;
+use krates_text::text::Text;
 use std::alloc::Global;
 use std::test::Fail;
 

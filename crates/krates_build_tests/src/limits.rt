@@ -12,7 +12,7 @@ use krates_ids::Error;
 use krates_resolve::{Document, Setting, admit, select};
 use krates_samples::documents::section;
 use krates_samples::table::{Row, Tell, hold};
-use krates_samples::text::Text;
+use krates_text::text::Text;
 use std::alloc::Global;
 use std::test::Fail;
 

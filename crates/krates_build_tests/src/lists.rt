@@ -9,7 +9,7 @@ use krates_ids::CachingIndex;
 use krates_samples::documents::section;
 use krates_samples::facts::{facts_of, steps_of};
 use krates_samples::table::Tell;
-use krates_samples::text::Text;
+use krates_text::text::Text;
 use std::alloc::Global;
 use std::test::Fail;
 

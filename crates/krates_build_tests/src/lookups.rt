@@ -9,7 +9,7 @@ use krates::semver::VersionReq;
 use krates::{KrateDetails, KrateMatch, Krates, Matches, Node, NodeId, Package};
 use krates_samples::documents::{kid_of, section, word_of};
 use krates_samples::table::{Row, hold};
-use krates_samples::text::Text;
+use krates_text::text::Text;
 use std::test::Fail;
 
 /// Adds a node, or that there is none.

@@ -2,7 +2,7 @@
 
 use krates_cm::Metadata;
 use krates_resolve::{Document, Setting, admit};
-use krates_samples::text::Text;
+use krates_text::text::Text;
 use std::test::Fail;
 
 /// What is asked of a document that is admitted.

@@ -3,7 +3,7 @@
 use crate::builders::krates_of;
 use krates::{EnabledFeatures, FromPackage, Krates, NodeId, Package};
 use krates_samples::table::Tell;
-use krates_samples::text::Text;
+use krates_text::text::Text;
 use std::marker::PhantomData;
 use std::test::Fail;
 

@@ -6,7 +6,7 @@ use krates_ids::Error;
 use krates_resolve::{Selection, Setting, admit, select};
 use krates_samples::documents::metadata;
 use krates_samples::table::Tell;
-use krates_samples::text::Text;
+use krates_text::text::Text;
 use std::marker::PhantomData;
 use std::test::Fail;
 

@@ -11,7 +11,7 @@ use krates::{
 };
 use krates_samples::documents::{metadata, section, word_of};
 use krates_samples::table::{Row, Tell, hold};
-use krates_samples::text::Text;
+use krates_text::text::Text;
 use std::alloc::{AllocError, Global};
 use std::mem;
 use std::test::Fail;

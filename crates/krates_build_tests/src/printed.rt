@@ -7,7 +7,7 @@ use crate::own_types::Named;
 use krates::graph::GraphEdge;
 use krates::{Edge, Krates};
 use krates_samples::table::{Row, hold};
-use krates_samples::text::Text;
+use krates_text::text::Text;
 use std::alloc::AllocError;
 use std::fmt;
 use std::test::Fail;

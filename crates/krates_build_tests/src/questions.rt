@@ -13,7 +13,7 @@ use krates_questions::Need;
 use krates_resolve::{Document, Setting, admit};
 use krates_samples::documents::kid_of;
 use krates_samples::table::{Row, Tell, compare, hold};
-use krates_samples::text::Text;
+use krates_text::text::Text;
 use std::test::Fail;
 
 /// A member that declares a crate for tests and for its build, and another for Windows, and whose node lists one kind and one feature

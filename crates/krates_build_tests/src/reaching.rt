@@ -3,7 +3,7 @@
 use crate::of_graph::{OfGraph, Told};
 use krates::{Krates, NodeId, Package};
 use krates_samples::table::{Row, hold};
-use krates_samples::text::Text;
+use krates_text::text::Text;
 use std::alloc::AllocError;
 use std::test::Fail;
 

@@ -6,7 +6,7 @@ use krates::derive::{CheckError, Derivation, Fact, Step, check, check_closed};
 use krates::{Builder, Cmd, Error, Kid, Krates, Metadata, NoneFilter};
 use krates_samples::documents::kid_of;
 use krates_samples::table::{Row, hold};
-use krates_samples::text::Text;
+use krates_text::text::Text;
 use std::alloc::{AllocError, Global};
 use std::test::Fail;
 

@@ -13,7 +13,7 @@ use krates::{DepKind, Krates, Package, laws};
 use krates_drawing::laws as drawing;
 use krates_samples::documents::{kind_named, section};
 use krates_samples::table::{Row, hold};
-use krates_samples::text::Text;
+use krates_text::text::Text;
 use std::alloc::{AllocError, Global};
 use std::test::Fail;
 

@@ -5,7 +5,7 @@ use krates::cm::SourceKind;
 use krates::{DepKind, KrateDetails, Krates, NodeId, Package};
 use krates_samples::documents::section;
 use krates_samples::table::{Row, hold};
-use krates_samples::text::Text;
+use krates_text::text::Text;
 use std::alloc::AllocError;
 use std::test::Fail;
 

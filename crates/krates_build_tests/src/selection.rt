@@ -5,7 +5,7 @@ use krates_cm::DependencyKind;
 use krates_resolve::Selection;
 use krates_samples::documents::word_of;
 use krates_samples::table::{Row, hold};
-use krates_samples::text::Text;
+use krates_text::text::Text;
 use std::test::Fail;
 
 /// The name of a kind.

@@ -5,7 +5,7 @@ use crate::real_documents::metadata_of;
 use krates::{Builder, DepKind, Scope};
 use krates_samples::settings::package_specs;
 use krates_samples::table::{Row, Tell, hold};
-use krates_samples::text::Text;
+use krates_text::text::Text;
 use std::test::Fail;
 
 const SETTINGS: &[Row] = &[

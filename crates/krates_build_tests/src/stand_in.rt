@@ -6,7 +6,7 @@ use krates_cargo::MetadataCommand;
 use krates_cm::Error;
 use krates_samples::stand_in::answer;
 use krates_samples::table::Row;
-use krates_samples::text::Text;
+use krates_text::text::Text;
 use std::io::Write;
 use std::test::Fail;
 

@@ -4,7 +4,7 @@ use crate::command::{ask_all, push_command, set_all};
 use krates_cargo::{Cmd, Features, MetadataCommand};
 use krates_cm::Error;
 use krates_samples::starving::{Call, granted, other_refusal, refused, starved};
-use krates_samples::text::Text;
+use krates_text::text::Text;
 use std::alloc::{AllocError, Global};
 use std::mem::replace;
 use std::test::Fail;

@@ -6,7 +6,7 @@ use krates::{Builder, PkgSpec, Target};
 use krates_samples::facts::steps_of;
 use krates_samples::settings::{package_specs, targets_of, words_of};
 use krates_samples::starving::{Call, granted, refused, starved};
-use krates_samples::text::Text;
+use krates_text::text::Text;
 use std::alloc::Global;
 use std::mem::replace;
 use std::test::Fail;

@@ -3,7 +3,7 @@
 use crate::of_selection::{OfSelection, ToldOfSelection};
 use krates_resolve::{NumberedFact, Selection};
 use krates_samples::table::{Row, hold};
-use krates_samples::text::Text;
+use krates_text::text::Text;
 use std::test::Fail;
 
 /// Adds a fact by its numbers.

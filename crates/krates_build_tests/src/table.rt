@@ -1,7 +1,7 @@
 //! Tables of how answers begin. A question may run a program.
 
 use krates_samples::table::Row;
-use krates_samples::text::Text;
+use krates_text::text::Text;
 use std::test::Fail;
 
 /// What the lines of a table ask.

@@ -3,7 +3,7 @@
 use crate::of_graph::{OfGraph, Told};
 use krates::{Krates, Package};
 use krates_samples::table::{Row, hold};
-use krates_samples::text::Text;
+use krates_text::text::Text;
 use std::test::Fail;
 
 /// How many crates, features and references a build of the document counted.

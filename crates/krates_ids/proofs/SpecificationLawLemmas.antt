@@ -10,7 +10,7 @@ use Rattle.krates_ids.specs.SpecificationAnswers.{IsRefusedBy, Answers}
 use Rattle.krates_ids.specs.declared.error.Error.{Error}
 use Rattle.krates_ids.specs.declared.error.Error.TheVariants as errors
 use Rattle.krates_ids.specs.declared.pkgspec.PkgSpec.{PkgSpec}
-use Rattle.krates_text.proofs.Text.{cut_or_lacks}
+use Rattle.krates_text.proofs.TextLemmas.{cut_or_lacks}
 use Rattle.krates_text.proofs.CutsLemmas.{Lacks-middle, FirstCut-lacks, FirstCut-once, FirstCut-or, LastCut-once, LastCut-or}
 use Rattle.krates_ids.proofs.SpecificationLemmas.{HasScheme-slash}
 

@@ -2,7 +2,7 @@
 
 use krates_cli::{Counted, Options, run};
 use krates_samples::large::{large_document, long_name, push_names};
-use krates_samples::text::Text;
+use krates_text::text::Text;
 use std::alloc::Global;
 use std::test::Fail;
 

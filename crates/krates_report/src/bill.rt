@@ -7,6 +7,7 @@ use krates::Package;
 use krates::cm::{Source, SourceKind, TargetKind};
 use krates_answers::crate_uses::{Builds, Use};
 use krates_answers::materials::{Material, materials};
+use krates_text::text::Text;
 use percent_encoding::{AsciiSet, NON_ALPHANUMERIC, utf8_percent_encode};
 use serde_json::Value;
 use std::alloc::{AllocError, Global};
@@ -44,16 +45,15 @@ impl<'a> Bill<'a> {
 }
 
 /// Adds a qualifier of a package url: a key, and a text with its escapes.
-fn push_qualifier(url: &mut String, key: &str, text: &str) -> Result<(), AllocError> {
-    write!(url, "?{key}=")?;
-    utf8_percent_encode(text, escaped()).append_to(url)
+fn push_qualifier(url: &mut Text, key: &str, text: &str) {
+    write!(url, "?{key}={}", utf8_percent_encode(text, escaped()));
 }
 
 /// Adds the qualifier of a package that isn't from crates.io.
-fn push_source(url: &mut String, source: &Source) -> Result<(), AllocError> {
+fn push_source(url: &mut Text, source: &Source) {
     let text = source.repr.as_str();
     if text == CRATES_IO || text == SPARSE_CRATES_IO {
-        return Ok(());
+        return;
     }
     match source.kind() {
         SourceKind::Git => push_qualifier(url, "vcs_url", text),
@@ -62,12 +62,13 @@ fn push_source(url: &mut String, source: &Source) -> Result<(), AllocError> {
 }
 
 /// Adds where a package is that isn't from crates.io.
-fn push_place(alloc: Global, krate: &Package, url: &mut String) -> Result<(), AllocError> {
+fn push_place(url: &mut Text, krate: &Package) {
     match &krate.source {
         Some(source) if !krate.is_local() => push_source(url, source),
         _ => {
-            let place = format!(in alloc; "file://{}", directory_of(krate))?;
-            push_qualifier(url, "download_url", place.as_str())
+            let directory = utf8_percent_encode(directory_of(krate), escaped());
+            push_qualifier(url, "download_url", "file://");
+            write!(url, "{directory}");
         }
     }
 }
@@ -76,10 +77,11 @@ fn push_place(alloc: Global, krate: &Package, url: &mut String) -> Result<(), Al
 /// the git repository, or the directory of this machine, so that it isn't taken for the one of that name on crates.io.
 fn package_url(alloc: Global, krate: &Package) -> Result<String, AllocError> {
     let version = krate.version.to_string(alloc)?;
-    let mut url = format!(in alloc; "pkg:cargo/{}@", krate.name)?;
-    utf8_percent_encode(version.as_str(), escaped()).append_to(&mut url)?;
-    push_place(alloc, krate, &mut url)?;
-    Ok(url)
+    let version = utf8_percent_encode(version.as_str(), escaped());
+    let mut url = Text::new(alloc);
+    write!(url, "pkg:cargo/{}@{version}", krate.name);
+    push_place(&mut url, krate);
+    url.whole()
 }
 
 /// What a crate is: a program alone, without a library, is an application.

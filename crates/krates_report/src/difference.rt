@@ -7,6 +7,7 @@ use krates::semver::Version;
 use krates::{KrateMatch, Krates, Package};
 use krates_answers::changed::Changed;
 use krates_answers::difference::{DependencyEdge, lacking, lost_dependencies};
+use krates_text::text::Text;
 use serde_json::Value;
 use std::alloc::{AllocError, Global};
 
@@ -49,21 +50,20 @@ impl<'a> Difference<'a> {
 }
 
 /// Adds versions, with a comma between each two.
-fn push_versions(versions: &[&Version], lines: &mut String) -> Result<(), AllocError> {
+fn push_versions(versions: &[&Version], lines: &mut Text) {
     for (place, version) in versions.iter().enumerate() {
         let comma = if place == 0 { "" } else { ", " };
-        write!(lines, "{comma}{version}")?;
+        write!(lines, "{comma}{version}");
     }
-    Ok(())
 }
 
 /// Adds a name with its versions before and after.
-fn push_changed(changed: &Changed<'_>, lines: &mut String) -> Result<(), AllocError> {
-    write!(lines, "~ {} ", changed.name)?;
-    push_versions(&changed.from, lines)?;
-    lines.push_str(" -> ")?;
-    push_versions(&changed.to, lines)?;
-    lines.push_str("\n")
+fn push_changed(changed: &Changed<'_>, lines: &mut Text) {
+    write!(lines, "~ {} ", changed.name);
+    push_versions(&changed.from, lines);
+    lines.push_str(" -> ");
+    push_versions(&changed.to, lines);
+    lines.push_str("\n");
 }
 
 impl InJson for Changed<'_> {
@@ -78,28 +78,18 @@ impl InJson for Changed<'_> {
 }
 
 /// Adds a line for each crate.
-fn push_krates(
-    mark: &str,
-    krates: &[KrateMatch<'_, Package>],
-    lines: &mut String,
-) -> Result<(), AllocError> {
+fn push_krates(mark: &str, krates: &[KrateMatch<'_, Package>], lines: &mut Text) {
     for found in krates {
-        writeln!(lines, "{mark} {}", ShortName(found.krate))?;
+        writeln!(lines, "{mark} {}", ShortName(found.krate));
     }
-    Ok(())
 }
 
 /// Adds a line for each dependency.
-fn push_dependencies(
-    mark: &str,
-    dependencies: &[DependencyEdge<'_>],
-    lines: &mut String,
-) -> Result<(), AllocError> {
+fn push_dependencies(mark: &str, dependencies: &[DependencyEdge<'_>], lines: &mut Text) {
     for dependency in dependencies {
         let (parent, child) = (dependency.parent.kid, dependency.child.kid);
-        writeln!(lines, "{mark} {} -> {}", ShortId(parent), ShortId(child))?;
+        writeln!(lines, "{mark} {} -> {}", ShortId(parent), ShortId(child));
     }
-    Ok(())
 }
 
 impl InJson for DependencyEdge<'_> {
@@ -116,15 +106,15 @@ impl Shown for Difference<'_> {
     /// A line `~ NAME VERSION -> VERSION` for each name whose versions changed; then `- ` and each crate that only the first
     /// graph keeps, and `+ ` and each that only the second does; then the same of direct dependencies, `PARENT -> CHILD`.
     fn text(&self, alloc: Global) -> Result<String, AllocError> {
-        let mut lines = String::new(alloc);
+        let mut lines = Text::new(alloc);
         for changed in &self.changed {
-            push_changed(changed, &mut lines)?;
+            push_changed(changed, &mut lines);
         }
-        push_krates("-", &self.removed, &mut lines)?;
-        push_krates("+", &self.added, &mut lines)?;
-        push_dependencies("-", &self.removed_dependencies, &mut lines)?;
-        push_dependencies("+", &self.added_dependencies, &mut lines)?;
-        Ok(lines)
+        push_krates("-", &self.removed, &mut lines);
+        push_krates("+", &self.added, &mut lines);
+        push_dependencies("-", &self.removed_dependencies, &mut lines);
+        push_dependencies("+", &self.added_dependencies, &mut lines);
+        lines.whole()
     }
 
     /// An object: `changed`, with `name` and the versions `from` and `to`; the crates `removed` and `added`; and `removed_dependencies`

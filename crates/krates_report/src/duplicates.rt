@@ -6,6 +6,7 @@ use crate::shown::Shown;
 use krates::{KrateMatch, Krates, NodeId, Package};
 use krates_answers::direct_links::DirectLinks;
 use krates_answers::duplicates::{Duplicate, duplicates};
+use krates_text::text::Text;
 use serde_json::Value;
 use std::alloc::{AllocError, Global};
 
@@ -36,26 +37,20 @@ impl<'a> Duplicates<'a> {
     }
 
     /// Adds a crate, and below it those that need it.
-    fn push_krate(
-        &self,
-        krate: &KrateMatch<'_, Package>,
-        lines: &mut String,
-    ) -> Result<(), AllocError> {
-        writeln!(lines, "{}", ShortName(krate.krate))?;
+    fn push_krate(&self, krate: &KrateMatch<'_, Package>, lines: &mut Text) {
+        writeln!(lines, "{}", ShortName(krate.krate));
         for number in self.dependents_of(krate) {
             if number.index() < self.krates.len() {
-                writeln!(lines, "    {}", ShortName(&self.krates[*number]))?;
+                writeln!(lines, "    {}", ShortName(&self.krates[*number]));
             }
         }
-        Ok(())
     }
 
     /// Adds the crates of a name.
-    fn push_name(&self, name: &Duplicate<'_>, lines: &mut String) -> Result<(), AllocError> {
+    fn push_name(&self, name: &Duplicate<'_>, lines: &mut Text) {
         for krate in &name.krates {
-            self.push_krate(krate, lines)?;
+            self.push_krate(krate, lines);
         }
-        Ok(())
     }
 
     /// What JSON says of a crate.
@@ -87,14 +82,14 @@ impl<'a> Duplicates<'a> {
 impl Shown for Duplicates<'_> {
     /// For each name its crates, and below each of them those that need it; between two names an empty line.
     fn text(&self, alloc: Global) -> Result<String, AllocError> {
-        let mut lines = String::new(alloc);
+        let mut lines = Text::new(alloc);
         for name in &self.names {
-            if !lines.is_empty() {
-                lines.push_str("\n")?;
+            if !lines.as_str().is_empty() {
+                lines.push_str("\n");
             }
-            self.push_name(name, &mut lines)?;
+            self.push_name(name, &mut lines);
         }
-        Ok(lines)
+        lines.whole()
     }
 
     /// A list of objects with `name` and `crates`, each of these with `crate` and the ids of its `dependents`.

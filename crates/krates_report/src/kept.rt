@@ -6,6 +6,7 @@ use crate::shown::Shown;
 use krates::Krates;
 use krates_answers::crate_uses::{Builds, Use, UsedKrate};
 use krates_answers::licences::Licence;
+use krates_text::text::Text;
 use serde_json::Value;
 use std::alloc::{AllocError, Global};
 
@@ -21,15 +22,15 @@ pub struct List<'a> {
 impl Shown for List<'_> {
     /// A line for each: its short name, or its id.
     fn text(&self, alloc: Global) -> Result<String, AllocError> {
-        let mut lines = String::new(alloc);
+        let mut lines = Text::new(alloc);
         for krate in self.krates.krates() {
             if self.has_ids {
-                writeln!(lines, "{}", krate.id.repr)?;
+                writeln!(lines, "{}", krate.id.repr);
             } else {
-                writeln!(lines, "{}", ShortName(krate))?;
+                writeln!(lines, "{}", ShortName(krate));
             }
         }
-        Ok(lines)
+        lines.whole()
     }
 
     /// A list of crates.
@@ -64,14 +65,13 @@ impl UsedKrates<'_> {
     }
 
     /// Adds a use with the number of its crates, and below it the crates.
-    fn push(&self, usage: Use, title: &str, lines: &mut String) -> Result<(), AllocError> {
-        writeln!(lines, "{title} ({})", self.count(usage))?;
+    fn push(&self, usage: Use, title: &str, lines: &mut Text) {
+        writeln!(lines, "{title} ({})", self.count(usage));
         for used in &self.used {
             if used.usage == usage {
-                writeln!(lines, "    {}", ShortName(used.krate.krate))?;
+                writeln!(lines, "    {}", ShortName(used.krate.krate));
             }
         }
-        Ok(())
     }
 
     /// The crates that are used for this.
@@ -89,11 +89,11 @@ impl UsedKrates<'_> {
 impl Shown for UsedKrates<'_> {
     /// `shipped`, `build only` and `dev only`, each with the number of its crates, and below it the crates.
     fn text(&self, alloc: Global) -> Result<String, AllocError> {
-        let mut lines = String::new(alloc);
-        self.push(Use::Shipped, "shipped", &mut lines)?;
-        self.push(Use::Build, "build only", &mut lines)?;
-        self.push(Use::Dev, "dev only", &mut lines)?;
-        Ok(lines)
+        let mut lines = Text::new(alloc);
+        self.push(Use::Shipped, "shipped", &mut lines);
+        self.push(Use::Build, "build only", &mut lines);
+        self.push(Use::Dev, "dev only", &mut lines);
+        lines.whole()
     }
 
     /// An object with the crates of `shipped`, `build` and `dev`.
@@ -107,17 +107,16 @@ impl Shown for UsedKrates<'_> {
 }
 
 /// Adds a licence, and below it its crates.
-fn push_licence(licence: &Licence<'_>, lines: &mut String) -> Result<(), AllocError> {
+fn push_licence(licence: &Licence<'_>, lines: &mut Text) {
     let text = if licence.text.is_empty() {
         "no licence"
     } else {
         licence.text
     };
-    writeln!(lines, "{text} ({})", licence.krates.len())?;
+    writeln!(lines, "{text} ({})", licence.krates.len());
     for found in &licence.krates {
-        writeln!(lines, "    {}", ShortName(found.krate))?;
+        writeln!(lines, "    {}", ShortName(found.krate));
     }
-    Ok(())
 }
 
 impl InJson for Licence<'_> {
@@ -139,11 +138,11 @@ impl InJson for Licence<'_> {
 impl Shown for Vec<Licence<'_>> {
     /// Each licence with the number of its crates, and below it the crates, first those without one.
     fn text(&self, alloc: Global) -> Result<String, AllocError> {
-        let mut lines = String::new(alloc);
+        let mut lines = Text::new(alloc);
         for licence in self {
-            push_licence(licence, &mut lines)?;
+            push_licence(licence, &mut lines);
         }
-        Ok(lines)
+        lines.whole()
     }
 
     /// A list of objects with `licence`, which is null where there is none, and `crates`.

@@ -19,6 +19,7 @@ use krates_answers::licences::licences;
 use krates_answers::naming::{Meant, Packages};
 use krates_answers::unreachable::is_unreachable;
 use krates_certificate::{Certificate, CertificatePart};
+use krates_text::text::Text;
 use krates_words::{Asked, Word};
 use std::alloc::{AllocError, Global};
 
@@ -281,9 +282,9 @@ impl Reporter<'_> {
 
     /// The drawn graph, number by number.
     fn graph_lines(&self, krates: &Krates) -> Result<Report, ReportError> {
-        let mut lines = String::new(self.alloc);
-        push_graph(&mut lines, krates.graph())?;
-        Ok(Report::yes(lines))
+        let mut lines = Text::new(self.alloc);
+        push_graph(&mut lines, krates.graph());
+        Ok(Report::yes(lines.whole()?))
     }
 
     /// The answer to a word about one crate: the tree of what it needs or of those that need it, why it is kept, its enabled features,
@@ -369,9 +370,9 @@ impl Reporter<'_> {
 
     /// What each query answers, where packages have these ids.
     fn query_lines(&self, krates: &Krates, ids: &[PackageId]) -> Result<Report, ReportError> {
-        let mut lines = String::new(self.alloc);
+        let mut lines = Text::new(self.alloc);
         push_answers(self.alloc, &mut lines, krates, ids)?;
-        Ok(Report::yes(lines))
+        Ok(Report::yes(lines.whole()?))
     }
 
     /// Whether it is certain that a package isn't reached.

@@ -3,7 +3,7 @@
 use crate::crate_name::ShortId;
 use krates::derive::{Derivation, Fact, Step};
 use krates::{DepKind, Kid};
-use std::alloc::AllocError;
+use krates_text::text::Text;
 
 /// The rule by which roots are kept.
 const ROOT: u8 = 1;
@@ -48,7 +48,7 @@ fn purpose(kind: DepKind) -> &'static str {
 
 impl StepSentence<'_> {
     /// Adds what enables a feature.
-    fn push_enabling(&self, krate: &Kid, name: &str, lines: &mut String) -> Result<(), AllocError> {
+    fn push_enabling(&self, krate: &Kid, name: &str, lines: &mut Text) {
         match fact_of(self.from) {
             None => write!(
                 lines,
@@ -72,20 +72,20 @@ impl StepSentence<'_> {
     }
 
     /// Adds the sentence of a step, if it says more than the steps before it.
-    fn push(&self, lines: &mut String) -> Result<(), AllocError> {
+    fn push(&self, lines: &mut Text) {
         match &self.step.fact {
             Fact::Crate(krate) if self.step.rule == ROOT => {
                 writeln!(lines, "  {} is a root", ShortId(krate))
             }
-            Fact::Crate(_) | Fact::Toggled { .. } => Ok(()),
+            Fact::Crate(_) | Fact::Toggled { .. } => {}
             Fact::Feature { krate, name } => {
                 write!(
                     lines,
                     "  feature `{name}` of {} is enabled: ",
                     ShortId(krate)
-                )?;
-                self.push_enabling(krate, name.as_str(), lines)?;
-                lines.push_str("\n")
+                );
+                self.push_enabling(krate, name.as_str(), lines);
+                lines.push_str("\n");
             }
             Fact::Kept {
                 parent,
@@ -93,16 +93,16 @@ impl StepSentence<'_> {
                 kind,
                 cfg,
             } => {
-                write!(lines, "  {} needs {}", ShortId(parent), ShortId(child))?;
-                lines.push_str(purpose(*kind))?;
+                write!(lines, "  {} needs {}", ShortId(parent), ShortId(child));
+                lines.push_str(purpose(*kind));
                 if let Some(cfg) = cfg {
-                    write!(lines, ", on {cfg}")?;
+                    write!(lines, ", on {cfg}");
                 }
                 // the feature that enables an optional dependency
                 if let Some(Fact::Feature { name, .. }) = fact_of(self.from) {
-                    write!(lines, ", for its feature `{name}`")?;
+                    write!(lines, ", for its feature `{name}`");
                 }
-                lines.push_str("\n")
+                lines.push_str("\n");
             }
         }
     }
@@ -110,29 +110,21 @@ impl StepSentence<'_> {
 
 /// Adds a sentence for each step that says more than the others: that a kept edge keeps its crate, and that a feature of one crate enables one
 /// of another, is said once.
-pub(crate) fn push_sentences(
-    derivation: &Derivation,
-    lines: &mut String,
-) -> Result<(), AllocError> {
+pub(crate) fn push_sentences(derivation: &Derivation, lines: &mut Text) {
     for number in 0..derivation.steps.len() {
         if let Some(sentence) = sentence_at(derivation, number) {
-            sentence.push(lines)?;
+            sentence.push(lines);
         }
     }
-    Ok(())
 }
 
 /// Adds why the feature of the last step is enabled.
-pub(crate) fn push_last_reason(
-    derivation: &Derivation,
-    lines: &mut String,
-) -> Result<(), AllocError> {
+pub(crate) fn push_last_reason(derivation: &Derivation, lines: &mut Text) {
     let last = derivation.steps.len().saturating_sub(1);
     let Some(sentence) = sentence_at(derivation, last) else {
-        return Ok(());
+        return;
     };
-    match &sentence.step.fact {
-        Fact::Feature { krate, name } => sentence.push_enabling(krate, name.as_str(), lines),
-        _ => Ok(()),
+    if let Fact::Feature { krate, name } = &sentence.step.fact {
+        sentence.push_enabling(krate, name.as_str(), lines);
     }
 }

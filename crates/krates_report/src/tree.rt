@@ -6,6 +6,7 @@ use crate::shown::Shown;
 use krates::{Krates, NodeId};
 use krates_answers::direct_links::DirectLinks;
 use krates_answers::tree::TreeLine;
+use krates_text::text::Text;
 use serde_json::Value;
 use std::alloc::{AllocError, Global};
 
@@ -50,19 +51,19 @@ impl<'a> Tree<'a> {
         line: &TreeLine,
         is_last: bool,
         goes_on: &mut Vec<bool>,
-        lines: &mut String,
+        lines: &mut Text,
     ) -> Result<(), AllocError> {
-        if line.depth == 0 && !lines.is_empty() {
-            lines.push_str("\n")?;
+        if line.depth == 0 && !lines.as_str().is_empty() {
+            lines.push_str("\n");
         }
         fit(goes_on, line.depth)?;
-        push_branches(goes_on, is_last, lines)?;
+        push_branches(goes_on, is_last, lines);
         goes_on.push(!is_last)?;
-        if line.krate.index() >= self.krates.len() {
-            return Ok(());
+        if line.krate.index() < self.krates.len() {
+            let mark = if self.is_repeated(line) { " (*)" } else { "" };
+            writeln!(lines, "{}{mark}", ShortName(&self.krates[line.krate]));
         }
-        let mark = if self.is_repeated(line) { " (*)" } else { "" };
-        writeln!(lines, "{}{mark}", ShortName(&self.krates[line.krate]))
+        Ok(())
     }
 
     /// What JSON says of a line.
@@ -104,14 +105,14 @@ fn fit(flags: &mut Vec<bool>, len: usize) -> Result<(), AllocError> {
 }
 
 /// Adds what is drawn before a line, where these are the lines above it that go on, the margin's first.
-fn push_branches(goes_on: &[bool], is_last: bool, lines: &mut String) -> Result<(), AllocError> {
+fn push_branches(goes_on: &[bool], is_last: bool, lines: &mut Text) {
     let Some((_, above)) = goes_on.split_first() else {
-        return Ok(());
+        return;
     };
     for goes_on in above {
-        lines.push_str(if *goes_on { "│   " } else { "    " })?;
+        lines.push_str(if *goes_on { "│   " } else { "    " });
     }
-    lines.push_str(if is_last { "└── " } else { "├── " })
+    lines.push_str(if is_last { "└── " } else { "├── " });
 }
 
 impl Shown for Tree<'_> {
@@ -120,11 +121,11 @@ impl Shown for Tree<'_> {
     fn text(&self, alloc: Global) -> Result<String, AllocError> {
         let are_last = are_last(alloc, &self.lines)?;
         let mut goes_on = Vec::new(alloc);
-        let mut lines = String::new(alloc);
+        let mut lines = Text::new(alloc);
         for (line, is_last) in self.lines.iter().zip(&are_last) {
             self.push_drawn(line, *is_last, &mut goes_on, &mut lines)?;
         }
-        Ok(lines)
+        lines.whole()
     }
 
     /// A list of lines, each with `depth`, `id` and `repeated`.

@@ -6,6 +6,7 @@ use crate::sentences::{push_last_reason, push_sentences};
 use crate::shown::Shown;
 use krates::derive::{Derivation, Step};
 use krates::{KrateMatch, Krates, Node, NodeId, Package};
+use krates_text::text::Text;
 use serde_json::Value;
 use std::alloc::{AllocError, Global};
 
@@ -37,9 +38,10 @@ impl Shown for Why<'_> {
         if self.has_steps {
             return format!(in alloc; "{}", self.derivation);
         }
-        let mut lines = format!(in alloc; "{} is kept:\n", ShortName(self.krate))?;
-        push_sentences(&self.derivation, &mut lines)?;
-        Ok(lines)
+        let mut lines = Text::new(alloc);
+        writeln!(lines, "{} is kept:", ShortName(self.krate));
+        push_sentences(&self.derivation, &mut lines);
+        lines.whole()
     }
 
     /// `id` and `steps`, each with `rule`, `fact` and `uses`.
@@ -79,10 +81,11 @@ fn push_feature<'a>(
 ) -> Result<(), AllocError> {
     match krates.graph().raw_nodes().get(node.index()) {
         Some(Node::Feature { krate_index, name }) if krate_index.index() == krate.index() => {
-            let mut reason = String::new(alloc);
+            let mut reason = Text::new(alloc);
             if let Some(derivation) = krates.why(node)? {
-                push_last_reason(&derivation, &mut reason)?;
+                push_last_reason(&derivation, &mut reason);
             }
+            let reason = reason.whole()?;
             Ok(features.push(ExplainedFeature {
                 name: name.as_str(),
                 reason,
@@ -125,11 +128,12 @@ impl InJson for ExplainedFeature<'_> {
 impl Shown for ExplainedFeatures<'_> {
     /// The crate, and below it a line for each feature: its name, and why it is enabled.
     fn text(&self, alloc: Global) -> Result<String, AllocError> {
-        let mut lines = format!(in alloc; "{}\n", ShortName(self.krate))?;
+        let mut lines = Text::new(alloc);
+        writeln!(lines, "{}", ShortName(self.krate));
         for feature in &self.features {
-            writeln!(lines, "  {}: {}", feature.name, feature.reason)?;
+            writeln!(lines, "  {}: {}", feature.name, feature.reason);
         }
-        Ok(lines)
+        lines.whole()
     }
 
     /// `id` and `features`, each with `name` and `reason`.

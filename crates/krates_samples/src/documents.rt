@@ -25,10 +25,10 @@
 //!
 //! Any other section is skipped here: it says how the document is used. A tilde anywhere means a space.
 
-use crate::text::Text;
 use krates_cm::{DependencyKind, Metadata, PackageId};
 use krates_cm_json::parse;
 use krates_ids::Kid;
+use krates_text::text::Text;
 use std::alloc::Global;
 use std::test::Fail;
 

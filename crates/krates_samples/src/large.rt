@@ -1,7 +1,7 @@
 //! A document that is larger than any number in the sources.
 
 use crate::documents::document;
-use crate::text::Text;
+use krates_text::text::Text;
 use std::alloc::Global;
 use std::ops::Range;
 use std::test::Fail;

@@ -1,5 +1,5 @@
 //! The small languages of documents, settings and facts in which worked examples are written, the tables that one function goes through, a
-//! document that is large, texts that are written without an error, calls with little memory, and the substitute for cargo.
+//! document that is large, calls with little memory, and the substitute for cargo.
 #![tactic(auto)]
 
 pub mod documents;
@@ -9,4 +9,3 @@ pub mod settings;
 pub mod stand_in;
 pub mod starving;
 pub mod table;
-pub mod text;

@@ -1,6 +1,6 @@
 //! Tables of worked examples, which one function walks.
 
-use crate::text::Text;
+use krates_text::text::Text;
 use std::alloc::Global;
 use std::test::Fail;
 

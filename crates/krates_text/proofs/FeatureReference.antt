@@ -4,7 +4,7 @@ use Rattle.std.specs.Prelude.{codes}
 use Rattle.std.proofs.lemmas.List.{append_cancel_left}
 use Rattle.krates_text.specs.Text.{LacksText}
 use Rattle.krates_text.specs.FeatureReference.{Reference, krate, weak, strong, simple, IsReference, HasOneReading}
-use Rattle.krates_text.proofs.Text.{begins_or_not, cut_or_lacks, cut_once}
+use Rattle.krates_text.proofs.TextLemmas.{begins_or_not, cut_or_lacks, cut_once}
 
 -- a text with "?/" has a "/"
 slash_in_weak : (text before after : List ℕ) → text ≡ before ++ (codes "?/" ++ after) → LacksText (codes "/") text → ⊥

@@ -1,4 +1,4 @@
-pub mod Text
+pub mod TextLemmas
 pub mod CutsLemmas
 pub mod FeatureReference
 pub mod PathLemmas

@@ -3,26 +3,20 @@
 
 use krates::graph::Graph;
 use krates::{DepKind, Edge, Node, NodeId, Package, PackageId};
-use std::alloc::AllocError;
+use krates_text::text::Text;
 
 /// Adds a word and numbers, with which a line begins, and a space before each number.
-fn push_start(lines: &mut String, word: &str, numbers: &[usize]) -> Result<(), AllocError> {
-    lines.push_str(word)?;
+fn push_start(lines: &mut Text, word: &str, numbers: &[usize]) {
+    lines.push_str(word);
     for number in numbers {
-        write!(lines, " {number}")?;
+        write!(lines, " {number}");
     }
-    Ok(())
 }
 
 /// Adds a line of a word, numbers and an id.
-pub(crate) fn push_line(
-    lines: &mut String,
-    word: &str,
-    numbers: &[usize],
-    id: &PackageId,
-) -> Result<(), AllocError> {
-    push_start(lines, word, numbers)?;
-    writeln!(lines, " {}", id.repr)
+pub(crate) fn push_line(lines: &mut Text, word: &str, numbers: &[usize], id: &PackageId) {
+    push_start(lines, word, numbers);
+    writeln!(lines, " {}", id.repr);
 }
 
 /// The id of the crate with a number, as the document writes it.
@@ -35,17 +29,17 @@ fn id_at(nodes: &[Node<Package>], number: NodeId) -> &str {
 
 /// Adds a line of a word, numbers and what a node is.
 pub(crate) fn push_node(
-    lines: &mut String,
+    lines: &mut Text,
     word: &str,
     numbers: &[usize],
     nodes: &[Node<Package>],
     node: &Node<Package>,
-) -> Result<(), AllocError> {
-    push_start(lines, word, numbers)?;
+) {
+    push_start(lines, word, numbers);
     match node {
         Node::Krate { krate, .. } => writeln!(lines, " crate {}", krate.id.repr),
         Node::Feature { krate_index, name } => {
-            writeln!(lines, " feature {}/{name}", id_at(nodes, *krate_index))
+            writeln!(lines, " feature {}/{name}", id_at(nodes, *krate_index));
         }
     }
 }
@@ -60,62 +54,50 @@ fn kind_name(kind: DepKind) -> &'static str {
 }
 
 /// Adds a line of a word, numbers and what an edge is.
-pub(crate) fn push_edge(
-    lines: &mut String,
-    word: &str,
-    numbers: &[usize],
-    edge: &Edge,
-) -> Result<(), AllocError> {
-    push_start(lines, word, numbers)?;
+pub(crate) fn push_edge(lines: &mut Text, word: &str, numbers: &[usize], edge: &Edge) {
+    push_start(lines, word, numbers);
     let (mark, kind, cfg) = match edge {
         Edge::Dep { kind, cfg } => ("dep", *kind, cfg),
         Edge::DepFeature { kind, cfg } => ("depfeature", *kind, cfg),
         Edge::Feature => return lines.push_str(" feature\n"),
     };
     let cfg = cfg.as_deref().unwrap_or("-");
-    writeln!(lines, " {mark} {} {cfg}", kind_name(kind))
+    writeln!(lines, " {mark} {} {cfg}", kind_name(kind));
 }
 
 /// Adds the nodes.
-fn push_nodes(lines: &mut String, nodes: &[Node<Package>]) -> Result<(), AllocError> {
+fn push_nodes(lines: &mut Text, nodes: &[Node<Package>]) {
     for (number, node) in nodes.iter().enumerate() {
-        push_node(lines, "node", &[number], nodes, node)?;
+        push_node(lines, "node", &[number], nodes, node);
     }
-    Ok(())
 }
 
 /// Adds a line for each crate that the mapping of a node names: a feature has none.
-fn push_mapping(lines: &mut String, number: usize, node: &Node<Package>) -> Result<(), AllocError> {
+fn push_mapping(lines: &mut Text, number: usize, node: &Node<Package>) {
     let Node::Krate { dep_mapping, .. } = node else {
-        return Ok(());
+        return;
     };
     for (place, entry) in dep_mapping.iter().enumerate() {
         if let Some(krate) = entry {
-            push_start(lines, "map", &[number, place, krate.index()])?;
-            lines.push_str("\n")?;
+            push_start(lines, "map", &[number, place, krate.index()]);
+            lines.push_str("\n");
         }
     }
-    Ok(())
 }
 
 /// Adds the mappings.
-fn push_mappings(lines: &mut String, nodes: &[Node<Package>]) -> Result<(), AllocError> {
+fn push_mappings(lines: &mut Text, nodes: &[Node<Package>]) {
     for (number, node) in nodes.iter().enumerate() {
-        push_mapping(lines, number, node)?;
+        push_mapping(lines, number, node);
     }
-    Ok(())
 }
 
 /// Adds the lines of a graph.
-pub(crate) fn push_graph(
-    lines: &mut String,
-    graph: &Graph<Node<Package>, Edge>,
-) -> Result<(), AllocError> {
-    push_nodes(lines, graph.raw_nodes())?;
-    push_mappings(lines, graph.raw_nodes())?;
+pub(crate) fn push_graph(lines: &mut Text, graph: &Graph<Node<Package>, Edge>) {
+    push_nodes(lines, graph.raw_nodes());
+    push_mappings(lines, graph.raw_nodes());
     for (number, edge) in graph.raw_edges().iter().enumerate() {
         let numbers = [number, edge.source.index(), edge.target.index()];
-        push_edge(lines, "edge", &numbers, &edge.weight)?;
+        push_edge(lines, "edge", &numbers, &edge.weight);
     }
-    Ok(())
 }

@@ -1,6 +1,6 @@
 use Rattle.std.proofs.Common.{refl}
 use Rattle.std.specs.Prelude.{codes}
-use Rattle.krates_text.proofs.Text.{cut_at_first, lacks_text}
+use Rattle.krates_text.proofs.TextLemmas.{cut_at_first, lacks_text}
 use Rattle.krates_text.proofs.features.ParsedFeature.feat.Goals as goal
 
 pub returns-in-Some-split_once : goal.returns-in-Some-split_once
