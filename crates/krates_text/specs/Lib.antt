@@ -17,3 +17,4 @@ pub mod CfgFault
 pub mod CfgExpression
 pub mod Passing
 pub mod AskedTargets
+pub mod WrittenText

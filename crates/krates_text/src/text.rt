@@ -1,5 +1,8 @@
 //! A text that is written without an error at each write.
 
+ghost use Rattle.std.specs.Prelude.{◌≡◌, [], Some, None, IfSome, IfOk, IfErr, string_bytes};
+ghost use Rattle.krates_text.specs.WrittenText.{written, Grows};
+
 use std::alloc::{AllocError, Global};
 use std::fmt::Display;
 
@@ -20,7 +23,9 @@ pub struct Text {
 
 impl Text {
     /// An empty text. Time O(1).
-    pub fn new(alloc: Global) -> Text {
+    pub fn new(alloc: Global) -> Text
+        ensures { written result ≡ Some [] }
+    {
         Text {
             written: String::new(alloc),
             is_whole: true,
@@ -37,7 +42,9 @@ impl Text {
     /// ```text
     /// assert!(rt; Text::new(alloc).as_str().is_empty());
     /// ```
-    pub fn as_str(&self) -> &str {
+    pub fn as_str(&self) -> &str
+        ensures { IfSome (written self.now) (λ bytes. result.now ≡ bytes) }
+    {
         self.written.as_str()
     }
 
@@ -49,7 +56,9 @@ impl Text {
     /// text.push_str("b");
     /// assert_eq!(rt; text.as_str(), "ab");
     /// ```
-    pub fn push_str(&mut self, text: &str) {
+    pub fn push_str(&mut self, text: &str)
+        ensures { Grows (written self.old) (Some text.now) (written self.new) }
+    {
         self.is_whole = self.written.push_str(text).is_ok() && self.is_whole;
     }
 
@@ -61,7 +70,9 @@ impl Text {
     /// write!(text, "{}-{}", 1, 2);
     /// assert_eq!(rt; text.as_str(), "1-2");
     /// ```
-    pub fn write_fmt<D: Display + Drop>(&mut self, value: D) {
+    pub fn write_fmt<D: Display + Drop>(&mut self, value: D)
+        ensures { Grows (written self.old) (D.output value) (written self.new) }
+    {
         self.is_whole = self.written.write_fmt(value).is_ok() && self.is_whole;
     }
 
@@ -72,7 +83,10 @@ impl Text {
     /// write!(text, "{}", 12);
     /// assert_eq!(rt; text.whole()?.as_str(), "12");
     /// ```
-    pub fn whole(self) -> Result<String, AllocError> {
+    pub fn whole(self) -> Result<String, AllocError>
+        ensures ok { IfOk result (λ text. written self ≡ Some (string_bytes text)) }
+        ensures err { IfErr result (λ _. written self ≡ None) }
+    {
         if self.is_whole {
             Ok(self.written)
         } else {
