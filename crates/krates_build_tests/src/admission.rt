@@ -1,10 +1,20 @@
 //! Which documents are refused before they are resolved, and why.
 
 use crate::real_documents::metadata_of;
+use krates_document::Ids;
+use krates_ids::Error;
 use krates_resolve::admit;
 use krates_samples::table::{Row, Tell, hold};
 use krates_text::text::Text;
 use std::test::Fail;
+
+/// Adds how many ids of packages are read, or the text of the refusal.
+fn push_admitted(told: &mut Text, admitted: &Result<Ids, Error>) {
+    match admitted {
+        Ok(ids) => write!(told, "{} packages", ids.packages.len()),
+        Err(error) => write!(told, "{error}"),
+    }
+}
 
 /// How many ids of packages are read of the document of a line, or the text of the refusal.
 struct Admitted;
@@ -12,10 +22,7 @@ struct Admitted;
 impl Tell for Admitted {
     fn tell(told: &mut Text, line: &str) -> Result<(), Fail> {
         let metadata = metadata_of(told.allocator(), line)?;
-        match admit(told.allocator(), &metadata) {
-            Ok(ids) => write!(told, "{} packages", ids.packages.len()),
-            Err(error) => write!(told, "{error}"),
-        }
+        push_admitted(told, &admit(told.allocator(), &metadata));
         Ok(())
     }
 }

@@ -32,6 +32,7 @@ impl OnFilter for Reported {
 
     fn filtered(&mut self, pkg: Package) {
         push_package(&mut self.text, "-", &pkg);
+        drop(pkg);
     }
 }
 

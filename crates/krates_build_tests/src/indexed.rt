@@ -89,6 +89,7 @@ impl OnFilter for Features {
 
     fn filtered(&mut self, pkg: Package) {
         self.count = self.count.saturating_add(pkg.features.len());
+        drop(pkg);
     }
 }
 

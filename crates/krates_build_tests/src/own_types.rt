@@ -24,10 +24,9 @@ pub(crate) struct Named {
     version: Version,
 }
 
-impl FromPackage for Named {
-    ghost made_from = { λ _ _. ⊤ };
-
-    fn from_package(alloc: Global, mut pkg: Package) -> Result<Named, AllocError> {
+impl Named {
+    /// The name of this package and the path of its manifest, which are taken out of it.
+    fn taken_from(alloc: Global, pkg: &mut Package) -> Result<Named, AllocError> {
         if pkg.name.as_str() == "z" {
             return Err(AllocError);
         }
@@ -39,6 +38,16 @@ impl FromPackage for Named {
             manifest,
             version,
         })
+    }
+}
+
+impl FromPackage for Named {
+    ghost made_from = { λ _ _. ⊤ };
+
+    fn from_package(alloc: Global, mut pkg: Package) -> Result<Named, AllocError> {
+        let named = Named::taken_from(alloc, &mut pkg);
+        drop(pkg);
+        named
     }
 }
 
@@ -82,6 +91,7 @@ fn built(
 ) -> Result<Krates<Named, IsDependency>, Error> {
     let mut filter = FilterFn(|pkg: Package| {
         let _ = names.push_str(pkg.name.as_str());
+        drop(pkg);
     });
     let mut builder = Builder::new(alloc);
     builder.all_named(section(line, "names all").is_some());

@@ -102,6 +102,19 @@ impl ToldOfDocument for OfDependency {
     }
 }
 
+/// Adds what a document answers about a dependency, where there are three words or more, or about a crate and a feature.
+fn push_answer(
+    told: &mut Text,
+    metadata: &Metadata,
+    setting: &Setting,
+    words: &str,
+) -> Result<(), Fail> {
+    if words.split_whitespace().nth(2).is_some() {
+        return push_told::<OfDependency>(told, metadata, setting, words);
+    }
+    push_crate(told, metadata, setting, words)
+}
+
 /// What the document answers about the crate and the feature, or about the dependency, that a line says.
 struct Answers;
 
@@ -110,10 +123,7 @@ impl Tell for Answers {
         let (words, _) = line.split_once(" / ").unwrap_or((line, ""));
         let metadata = metadata_of(told.allocator(), DOCUMENT)?;
         let setting = setting_of(told.allocator(), line)?;
-        if words.split_whitespace().nth(2).is_some() {
-            return push_told::<OfDependency>(told, &metadata, &setting, words);
-        }
-        push_crate(told, &metadata, &setting, words)
+        push_answer(told, &metadata, &setting, words)
     }
 }
 

@@ -9,14 +9,22 @@ use std::test::Fail;
 /// The real documents, by the name of the member of each.
 const REAL: &[(&str, &str)] = &[("weakling", WEAK), ("gitter", GIT)];
 
-/// The text of the document of a line, or of the real document of the member that it names.
-fn json_of(alloc: Global, line: &str) -> Result<String, Fail> {
+/// The text of the real document of the member that a line names.
+fn real_json(line: &str) -> Option<&'static str> {
     for &(member, json) in REAL {
         if member == line {
-            return Ok(String::from_str(alloc, json)?);
+            return Some(json);
         }
     }
-    document(alloc, line)
+    None
+}
+
+/// The text of the document of a line, or of the real document of the member that it names.
+fn json_of(alloc: Global, line: &str) -> Result<String, Fail> {
+    match real_json(line) {
+        Some(json) => Ok(String::from_str(alloc, json)?),
+        None => document(alloc, line),
+    }
 }
 
 /// The document of a line, or the real document of the member that it names, read.
