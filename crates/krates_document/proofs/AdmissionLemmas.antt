@@ -79,6 +79,10 @@ only : (t u : Text) (k : ℕ) → k < length (t ∷ []) → get_or (t ∷ []) k 
 only t u zero lt is = is
 only t u (suc k) lt is = absurd (omega (arith, lt))
 
+-- a text that isn't an id is one of the list
+pub unread_one : (texts : List Text) (t : Text) → Contains texts t → (e : Error) → UnreadRefusal (t ∷ []) e → UnreadRefusal texts e
+unread_one texts t among = invalid_so (λ u. Contains (t ∷ []) u × IsNoId u) (UnreadRefusal texts) (λ u h. (subst (Contains texts) (only t (string_bytes u) h.0.0 h.0.1 h.0.2) among, h.1)) tt
+
 -- an invalid id of a dependency is one of the list
 pub bad_dep : (texts : List Text) (t : Text) → Contains texts t → (e : Error) → InvalidDepRefusal (t ∷ []) e → InvalidDepRefusal texts e
 bad_dep texts t among = invalid_so (λ u. Contains (t ∷ []) u × IsBadText u) (InvalidDepRefusal texts) (λ u h. (subst (Contains texts) (only t (string_bytes u) h.0.0 h.0.1 h.0.2) among, h.1)) tt

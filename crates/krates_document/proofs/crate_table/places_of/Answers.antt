@@ -31,3 +31,13 @@ returns-clause-places c = places_whole c.args.count c.args.numbers.now c.loop-pl
 
 pub returns-clause-doubled : goal.returns-clause-doubled
 returns-clause-doubled c = doubled_whole c.args.numbers.now c.loop-place.place c.loop-place.doubled (omega arith) c.loop-place.invariant.again
+
+pub index-requires : goal.index-requires
+index-requires c =
+    let number = slice_get-get_or c.args.numbers.now c.loop-place.place None c.loop-place-test.true ∙ ap (λ (x : Option ℕ). Some x) c.in-Some.is in
+    omega (arith, c.requires c.loop-place.place c.in-Some.number number)
+
+pub index_mut-requires : goal.index_mut-requires
+index_mut-requires c =
+    let number = slice_get-get_or c.args.numbers.now c.loop-place.place None c.loop-place-test.true ∙ ap (λ (x : Option ℕ). Some x) c.in-Some.is in
+    omega (arith, c.requires c.loop-place.place c.in-Some.number number)

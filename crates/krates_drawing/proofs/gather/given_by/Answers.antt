@@ -1,4 +1,4 @@
-use Rattle.std.proofs.Common.{◌≡◌, IfOk, filter, map, subst, sym, arith}
+use Rattle.std.proofs.Common.{◌≡◌, IfOk, filter, map, subst, sym, arith, rules}
 use Rattle.std.proofs.lemmas.Grind.{elements}
 use Rattle.krates_cm.specs.Document.{DependencyModel, dependency_view, node_view, text_view}
 use Rattle.krates_questions.specs.Lookup.{resolved_view}
@@ -31,3 +31,9 @@ bounds-records-edge-3 c = grind (arith, elements)
 
 pub index-declared-requires : goal.index-declared-requires
 index-declared-requires c = grind (arith, elements)
+
+pub offset_bounds-records-edge : goal.offset_bounds-records-edge
+offset_bounds-records-edge c = let within = bounds-records-edge c in search rules
+
+pub offset_bounds-records-edge-2 : goal.offset_bounds-records-edge-2
+offset_bounds-records-edge-2 c = let within = bounds-records-edge-3 c in search rules

@@ -136,3 +136,6 @@ returns-in_ok-keep-in-Available-clause-whole c so =
     let d = c.in-Some.ensures.declared in
     let there = subst (HasAvailability b c.args.edge.now.entry.now) c.in-Available.is c.requires.availability in
     kept_tried b c.keep.new.found c.args.edge.now.entry.now k IsAny c.in-Some.declared d.0 c.agrees.ensures.distinct c.requires.entry d.1 there.0 c.in_ok-keep-in-Available.ensures.kept
+
+pub keep-requires-clause-node : goal.keep-requires-clause-node
+keep-requires-clause-node c = (subst (HasAvailability c.args.context.now c.args.edge.now.entry.now) c.in-Available.is c.requires.availability).1
