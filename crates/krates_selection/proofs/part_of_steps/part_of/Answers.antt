@@ -21,5 +21,5 @@ returns c =
       is_part = record { increase = made.increase; long = made.long; each = made.each };
       marked = made.marked;
       each = λ k marked. let low : k < c.loop-number.number = omega (arith, slice_get_within c.args.choice.now.marks.now k true marked) in
-        let placed = made.placed k low marked in (placed.0, placed.2);
+          let placed = made.placed k low marked in (placed.0, placed.2);
     }
