@@ -1,28 +1,38 @@
 """Lists the definitions that the contract of `build_with_metadata` reaches: all that a reader has to trust in the
-headline.
+headline; and how clauses see the values of its signature, which the definitions rest on.
 
 Writes them to docs/HEADLINE.md, or says whether the page is what it would write. The definitions of the standard
 library and of the ported crates are left out: they are not this repository's.
 """
 import re
 
+from docs import views
 from krates_sources import ROOT
 
 PAGE = ROOT / "docs" / "HEADLINE.md"
 SOURCE = "crates/krates/src/builder.rt"
+CRATE = "krates"
+OWNER = "Builder"
 FUNCTION = "build_with_metadata"
 
 HEAD = """# The headline, and all that has to be believed of it
 
+> For every metadata document and builder setting, the index's answer included, a build that succeeds keeps exactly the
+> crates, enabled features and dependency edges with a finite derivation from the roots by the seven rules, draws exactly
+> their graph, and reports every other package once in id order; it is refused exactly for four written causes, and
+> every query answers as its definition over that graph.
+
 Written by `scripts/docs.py believed` from the contract of `Builder::build_with_metadata`
 ([builder.rt](../{source})), and compared with it by each run of the gate. The proofs need not be read: they are
-checked. To know what is proved, read the contract and the {count} definitions that it reaches: {lines} lines in
-{files} files.
+checked. To know what is proved, read the contract, the {count} definitions that it reaches, {lines} lines in
+{files} files, and how clauses see the values that it speaks of, {seen} lines in {seen_files} files. What a query answers
+is in its own contract ([CONTRACTS](CONTRACTS.md)).
 
 - {meaning} lines say what a document, its ids, its references and a setting mean, and what is kept, reported and
-  refused. This page keeps to 900 lines of these, and to 1300 of all.
+  refused.
 - {drawn} lines are about the drawn graph, of which the headline also speaks: which nodes, mappings and edges there are,
-  by number, how much work it was, and by which steps all of it is kept.
+  by number, how much work it was, by which steps all of it is kept, and what direct dependencies and dependents have
+  to do with one another.
 - {fields} lines say nothing new: they list the fields of a document, of an index's answer, of a setting and of a
   document's ids, as clauses see them. Every other definition names such fields, so they are here too.
 
@@ -58,9 +68,16 @@ them, only its own statement has to be believed in addition, which fits on a scr
   [Rebuilt](../crates/krates_build_tests/specs/Rebuilt.antt), `HoldsRebuilt`.
 - **Agreement**: if no two crates come from one declared dependency of `p`, `p` depends directly on exactly those that
   have `p` as a dependent. So `a` depends on `b` exactly if `b` has `a` as a dependent; but if one dependency brings two
-  versions of `d`, `a` is a dependent of both and depends on the one that comes last by id. It is true of each graph
-  that is drawn of a document that can be resolved, and `IsBuilt` below promises both.
+  versions of `d`, `a` is a dependent of both and depends on the one that comes last by id. Each build promises it
+  (`agree` of `IsBuilt` below); the law is about every graph that is drawn of a document that can be resolved.
   [BuildLaws](../crates/krates/specs/BuildLaws.antt), `IsBuildAgreeing`.
+"""
+
+SEEN = """## How clauses see values
+
+A clause that names a document, a setting, an id or a graph speaks of what its type's `impl Model` shows; what a filter
+does with a package, and what is made of a package or of an edge, is stated by the impl of the trait. A caller's own
+filter or type states its own.
 """
 
 IMPORT = re.compile(r"^\s*(?:ghost )?use Rattle\.(\w+)\.specs\.([\w.]+?)(?:\.\{(.*?)\})?(?: as (\w+))?;?$", re.M | re.S)
@@ -170,8 +187,17 @@ def used(words, imports, own):
             yield read(path).definitions[name]
 
 
+def seen_values():
+    """How clauses see the values of the function's signature."""
+    text = (ROOT / SOURCE).read_text(encoding="utf-8")
+    after = text[text.index("fn " + FUNCTION) :]
+    signature = re.split(r"\n\s*(?:requires|ensures)\b", after)[0]
+    named = [OWNER, *views.NAME.findall(signature)]
+    return views.of_types(CRATE, named) + views.of_traits(CRATE, named)
+
+
 def reached():
-    """All definitions that the contract reaches, each after those that it uses."""
+    """All definitions that the contract and the views of its values reach, each after those that it uses."""
     clauses, imports = contract()
     order, seen = [], set()
 
@@ -187,6 +213,9 @@ def reached():
 
     for definition in used(set(WORD.findall(" ".join(clauses))), imports, {}):
         visit(definition)
+    for view in seen_values():
+        for definition in used(view.words, imports_of(view.path.read_text(encoding="utf-8")), {}):
+            visit(definition)
     return clauses, order
 
 
@@ -218,10 +247,12 @@ def page():
     fields = lines_of(definition for definition in order if lists_fields(definition))
     drawn = lines_of(definition for definition in order if is_drawn(definition) and not lists_fields(definition))
     meaning = lines - drawn - fields
+    values = seen_values()
     bare = [f"`{definition.name}`" for definition in order if not definition.remark]
     told = f" {len(bare)} have none, and are to be read as they stand: {', '.join(bare)}." if bare else ""
     head = {"bare": told, "source": SOURCE, "count": len(order), "lines": lines, "files": len(files)}
     head |= {"meaning": meaning, "drawn": drawn, "fields": fields}
+    head |= {"seen": sum(len(it.text().split("\n")) for it in values), "seen_files": len({it.path for it in values})}
     out = [HEAD.format(contract="\n".join(clauses), **head), LAWS]
     for file in files:
         place = file.path.relative_to(ROOT)
@@ -229,7 +260,17 @@ def page():
         for definition in [d for d in order if d.file is file]:
             out.append(f"- `{definition.name}`" + (f": {definition.remark}" if definition.remark else ""))
         out.append("")
-    return "\n".join(out)
+    return "\n".join([*out, *seen_page(values)])
+
+
+def seen_page(values):
+    """The part of the page that shows how clauses see values, file by file."""
+    out = [SEEN]
+    for path in dict.fromkeys(it.path for it in values):
+        place = path.relative_to(ROOT)
+        blocks = "\n".join(it.text() for it in values if it.path == path)
+        out.append(f"[{place.parts[1]}, {'/'.join(place.parts[3:])}](../{place})\n\n```\n{blocks}\n```\n")
+    return out
 
 
 def check():

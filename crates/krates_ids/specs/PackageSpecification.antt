@@ -18,6 +18,7 @@ pub record Specification : Type 0 where
   pub version : Option VersionModel
   pub url : Option Text
 
+-- the specification of these parts
 abbrev pub specification : Text → Option VersionModel → Option Text → Specification
 specification name version url = record { name = name; version = version; url = url }
 

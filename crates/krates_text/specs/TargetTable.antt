@@ -51,6 +51,7 @@ table =
 abbrev pub row_of : List ℕ → Option Description
 row_of triple = find (λ d. bytes_eq d.triple triple) table
 
+-- what is known of a target, as the bytes of its texts
 abbrev pub description_of : TargetInfo → Description
 description_of info = record {
   triple = string_bytes info.triple;
@@ -71,6 +72,7 @@ pub data DescribedTarget : Type 0 where
   builtin : Description → DescribedTarget
   unknown : List ℕ → DescribedTarget
 
+-- a target as clauses see it: described, or a text of which nothing is known
 abbrev pub target_of : Target → DescribedTarget
 target_of (variant.Builtin info) = builtin (description_of info)
 target_of (variant.Unknown text) = unknown (string_bytes text)
