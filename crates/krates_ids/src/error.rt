@@ -10,7 +10,7 @@ use std::fmt;
 
 /// Why a build has no graph. The first kind of refusal that applies to a document counts: no graph, then ids that
 /// can't be read or occur twice, then what is lost, then no root.
-#[derive(Debug, Drop)]
+#[derive(Debug, Drop, thiserror::Error)]
 pub enum Error {
     /// The document has no resolved graph.
     NoResolveGraph,
@@ -33,7 +33,7 @@ pub enum Error {
 }
 
 /// What a document lacks.
-#[derive(Debug, Drop)]
+#[derive(Debug, Drop, thiserror::Error)]
 pub enum Lost {
     /// A root or a dependency that is needed has no package.
     Package(Kid),
@@ -73,8 +73,6 @@ impl fmt::Display for Error {
     }
 }
 
-impl std::error::Error for Error {}
-
 impl fmt::Display for Lost {
     ghost output = { λ lost. Some (lost_text lost) };
 
@@ -89,8 +87,6 @@ impl fmt::Display for Lost {
         }
     }
 }
-
-impl std::error::Error for Lost {}
 
 impl From<krates_cm::Error> for Error {
     ghost use Rattle.krates_ids.specs.MetadataError.{MetadataErrorBecomes};

@@ -3,9 +3,10 @@
 ghost use Rattle.std.specs.Prelude.{Some};
 
 use std::fmt;
+use thiserror::Error;
 
 /// Why a node or an edge was not added. Either hands the value back.
-#[derive(Debug, PartialEq, Eq, Drop)]
+#[derive(Debug, PartialEq, Eq, Drop, Error)]
 pub enum GraphError<T> {
     /// The graph holds as many as its limit allows.
     Full(T),
