@@ -1,7 +1,7 @@
 //! A text that is written without an error at each write.
 
-ghost use Rattle.std.specs.Prelude.{◌≡◌, [], Some, None, IfSome, IfOk, IfErr, string_bytes};
-ghost use Rattle.krates_text.specs.WrittenText.{written, Grows};
+ghost use Rattle.std.specs.Prelude.{◌≡◌, [], Some, None, IfOk, IfErr, string_bytes};
+ghost use Rattle.krates_text.specs.WrittenText.{held, written, Grows};
 
 use std::alloc::{AllocError, Global};
 use std::fmt::Display;
@@ -18,6 +18,8 @@ use std::fmt::Display;
 #[derive(Drop)]
 pub struct Text {
     written: String,
+    /// What is printed of a value, before it is added: so half of a value is never added.
+    printed: String,
     is_whole: bool,
 }
 
@@ -28,6 +30,7 @@ impl Text {
     {
         Text {
             written: String::new(alloc),
+            printed: String::new(alloc),
             is_whole: true,
         }
     }
@@ -43,7 +46,7 @@ impl Text {
     /// assert!(rt; Text::new(alloc).as_str().is_empty());
     /// ```
     pub fn as_str(&self) -> &str
-        ensures { IfSome (written self.now) (λ bytes. result.now ≡ bytes) }
+        ensures { result.now ≡ held self.now }
     {
         self.written.as_str()
     }
@@ -57,7 +60,7 @@ impl Text {
     /// assert_eq!(rt; text.as_str(), "ab");
     /// ```
     pub fn push_str(&mut self, text: &str)
-        ensures { Grows (written self.old) (Some text.now) (written self.new) }
+        ensures { Grows self.old (Some text.now) self.new }
     {
         self.is_whole = self.written.push_str(text).is_ok() && self.is_whole;
     }
@@ -71,9 +74,12 @@ impl Text {
     /// assert_eq!(rt; text.as_str(), "1-2");
     /// ```
     pub fn write_fmt<D: Display + Drop>(&mut self, value: D)
-        ensures { Grows (written self.old) (D.output value) (written self.new) }
+        ensures { Grows self.old (D.output value) self.new }
     {
-        self.is_whole = self.written.write_fmt(value).is_ok() && self.is_whole;
+        self.printed.clear();
+        self.is_whole = self.printed.write_fmt(value).is_ok()
+            && self.written.push_str(self.printed.as_str()).is_ok()
+            && self.is_whole;
     }
 
     /// The whole text. It is refused, as for lack of memory, where something couldn't be added. Time O(1).
