@@ -24,6 +24,7 @@ pub mod OutlineThere
 pub mod Parts
 pub mod Placed
 pub mod Rebuilt
+pub mod RoomLemmas
 pub mod SaidAlike
 pub mod SearchedKrates
 pub mod Standing

@@ -16,6 +16,7 @@ pub mod Outline
 pub mod OutlineOrder
 pub mod Paths
 pub mod Rebuilding
+pub mod Room
 pub mod Stored
 pub mod Views
 pub mod WorkOfOutline

@@ -11,6 +11,7 @@ ghost use Rattle.krates_drawing.specs.Views.{kids_in, edge_row_view, meaning_vie
 use crate::edge::{Edge, PlannedEdge};
 use crate::numbers::{NumberedOutline, place_of_crate};
 use crate::outline::{EdgeRow, FeatureRow, Meaning, Outline};
+use crate::room::edges_at_most;
 use krates_graph::graph::NodeId;
 use krates_ids::Kid;
 use krates_rules::DepKind;
@@ -226,22 +227,4 @@ impl NumberedOutline<'_> {
         self.draw_features(&mut out)?;
         Ok(out)
     }
-}
-
-/// How many edges are drawn of an outline at most: the list of them is made with this room, and grows no more. Each kept edge is
-/// drawn once, or once for each feature that it gives, and a feature leads to its crate and to what its references name.
-fn edges_at_most(outline: &Outline) -> usize {
-    let given = outline.links.iter().map(|link| link.given.len().max(1));
-    let meanings = outline
-        .features
-        .iter()
-        .flat_map(|named| named.meanings.iter());
-    let named = meanings.map(|meaning| match meaning {
-        Meaning::OwnFeature(_) => 1,
-        _ => referents_in(meaning).len(),
-    });
-    let others = outline.toggled.len().saturating_add(outline.features.len());
-    given
-        .chain(named)
-        .fold(others, |count, more| count.saturating_add(more))
 }

@@ -13,6 +13,7 @@ pub mod node;
 pub mod nodes;
 pub mod numbers;
 pub mod outline;
+mod room;
 pub mod store;
 
 pub use division::{FilterFn, NoneFilter, OnFilter};
