@@ -5,7 +5,7 @@ ghost use Rattle.krates_drawing.specs.Ends.{HasEnds};
 ghost use Rattle.krates_drawing.specs.Stored.{IsStoredAs};
 ghost use Rattle.krates_drawing.specs.Views.{planned_edge_view};
 ghost use Rattle.krates_drawing.specs.declared.edge.Edge.{Edge};
-ghost use Rattle.krates_drawing.specs.Limits.{StoringRefusal};
+ghost use Rattle.krates_drawing.specs.Limits.{GraphErrorBecomes, StopsAt, StoringRefusal};
 
 use crate::edge::{Edge, PlannedEdge};
 use krates_graph::graph::{Graph, GraphError};
@@ -35,7 +35,8 @@ impl FromEdge for Edge {
 }
 
 /// Puts the planned edges, in their order, into a graph that has the nodes and no edge yet. It is refused as
-/// `TooMany` only where there are more than the graph takes, or as `Memory`. Time O(edges).
+/// `TooMany` only where there are more than the graph takes, and then the graph is full; or as `Memory`, before the last is in it.
+/// Time O(edges).
 pub fn store_edges<N, E: FromEdge + Drop>(
     alloc: Global,
     planned_edges: &[PlannedEdge],
@@ -48,15 +49,25 @@ pub fn store_edges<N, E: FromEdge + Drop>(
         (map planned_edge_view planned_edges.now) graph.new.edges) }
     ensures rest { graph.new ≡ record graph.old { edges = graph.new.edges } }
     ensures refused { IfErr result (StoringRefusal graph.old.edge_limit (length planned_edges.now)) }
+    ensures stopped { IfErr result (StopsAt graph.new (length planned_edges.now)) }
 {
     for x in planned_edges {
         let edge = x.edge.clone()?;
         let weight = E::from_edge(alloc, edge)?;
         match graph.add_edge(x.source, x.target, weight) {
             Ok(_) => {}
-            Err(GraphError::Full(_)) => return Err(Error::TooMany),
-            Err(GraphError::Memory(_)) => return Err(Error::Memory),
+            Err(cause) => return Err(refusal(cause)),
         }
     }
     Ok(())
+}
+
+/// As what it is told that the graph takes no further edge: too many where it is full, and want of memory as such.
+fn refusal<E: Drop>(cause: GraphError<E>) -> Error
+    ensures { GraphErrorBecomes cause result }
+{
+    match cause {
+        GraphError::Full(_) => Error::TooMany,
+        GraphError::Memory(_) => Error::Memory,
+    }
 }
