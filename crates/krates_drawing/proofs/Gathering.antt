@@ -1,6 +1,7 @@
 -- What is gathered from a selection is its outline.
-use Rattle.std.proofs.Common.{IsTrue, ◌≡◌, ◌↔◌, Bool, inl, inr, ℕ, Contains, ◌++◌, zero, suc, ◌<◌, List, [], ◌∷◌, All, length, map, None, Option, Some, slice_get, refl, sym, ap, ◌∙◌, subst, arith}
+use Rattle.std.proofs.Common.{IsTrue, ◌≡◌, ◌↔◌, Bool, inl, inr, ℕ, Contains, ◌++◌, zero, suc, ◌<◌, List, [], ◌∷◌, All, get_or, length, map, None, Option, Some, option_map, slice_get, refl, sym, ap, ◌∙◌, subst, arith}
 use Rattle.std.proofs.lemmas.List.{get_or-map, length-map}
+use Rattle.std.proofs.lemmas.Option.{get_or_from_slice_get, same_Some, slice_get-get_or, slice_get-map, slice_get_within}
 use Rattle.std.proofs.lemmas.Simd.{map-map}
 use Rattle.std.proofs.lemmas.List.Elements.{All-contains, All-contains_itself, All-from_recursion, All-weaker, Contains-append_left}
 use Rattle.std.specs.Global.{Vec}
@@ -47,6 +48,19 @@ use Rattle.krates_drawing.proofs.WorkOfOutline.{features_times, same_work}
 use Rattle.krates_rules.proofs.Members.{Member, contains_of, member_map, member_of}
 use Rattle.krates_rules.proofs.Zips.{all_taken}
 use Rattle.krates_rules.proofs.OnlyOne.{one_node, one_package}
+
+-- ---- what is read at places
+
+-- the record that is read at a place is the one that is there
+pub record_read : (records : List CrateRecord) (n : ℕ) (there read : CrateRecord) → slice_get records n ≡ Some there → read ≡ get_or records n read → read ≡ there
+record_read records n there read at is = is ∙ get_or_from_slice_get records n there read at
+
+-- and what is seen of an item is what is there as it is seen
+pub seen_read : {A B : Type 0} (see : A → B) (xs : List A) (n : ℕ) (read : A) (there : B) → slice_get (map see xs) n ≡ Some there → read ≡ get_or xs n read → see read ≡ there
+seen_read see xs n read there at is =
+    let within : n < length xs = omega (arith, length-map xs see, slice_get_within (map see xs) n there at) in
+    let here = slice_get-map see xs n ∙ ap (option_map see) (slice_get-get_or xs n read within) in
+    ap see is ∙ same_Some (see (get_or xs n read)) there (sym here ∙ at)
 
 -- ---- what is gathered
 

@@ -18,6 +18,7 @@ pub mod LinkLines
 pub mod Mapped
 pub mod NarrowerOutline
 pub mod NodeNumbers
+pub mod OneByOne
 pub mod OneOutline
 pub mod Ordered
 pub mod OutlineThere
