@@ -1,5 +1,6 @@
 //! Tables of worked examples, which one function walks.
 
+use crate::failures::Failures;
 use krates_text::text::Text;
 use std::alloc::Global;
 use std::test::Fail;
@@ -27,18 +28,13 @@ impl<T: Tell> Question for T {
     }
 }
 
-/// Compares the answer to each line with the one that is known; fails at the first row where they differ, and names it.
+/// Compares the answer to each line with the one that is known; fails where some differ, and names each of their lines.
 pub fn hold<Q: Question>(alloc: Global, rows: &[Row]) -> Result<(), Fail> {
+    let mut failures = Failures::new(alloc);
     for &(line, answer) in rows {
-        hold_row::<Q>(alloc, line, answer)?;
+        failures.compare(line, Q::told(alloc, line), answer)?;
     }
-    Ok(())
-}
-
-/// Compares the answer to one line with the one that is known.
-fn hold_row<Q: Question>(alloc: Global, line: &str, answer: &str) -> Result<(), Fail> {
-    let told = Q::told(alloc, line)?;
-    compare(line, told.as_str(), answer)
+    failures.reported()
 }
 
 /// Fails where the answer to a line isn't the known one, and names the line.
