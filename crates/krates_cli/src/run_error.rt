@@ -7,12 +7,13 @@ use krates::cm::Error as ParseError;
 use krates::{Error as BuildError, Kid};
 use std::alloc::AllocError;
 use std::fmt;
+use thiserror::Error;
 
 /// Why a run wrote no lines, or not all of them.
 ///
 /// The first that applies counts: a failed read, then bytes that aren't a text, a text that isn't a document, a document that
 /// can't be built, a crate that it doesn't keep, then a failed write. Memory may run out at each of these.
-#[derive(Debug, Drop)]
+#[derive(Debug, Drop, Error)]
 pub enum RunError {
     /// A call of the reader failed.
     Read,
@@ -30,6 +31,7 @@ pub enum RunError {
     NotKept(Kid),
 }
 
+// By hand, since a clause says what is printed, and what a derive writes has none.
 impl fmt::Display for RunError {
     ghost use Rattle.krates_cli.specs.RunError.{run_error_text};
 
@@ -47,8 +49,6 @@ impl fmt::Display for RunError {
         }
     }
 }
-
-impl std::error::Error for RunError {}
 
 impl From<ParseError> for RunError {
     ghost use Rattle.krates_cli.specs.RunError.{ParseErrorBecomes};

@@ -55,6 +55,7 @@ pub enum Lost {
     },
 }
 
+// By hand, since a clause says what is printed, and what a derive writes has none.
 impl fmt::Display for Error {
     ghost output = { error_text };
 
@@ -73,6 +74,7 @@ impl fmt::Display for Error {
     }
 }
 
+// By hand, since a clause says what is printed, and what a derive writes has none.
 impl fmt::Display for Lost {
     ghost output = { λ lost. Some (lost_text lost) };
 

@@ -14,6 +14,7 @@ pub enum GraphError<T> {
     Memory(T),
 }
 
+// By hand, since a clause says what is printed, and what a derive writes has none.
 impl<T> fmt::Display for GraphError<T> {
     ghost use Rattle.krates_graph.specs.GraphErrorText.{graph_error_text};
 
