@@ -30,12 +30,13 @@ use Rattle.krates_rules.specs.Facts.{Id, Feature}
 use Rattle.krates_rules.specs.Resolved.{HasGraphWith, Resolved, id_of, resolved}
 use Rattle.krates_rules.specs.Setting.{SettingModel}
 use Rattle.krates.specs.Build.{AreKeptMembers, IsBuilt, IsResolvable, KeepsCrate}
+use Rattle.krates.specs.BuildLaws.{IsBuildAgreeing}
 use Rattle.krates_drawing.specs.Listed.{AreThosePackages}
 use Rattle.krates_drawing.specs.Division.{IsAmong, IsDivision, outline_ids, krate_ids, krate_packages}
 use Rattle.krates_selection.specs.KeptFacts.{steps_in}
 use Rattle.krates_selection.specs.declared.kept.KeptStep.{KeptStep}
 use Rattle.krates_queries.specs.Why.{IsExplainedBy}
-use Rattle.krates_queries.specs.Drawn.{IsNumbered, IsOutlineFor}
+use Rattle.krates_queries.specs.Drawn.{IsDrawn, IsNumbered, IsOutlineFor}
 use Rattle.krates.specs.Enabled.{AreEnabledSets, numbered}
 use Rattle.krates_queries.proofs.NodeLemmas.{enabled_listed, crate_id}
 use Rattle.krates_queries.specs.Kept.{AreFeatures, AreNodes, IsEnabledIn, IsNameAt, names_in_each}
@@ -183,9 +184,11 @@ pub is_built : {F N E : Type 0} (filters : F → Package → F → Type 0) (made
     (g : StoredGraph (Node N) E) (members : List ℕ) (before after : F) (work : Work) → IsOutlineFor (metadata_view m) s (outline_view t) → Builds m s d → IsGraphOf made made_edge (outline_view t) d.kept.items g
     → FoldsTo filters before (krate_packages d.others.items) after → work ≡ work_of (outline_view t) → IsResolvable (metadata_view m) → IsNumbered g
     → AreKeptMembers (metadata_view m) (crate_ids g.nodes) members
+    → IsBuildAgreeing made_edge (metadata_view m) s g
     → (steps : List KeptStep) → IsExplainedBy (metadata_view m) s (steps_in (crate_ids g.nodes) steps)
     → IsBuilt filters made made_edge m s before after (record { graph = g; members = members; workspace_root = text_view m.workspace_root; work = work; steps = steps })
-is_built filters made made_edge m s t d g members before after work h b w run worked resolvable numbered listed steps explained =
+is_built filters made made_edge m s t d g members before after work h b w run worked resolvable numbered listed agree steps explained =
+    let drawn : IsDrawn made_edge (metadata_view m) s g = record { outline = outline_view t; is_outline = h; drawing = w.drawing } in
     record {
       resolvable = resolvable;
       kept = λ i. subst (λ ids. KeepsCrate (metadata_view m) s i ↔ Contains (map id_of ids) i) (sym w.ids) (b.kept i);
@@ -202,7 +205,8 @@ is_built filters made made_edge m s t d g members before after work h b w run wo
             λ x. listed.0 (derived.0 x),
             λ c. derived.1 (listed.1 c),
           ));
-      drawn = record { outline = outline_view t; is_outline = h; drawing = w.drawing };
+      drawn = drawn;
+      agree = agree resolvable drawn;
       numbered = numbered;
       members = listed;
       root = refl;

@@ -1,17 +1,21 @@
 -- What a build keeps of a document, what it reports, and why it is refused.
 --
 -- Which crates are kept is said by derivations alone: by what the document and the setting answer the rules.
-use Rattle.std.specs.Prelude.{ℕ, ◌≡◌, ◌⊎◌, ◌↔◌, ◌≤◌, ◌^◌, List, Option, Some, map, Contains, length, ⊤}
+use Rattle.std.specs.Prelude.{ℕ, ◌≡◌, ◌⊎◌, ◌↔◌, ◌<◌, ◌≤◌, ◌^◌, List, Option, Some, map, Contains, length, ⊤}
 use Rattle.std.specs.List.{AllZip, FoldsTo}
 use Rattle.std.specs.List.Sorted.{IsStrictlyIncreasing}
 use Rattle.krates_cm.specs.Document.{MetadataModel, NodeModel, ResolveModel, Text, VersionModel, metadata_view, text_view}
 use Rattle.krates_cm.specs.Names.{version_named}
 use Rattle.krates_cm.specs.declared.metadata.Metadata.{Metadata}
 use Rattle.krates_cm.specs.declared.package.Package.{Package}
+use Rattle.krates_drawing.specs.Agreement.{DependsOn, OneEach}
 use Rattle.krates_drawing.specs.Drawing.{planned_edges, planned_nodes}
+use Rattle.krates_drawing.specs.Node.{crate_ids}
 use Rattle.krates_drawing.specs.Outline.{Outline}
 use Rattle.krates_drawing.specs.WorkOfOutline.{work_of}
 use Rattle.krates_drawing.specs.declared.edge.Edge.{Edge}
+use Rattle.krates_drawing.specs.declared.node.Node.{Node}
+use Rattle.krates_graph.specs.Graph.{StoredGraph}
 use Rattle.krates_ids.specs.Identity.{Identity, Reads}
 use Rattle.krates_ids.specs.declared.error.Error.{Error}
 use Rattle.krates_ids.specs.declared.error.Error.TheVariants as errors
@@ -24,7 +28,8 @@ use Rattle.krates_rules.specs.Setting.{SettingModel}
 use Rattle.krates.specs.Indexed.{Answering, Sees}
 use Rattle.krates_drawing.specs.Listed.{AreThosePackages}
 use Rattle.krates_queries.specs.Why.{IsExplainedBy, steps_of}
-use Rattle.krates_queries.specs.Drawn.{IsDrawn, IsNumbered, IsOutlineFor}
+use Rattle.krates_queries.specs.Direct.{IsDependent}
+use Rattle.krates_queries.specs.Drawn.{IsDrawn, IsNumbered, IsOutlineFor, planned_node}
 use Rattle.krates_queries.specs.Kept.{KeptCrates, HasEnabled, ids_of, values_of}
 
 -- ---- the document
@@ -75,6 +80,21 @@ pub record AreKeptMembers (m : MetadataModel) (ids : List Identity) (numbers : L
   pub ascending : IsStrictlyIncreasing numbers
   pub exactly : (n : ℕ) → Contains numbers n ↔ IsMemberAt m ids n
 
+-- ---- direct dependencies and dependents
+
+-- no two crates have kept edges of this one with one declared dependency
+abbrev pub HasOneEach : MetadataModel → SettingModel → Id → Type 0
+HasOneEach m s i = HasGraphWith m (λ g. OneEach (resolved m g) s i)
+
+-- number d is among the direct dependencies of p exactly if p is among the direct dependents of d
+abbrev pub AgreeDirectly : {N E : Type 0} → StoredGraph (Node N) E → ℕ → ℕ → Type 0
+AgreeDirectly g p d = DependsOn (map planned_node g.nodes) p d ↔ IsDependent g.nodes g.edges d p
+
+-- Where no two crates come by one declared dependency of a kept crate, it depends directly on exactly those kept crates that have
+-- it as a direct dependent.
+abbrev pub DependentsAgree : {N E : Type 0} → MetadataModel → SettingModel → StoredGraph (Node N) E → Type 0
+DependentsAgree m s g = (i : Id) → HasOneEach m s i → (p d : ℕ) → StandsAt (crate_ids g.nodes) i p → d < length (crate_ids g.nodes) → AgreeDirectly g p d
+
 -- ---- what is built
 
 -- All that is true of what a build keeps of a document, and of what it reports.
@@ -86,6 +106,7 @@ pub record IsBuilt {F N E : Type 0} (filters : F → Package → F → Type 0) (
   pub values : AreMadeOfThose made m.packages.items (KeepsCrate (metadata_view m) s) (ids_of k) (values_of k)
   pub enabled : (i : Id) (f : Text) → IsDerived (metadata_view m) s (Feature i f) ↔ HasEnabled k i f
   pub drawn : IsDrawn made_edge (metadata_view m) s k.graph  -- number by number
+  pub agree : DependentsAgree (metadata_view m) s k.graph  -- direct dependencies and direct dependents
   pub members : AreKeptMembers (metadata_view m) (ids_of k) k.members
   pub numbered : IsNumbered k.graph
   pub root : k.workspace_root ≡ text_view m.workspace_root

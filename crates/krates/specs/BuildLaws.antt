@@ -1,14 +1,12 @@
 -- What two builds have in common: of documents that differ only in order, and under a setting and one that keeps less; and how
 -- the dependencies and the dependents in one of them agree.
-use Rattle.std.specs.Prelude.{◌≡◌, ◌⊎◌, ◌↔◌, ◌<◌, ℕ, List, Option, true, false, Contains, length, map}
+use Rattle.std.specs.Prelude.{◌≡◌, ◌⊎◌, ◌↔◌, List, Option, true, false, Contains, map}
 use Rattle.std.specs.List.{AllZip}
 use Rattle.krates_cm.specs.Document.{MetadataModel, metadata_view, package_view}
 use Rattle.krates_cm.specs.declared.metadata.Metadata.{Metadata}
 use Rattle.krates_cm.specs.declared.package.Package.{Package}
-use Rattle.krates_drawing.specs.Agreement.{DependsOn, OneEach}
 use Rattle.krates_drawing.specs.Alike.{DrawAlike}
 use Rattle.krates_drawing.specs.Narrower.{DrawsNoMore}
-use Rattle.krates_drawing.specs.Node.{crate_ids}
 use Rattle.krates_drawing.specs.Outline.{Outline}
 use Rattle.krates_drawing.specs.declared.edge.Edge.{Edge}
 use Rattle.krates_drawing.specs.declared.node.Node.{Node}
@@ -22,13 +20,12 @@ use Rattle.krates_rules.specs.Facts.{Id, Cause, Fact, Lost}
 use Rattle.krates_rules.specs.Naming.{naming}
 use Rattle.krates_rules.specs.Narrowing.{IsNarrower}
 use Rattle.krates_rules.specs.Reordering.{Reorders, ReordersPackage, ResolveAlike}
-use Rattle.krates_rules.specs.Resolved.{HasGraphWith, StandsAt, id_of, resolved}
+use Rattle.krates_rules.specs.Resolved.{id_of}
 use Rattle.krates_rules.specs.Setting.{SettingModel}
 use Rattle.krates_rules.specs.Resolution.{IsDerived}
-use Rattle.krates.specs.Build.{IsResolvable, KeepsCrate, DropsCrate, IsRefusedSeeing}
+use Rattle.krates.specs.Build.{IsResolvable, KeepsCrate, DropsCrate, DependentsAgree, IsRefusedSeeing}
 use Rattle.krates_drawing.specs.Listed.{AreThosePackages}
-use Rattle.krates_queries.specs.Direct.{IsDependent}
-use Rattle.krates_queries.specs.Drawn.{CanBeNumbered, IsDrawn, IsOutlineFor, planned_node}
+use Rattle.krates_queries.specs.Drawn.{CanBeNumbered, IsDrawn, IsOutlineFor}
 use Rattle.krates.specs.Indexed.{HasNames, IsSeenBy}
 use Rattle.krates_queries.specs.Kept.{AreOrdered}
 
@@ -133,16 +130,7 @@ IsBuildNamedPart = (answer : Option IndexAnswer) (m p q : Metadata) (s : Setting
 
 -- ---- direct dependencies and dependents
 
--- no two crates have kept edges of this one with one declared dependency
-abbrev pub HasOneEach : MetadataModel → SettingModel → Id → Type 0
-HasOneEach m s i = HasGraphWith m (λ g. OneEach (resolved m g) s i)
-
--- number d is among the direct dependencies of p exactly if p is among the direct dependents of d
-abbrev pub AgreeDirectly : {N E : Type 0} → StoredGraph (Node N) E → ℕ → ℕ → Type 0
-AgreeDirectly g p d = DependsOn (map planned_node g.nodes) p d ↔ IsDependent g.nodes g.edges d p
-
--- Where the document can be resolved and the graph is drawn of it, as a build promises: if no two crates come by one declared
--- dependency of a kept crate, it depends directly on exactly those kept crates that have it as a direct dependent.
+-- Where the document can be resolved and the graph is drawn of it, as a build promises: direct dependencies and direct dependents
+-- agree.
 abbrev pub IsBuildAgreeing : {N E : Type 0} → (Edge → E → Type 0) → MetadataModel → SettingModel → StoredGraph (Node N) E → Type 0
-IsBuildAgreeing made m s g = IsResolvable m → IsDrawn made m s g → (i : Id) → HasOneEach m s i
-    → (p d : ℕ) → StandsAt (crate_ids g.nodes) i p → d < length (crate_ids g.nodes) → AgreeDirectly g p d
+IsBuildAgreeing made m s g = IsResolvable m → IsDrawn made m s g → DependentsAgree m s g

@@ -276,6 +276,11 @@ impl Builder {
     /// each edge. When the graph is finished, it hands every other package to the filter, once, in the order of their
     /// ids.
     ///
+    /// Where no two kept crates come by one declared dependency of a kept crate, that crate depends directly on exactly
+    /// the crates that have it as a direct dependent: `d` is in `direct_dependencies(p)` exactly if `p` is in
+    /// `direct_dependents(d)`. Where one declared dependency brings two versions of a crate, each has it as a
+    /// dependent, and it depends on the one that comes last by id.
+    ///
     /// With an index, all of this is about the document whose packages are corrected by what the index answers;
     /// only whether the document can be resolved is asked of it as it is given, and that does not depend on the
     /// correction.
@@ -411,6 +416,7 @@ fn build_admitted<N: FromPackage + Drop, E: FromEdge + Drop, F: OnFilter>(
     laws::comparison();
     drawing_laws::ends_stand();
     drawing_laws::connected();
+    drawing_laws::dependencies_agree();
     let limits = Limits {
         nodes: u32::MAX,
         edges: u32::MAX,

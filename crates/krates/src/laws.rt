@@ -1,5 +1,5 @@
-//! Laws of builds, for all documents, settings and answers of an index. Each is the contract of a function that does
-//! nothing.
+//! Laws of builds, for all documents, settings and answers of an index; and the laws that say what the items of other modules
+//! mean by their comparisons, forms and readings. Each is the contract of a function that does nothing.
 
 ghost use Rattle.krates_cm.specs.Document.{MetadataModel};
 ghost use Rattle.krates_drawing.specs.declared.node.Node.{Node};
@@ -12,9 +12,17 @@ use krates_drawing::laws::{
     connected, dependencies_agree, drawn_alike, narrower_draws_no_more, outline_there,
 };
 use krates_drawing::store::FromEdge;
-use krates_ids::laws::{comparison, one_correction, one_reading};
+pub use krates_graph::laws::{
+    directions_compared, edges_compared, errors_compared, nodes_compared, stored_edges_compared,
+};
+pub use krates_ids::laws::{
+    comparison, correcting_twice, one_correction, one_reading, one_specification,
+    printed_specification,
+};
 pub use krates_queries::laws::dependents_reach;
 use krates_resolve::laws as resolution;
+pub use krates_rules::laws::{accepted_lists, closed_lists, kinds_compared};
+pub use krates_text::laws::{causes_compared, one_expression, one_reference, references_compared};
 
 /// Builds don't depend on the order in which a document lists its packages, its members, the nodes of its graph, or the
 /// dependencies and features of a node, nor on the order of the features of a package.
@@ -72,7 +80,8 @@ pub fn named_part()
 /// dependency of a kept crate, it depends directly on exactly those that have it as a direct dependent. Where one
 /// declared dependency brings two versions of a crate, each has it as a dependent, and it depends on the one that comes last by id.
 ///
-/// It is said of the graph that a build promises to have drawn, of a document that it promises can be resolved.
+/// A build promises it of the graph that it returns. Here it is said of any graph that is drawn so, of a document that can be
+/// resolved.
 pub fn agreement<N, E: FromEdge>()
     ensures { (m : MetadataModel) (s : SettingModel) (g : StoredGraph (Node N) E)
         → IsBuildAgreeing E.made_from_edge m s g }

@@ -45,7 +45,7 @@ pub mod cm {
         NodeDep, Package, PackageId, ReadError, Resolve, Source, SourceKind, Target, TargetKind,
         UnknownName, WorkspaceDefaultMembers,
     };
-    pub use krates_cm_json::{FromValue, ToValue};
+    pub use krates_cm_json::{Borrowed, FromValue, JsonRef, Owned, ToValue};
 
     /// Laws of comparisons, and of what is read from JSON and written as it.
     pub mod laws {

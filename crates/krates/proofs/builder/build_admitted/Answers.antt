@@ -19,7 +19,7 @@ use Rattle.krates_drawing.specs.declared.division.Division.{Division}
 use Rattle.krates.specs.Members.{AreNumbersOf}
 use Rattle.krates_drawing.specs.Node.{crate_ids}
 use Rattle.krates.proofs.BuildLemmas.{package_ids, ids_distinct}
-use Rattle.krates.proofs.ConnectedLemmas.{connects}
+use Rattle.krates.proofs.ConnectedLemmas.{agrees, connects}
 use Rattle.krates.proofs.DrawnLemmas.{builds_outline, counted, is_built, kept_ids, outline_stands}
 use Rattle.krates.proofs.ExplainedLemmas.{explains, kept_steps}
 use Rattle.krates.proofs.Numbered.{numbered, numbered_graph, undrawn, undrawn_names}
@@ -149,10 +149,11 @@ returns-clause-built g c =
     let steps = c.in_ok-sketch.sketch.steps.items in
     let explained = (kept_steps o g.N.FromPackage.made_from g.E.FromEdge.made_from_edge c.args.metadata c.args.setting.now c.in_ok-sketch.sketch.outline division c.in_ok-graph.graph steps c.in_ok-sketch.ensures.sketched.outline b c.in_ok-graph.ensures.graph
     c.in_ok-sketch.ensures.sketched.steps).explained in
+    let agree = agrees g.E.FromEdge.made_from_edge c.connected.ensures c.dependencies_agree.ensures (metadata_view c.args.metadata) c.args.setting.now c.in_ok-graph.graph in
     let run = handed (λ _. FoldsTo g.F.OnFilter.filters c.args.filter.now (krate_packages division.others.items) c.handed_over.new.filter) c.members_of-found.result those c.in_ok-members.ensures.same c.in_ok-members.ensures.run in
     rw (c.new.ensures, c.rest_of-rest.ensures) (is_built g.F.OnFilter.filters g.N.FromPackage.made_from g.E.FromEdge.made_from_edge c.args.metadata c.args.setting.now c.in_ok-sketch.sketch.outline division c.in_ok-graph.graph numbers c.args.filter.now c.handed_over.new.filter c.in_ok-sketch.sketch.work
     c.in_ok-sketch.ensures.sketched.outline b c.in_ok-graph.ensures.graph run c.in_ok-sketch.ensures.sketched.work
-    (resolvable (metadata_view c.args.metadata) (ids_view c.args.ids) c.requires.admitted) (numbered g.E.FromEdge.made_from_edge (outline_view c.in_ok-sketch.sketch.outline) c.in_ok-graph.graph c.in_ok-graph.ensures.graph.drawing c.in_ok-graph.ensures.within c.in_ok-graph.ensures.limits) members steps explained)
+    (resolvable (metadata_view c.args.metadata) (ids_view c.args.ids) c.requires.admitted) (numbered g.E.FromEdge.made_from_edge (outline_view c.in_ok-sketch.sketch.outline) c.in_ok-graph.graph c.in_ok-graph.ensures.graph.drawing c.in_ok-graph.ensures.within c.in_ok-graph.ensures.limits) members agree steps explained)
 
 pub new-requires-clause-counted : goal.new-requires-clause-counted
 new-requires-clause-counted g c =
