@@ -1,22 +1,23 @@
 -- The direct dependents of a crate, as those of the kept crates that need it, and what a graph lacks of them.
-use Rattle.std.proofs.Common.{◌≡◌, ℕ, suc, ◌<◌, List, [], ◌∷◌, ◌++◌, length, map, All, Option, Some, None, Less, arith, refl, sym, ap, subst}
+use Rattle.std.proofs.Common.{◌≡◌, ℕ, suc, ◌<◌, List, [], ◌∷◌, ◌++◌, length, map, All, Option, Some, None, option_map, Less, arith, refl, sym, ap, ◌∙◌, subst, inl, inr}
 use Rattle.std.proofs.lemmas.Bool.Decides.{nat_tests}
-use Rattle.std.proofs.lemmas.List.{flat_map_more}
-use Rattle.std.proofs.lemmas.List.Elements.{All-contains}
+use Rattle.std.proofs.lemmas.List.{flat_map_more, map-append}
+use Rattle.std.proofs.lemmas.List.Elements.{All-contains, filter_map-append}
 use Rattle.std.proofs.lemmas.Option.{none-some, same_Some}
-use Rattle.std.specs.List.{AllByRecursion, flat_map, slice_get}
+use Rattle.std.specs.List.{AllByRecursion, cons_option, filter_map, flat_map, slice_get}
 use Rattle.std.specs.List.Sorted.{IsStrictlySortedBy}
 use Rattle.std.specs.Ordering.{nat_cmp}
-use Rattle.krates_rules.proofs.Members.{Member, contains_of, mapped_of, member_map, member_of}
+use Rattle.krates_rules.proofs.Members.{Member, contains_of, member_map, member_of}
 use Rattle.krates_ids.specs.Identity.{Identity}
 use Rattle.krates_queries.proofs.ReachedLemmas.{there_crate}
 use Rattle.krates_queries.specs.KrateNodes.{Match, crates_of, match_in, numbered_crates}
-use Rattle.krates_queries.specs.Direct.{Joined, id_and_value_at, id_and_value_in, joined_view, AreDependents}
+use Rattle.krates_queries.specs.Direct.{Joined, dependent_view, home_in, value_at, value_in, AreDependents}
 use Rattle.krates_queries.specs.Kept.{KeptCrates, ids_of}
 use Rattle.krates_drawing.specs.declared.node.Node.{Node}
 use Rattle.krates_drawing.specs.declared.node.Node.TheVariants.{Krate, Feature}
-use Rattle.krates_queries.specs.declared.queries.direct.JoinedKrate.{JoinedKrate}
-use Rattle.krates_answers.specs.Difference.{IsLost, IsMissing, Pair, pair_of, pairs_with}
+use Rattle.krates_queries.specs.Numbers.{id_in}
+use Rattle.krates_queries.specs.declared.queries.direct.DirectDependent.{DirectDependent}
+use Rattle.krates_answers.specs.Difference.{IsLost, IsMissing, Pair, pairs_to, pairs_with, parent_of}
 use Rattle.krates_answers.specs.DirectLinks.{Needs}
 use Rattle.krates_answers.specs.Those.{AddsThose, AreThose}
 use Rattle.krates_answers.proofs.OrderedParts.{Ascend, AreThose-from_part}
@@ -40,42 +41,72 @@ crates_ascend k (Feature krate_index name ∷ nodes) = crates_ascend (suc k) nod
 
 -- ---- the dependents of a crate
 
-abbrev parent_view : {N : Type 0} → JoinedKrate N → Match N
-parent_view d = record { number = d.node_id; id = d.kid.now; krate = d.krate.now }
+-- a crate that depends on another, as one of the kept crates
+record IsParent {N E : Type 0} (k : KeptCrates N E) (d : DirectDependent N) : Type 0 where
+  crate : Match N
+  number : crate.number ≡ d.node_id
+  is : parent_of k d ≡ Some crate
+  kept : Member (crates_of k) crate
 
-same_numbers : {N : Type 0} (ds : List (JoinedKrate N)) → map (λ (c : Match N). c.number) (map parent_view ds) ≡ map (λ (j : Joined N). j.node) (map joined_view ds)
-same_numbers [] = refl
-same_numbers (d ∷ ds) = ap (λ ns. d.node_id ∷ ns) (same_numbers ds)
+abbrev pub with_id : {N : Type 0} → DirectDependent N → Identity → Match N
+with_id d id = record { number = d.node_id; id = id; krate = d.krate.now }
 
-match_of : {N : Type 0} (n : ℕ) (o : Option (Node N)) (id : Identity) (krate : N) → id_and_value_in o ≡ Some (id, krate) → match_in n o ≡ Some (record { number = n; id = id; krate = krate })
-match_of n None id krate e = absurd (none-some (id, krate) e)
-match_of {N} n (Some (Krate i k features mapping)) id krate e =
-    let same : (i, k) ≡ (id, krate) = same_Some {A = Identity × N} (i, k) (id, krate) e in
-    ap (λ (both : Identity × N). Some (record { number = n; id = both.0; krate = both.1 })) same
-match_of n (Some (Feature krate_index name)) id krate e = absurd (none-some (id, krate) e)
+-- what is known of the node with its number
+record IsWithId {N : Type 0} (nodes : List (Node N)) (d : DirectDependent N) (o : Option (Node N)) : Type 0 where
+  id : Identity
+  is : id_in (slice_get nodes (home_in d.node_id o)) ≡ Some id
+  at : match_in d.node_id o ≡ Some (with_id d id)
+
+id_of_node : {N : Type 0} (nodes : List (Node N)) (d : DirectDependent N) (o : Option (Node N)) → slice_get nodes d.node_id ≡ o → value_in o ≡ Some d.krate.now → IsWithId nodes d o
+id_of_node nodes d None e v = absurd (none-some d.krate.now v)
+id_of_node {N} nodes d (Some (Krate id krate features mapping)) e v = record {
+  id = id;
+  is = ap id_in e;
+  at = ap (λ (x : N). Some (record { number = d.node_id; id = id; krate = x })) (same_Some krate d.krate.now v);
+}
+id_of_node nodes d (Some (Feature krate_index name)) e v = absurd (none-some d.krate.now v)
 
 -- each is one of the kept crates
-parent_kept : {N : Type 0} (nodes : List (Node N)) (ds : List (JoinedKrate N)) → All (λ (j : Joined N). id_and_value_at nodes j.node ≡ Some (j.id, j.krate)) (map joined_view ds)
-    → (c : Match N) → Member (map parent_view ds) c → Member (numbered_crates 0 nodes) c
-parent_kept {N} nodes ds all c m =
-    let w = mapped_of parent_view ds c m in
-    let j = joined_view w.from in
-    let listed = contains_of (map joined_view ds) j (member_map joined_view ds w.from w.member) in
-    let there = All-contains (λ (x : Joined N). id_and_value_at nodes x.node ≡ Some (x.id, x.krate)) (map joined_view ds) j all listed in
-    subst (Member (numbered_crates 0 nodes)) w.is (there_crate nodes j.node (parent_view w.from) (match_of j.node (slice_get nodes j.node) j.id j.krate there))
+is_parent : {N E : Type 0} (k : KeptCrates N E) (d : DirectDependent N) → value_at k.graph.nodes d.node_id ≡ Some d.krate.now → IsParent k d
+is_parent k d v =
+    let nodes = k.graph.nodes in
+    let w = id_of_node nodes d (slice_get nodes d.node_id) refl v in
+    record { crate = with_id d w.id; number = refl; is = ap (option_map (with_id d)) w.is; kept = there_crate nodes d.node_id (with_id d w.id) w.at }
+
+-- so they have ids, and their numbers are as they were
+record AreParents {N E : Type 0} (k : KeptCrates N E) (ds : List (DirectDependent N)) : Type 0 where
+  numbers : map (λ (c : Match N). c.number) (filter_map (parent_of k) ds) ≡ map (λ (j : Joined N). j.node) (map dependent_view ds)
+  kept : (c : Match N) → Member (filter_map (parent_of k) ds) c → Member (crates_of k) c
+
+one_parent : {N E : Type 0} (k : KeptCrates N E) (d : DirectDependent N) (ds : List (DirectDependent N)) → IsParent k d → AreParents k ds → AreParents k (d ∷ ds)
+one_parent {N} k d ds w more =
+    let first : filter_map (parent_of k) (d ∷ ds) ≡ w.crate ∷ filter_map (parent_of k) ds = ap (λ o. cons_option o (filter_map (parent_of k) ds)) w.is in
+    record {
+      numbers = ap (map (λ (c : Match N). c.number)) first ∙ ap (λ n. n ∷ map (λ (c : Match N). c.number) (filter_map (parent_of k) ds)) w.number ∙ ap (λ ns. d.node_id ∷ ns) more.numbers;
+      kept = λ c m. elim (subst (λ (cs : List (Match N)). Member cs c) first m) [
+        | inl same ↦ subst (Member (crates_of k)) same w.kept
+        | inr later ↦ more.kept c later
+      ];
+    }
+
+are_parents : {N E : Type 0} (k : KeptCrates N E) (ds : List (DirectDependent N)) → ((j : Joined N) → Member (map dependent_view ds) j → value_at k.graph.nodes j.node ≡ Some j.krate) → AreParents k ds
+are_parents k [] all = record { numbers = refl; kept = λ c m. absurd m }
+are_parents k (d ∷ ds) all = one_parent k d ds (is_parent k d (all (dependent_view d) (inl refl))) (are_parents k ds (λ j m. all j (inr m)))
 
 -- they are those of the kept crates that need it
-those_parents : {N E : Type 0} (k : KeptCrates N E) (d : ℕ) (ds : List (JoinedKrate N)) → d < length (ids_of k) → AreDependents k.graph.nodes k.graph.edges d (map joined_view ds)
-    → AreThose (λ (c : Match N). Needs k c.number d) (crates_of k) (map parent_view ds)
+those_parents : {N E : Type 0} (k : KeptCrates N E) (d : ℕ) (ds : List (DirectDependent N)) → d < length (ids_of k) → AreDependents k.graph.nodes k.graph.edges d (map dependent_view ds)
+    → AreThose (λ (c : Match N). Needs k c.number d) (crates_of k) (filter_map (parent_of k) ds)
 those_parents {N} k d ds lt are =
     let number : Match N → ℕ = λ c. c.number in
-    let parents = map parent_view ds in
-    let numbers = map (λ (j : Joined N). j.node) (map joined_view ds) in
-    let same : map number parents ≡ numbers = same_numbers ds in
+    let parents = filter_map (parent_of k) ds in
+    let joined = map dependent_view ds in
+    let numbers = map (λ (j : Joined N). j.node) joined in
+    let w = are_parents k ds (λ j m. All-contains (λ (x : Joined N). value_at k.graph.nodes x.node ≡ Some x.krate) joined j are.krates (contains_of joined j m)) in
+    let same : map number parents ≡ numbers = w.numbers in
     AreThose-from_part number (λ c. Needs k c.number d) (crates_of k) parents (record {
       all_ascend = crates_ascend 0 k.graph.nodes;
       those_ascend = subst (IsStrictlySortedBy nat_cmp) (sym same) are.by_number;
-      among = parent_kept k.graph.nodes ds are.krates;
+      among = w.kept;
       have = λ c m.
           (let among = subst (λ (ns : List ℕ). Member ns c.number) same (member_map number parents c m) in
           record { krate = lt; depends = (are.exactly c.number).0 (contains_of numbers c.number among) });
@@ -84,23 +115,28 @@ those_parents {N} k d ds lt are =
 
 -- ---- what is lost so far
 
-same_pairs : {N : Type 0} (child : Match N) (ds : List (JoinedKrate N)) → pairs_with child (map parent_view ds) ≡ map (pair_of child) ds
-same_pairs child [] = refl
-same_pairs child (d ∷ ds) = ap (λ pairs. pair_of child d ∷ pairs) (same_pairs child ds)
+-- the pairs of one more dependent
+pub one_more_pair : {N E : Type 0} (k : KeptCrates N E) (child : Match N) (ds : List (DirectDependent N)) (d : DirectDependent N) → pairs_to k child (ds ++ d ∷ []) ≡ pairs_to k child ds ++ pairs_to k child (d ∷ [])
+one_more_pair {N} k child ds d =
+    let pair : Match N → Pair N = λ parent. record { parent = parent; child = child } in
+    ap (map pair) (filter_map-append (parent_of k) ds (d ∷ [])) ∙ map-append pair (filter_map (parent_of k) ds) (filter_map (parent_of k) (d ∷ []))
+
+-- the pair of a dependent
+pub its_pair : {N E : Type 0} (k : KeptCrates N E) (child : Match N) (d : DirectDependent N) (parent : Option (Match N)) → parent ≡ parent_of k d → pairs_with child (cons_option parent []) ≡ pairs_to k child (d ∷ [])
+its_pair k child d parent is = ap (λ o. pairs_with child (cons_option o [])) is
 
 -- the pairs of one more child
-pub one_more_lost : {N E : Type 0} (here there : KeptCrates N E) (child : Match N) (ds : List (JoinedKrate N)) (done : List (Match N)) (old new : List (Pair N))
-    → child.number < length (ids_of here) → AreDependents here.graph.nodes here.graph.edges child.number (map joined_view ds)
-    → AddsThose (IsMissing there) (map (pair_of child) ds) old new
+pub one_more_lost : {N E : Type 0} (here there : KeptCrates N E) (child : Match N) (ds : List (DirectDependent N)) (done : List (Match N)) (old new : List (Pair N))
+    → child.number < length (ids_of here) → AreDependents here.graph.nodes here.graph.edges child.number (map dependent_view ds)
+    → AddsThose (IsMissing there) (pairs_to here child ds) old new
     → AreThose (IsLost here there) (flat_map (λ c. pairs_with c (crates_of here)) done) old
     → AreThose (IsLost here there) (flat_map (λ c. pairs_with c (crates_of here)) (done ++ child ∷ [])) new
 one_more_lost {N} here there child ds done old new lt are adds before =
     let with_child : Match N → Pair N = λ parent. record { parent = parent; child = child } in
-    let pairs_to : Match N → List (Pair N) = λ c. pairs_with c (crates_of here) in
+    let pairs_of_child : Match N → List (Pair N) = λ c. pairs_with c (crates_of here) in
     let Needed : Pair N → Type 0 = λ pair. Needs here pair.parent.number pair.child.number in
-    let needed : AreThose Needed (pairs_to child) (map (pair_of child) ds) =
-    subst (AreThose Needed (pairs_to child)) (same_pairs child ds) (AreThose-map with_child (those_parents here child.number ds lt are)) in
-    let lost : AreThose (IsLost here there) (pairs_to child) adds.added =
+    let needed : AreThose Needed (pairs_of_child child) (pairs_to here child ds) = AreThose-map with_child (those_parents here child.number ds lt are) in
+    let lost : AreThose (IsLost here there) (pairs_of_child child) adds.added =
     AreThose-like (λ pair. ((λ both. record { needs = both.0; missing = both.1 }), (λ h. (h.needs, h.missing)))) (AreThose-both needed adds.those) in
-    subst (λ (all : List (Pair N)). AreThose (IsLost here there) all new) (flat_map_more pairs_to [] done child)
+    subst (λ (all : List (Pair N)). AreThose (IsLost here there) all new) (flat_map_more pairs_of_child [] done child)
     (AreThose-adds before (record { added = adds.added; appended = adds.appended; those = lost }))

@@ -1,10 +1,11 @@
 -- What one graph has and another lacks.
-use Rattle.std.specs.Prelude.{ℕ, List, map}
-use Rattle.std.specs.List.{flat_map}
+use Rattle.std.specs.Prelude.{ℕ, List, Option, map, option_map}
+use Rattle.std.specs.List.{filter_map, flat_map}
 use Rattle.krates_cm.specs.declared.package.Package.{Package}
 use Rattle.krates_queries.specs.Kept.{KeptCrates, IsNotKept, ids_of}
 use Rattle.krates_queries.specs.KrateNodes.{Match, crates_of, match_view}
-use Rattle.krates_queries.specs.declared.queries.direct.JoinedKrate.{JoinedKrate}
+use Rattle.krates_queries.specs.Numbers.{kid_at}
+use Rattle.krates_queries.specs.declared.queries.direct.DirectDependent.{DirectDependent}
 use Rattle.krates_rules.specs.Facts.{Id}
 use Rattle.krates_rules.specs.Resolved.{StandsAt, id_of}
 use Rattle.krates_answers.specs.DirectLinks.{Needs}
@@ -55,6 +56,10 @@ AreLost here there found = AreThose (IsLost here there) (pairs_of here) found
 
 -- ---- steps
 
--- a crate that depends directly on another, before that one
-abbrev pub pair_of : {N : Type 0} → Match N → JoinedKrate N → Pair N
-pair_of child d = record { parent = record { number = d.node_id; id = d.kid.now; krate = d.krate.now }; child = child }
+-- a crate that depends directly on another, with its id
+abbrev pub parent_of : {N E : Type 0} → KeptCrates N E → DirectDependent N → Option (Match N)
+parent_of k d = option_map (λ id. record { number = d.node_id; id = id; krate = d.krate.now }) (kid_at k.graph.nodes d.node_id)
+
+-- each of them before the crate on which it depends
+abbrev pub pairs_to : {N E : Type 0} → KeptCrates N E → Match N → List (DirectDependent N) → List (Pair N)
+pairs_to k child dependents = pairs_with child (filter_map (parent_of k) dependents)

@@ -1,10 +1,10 @@
 //! What one graph has and another lacks.
 
-ghost use Rattle.std.specs.Prelude.{◌≡◌, ◌↔◌, [], ◌∷◌, IfOk, IsTrue, OnOk, map};
+ghost use Rattle.std.specs.Prelude.{◌≡◌, ◌↔◌, [], ◌∷◌, IfOk, IsTrue, OnOk, map, option_map};
 ghost use Rattle.krates_queries.specs.KrateNodes.{match_view};
 ghost use Rattle.krates_rules.specs.Resolved.{id_of};
 ghost use Rattle.krates_answers.specs.Difference.{AreLacking, AreLost, HasDependency, IsMissing};
-ghost use Rattle.krates_answers.specs.Difference.{dependency_view, pair_of};
+ghost use Rattle.krates_answers.specs.Difference.{dependency_view, pairs_to, parent_of as parent};
 ghost use Rattle.krates_answers.specs.Those.{AddsThose};
 
 use crate::direct_links::DirectLinks;
@@ -84,19 +84,33 @@ pub fn lacking<'a>(
     Ok(lacking)
 }
 
+/// A crate that depends directly on another, with its id.
+fn parent_of<'a>(
+    here: &'a Krates,
+    dependent: &DirectDependent<'a, Package>,
+) -> Option<KrateMatch<'a, Package>>
+    ensures { option_map match_view result ≡ parent here.now dependent.now }
+{
+    // No `?` here: what it makes of no id would have to own references.
+    let Some(kid) = here.kid(dependent.node_id) else {
+        return None;
+    };
+    Some(KrateMatch {
+        krate: dependent.krate,
+        kid,
+        node_id: dependent.node_id,
+    })
+}
+
 /// The dependency of a crate on another.
 fn dependency_of<'a>(
+    parent: KrateMatch<'a, Package>,
     child: &KrateMatch<'a, Package>,
-    dependent: &DirectDependent<'a, Package>,
 ) -> DependencyEdge<'a>
-    ensures { dependency_view result ≡ pair_of (match_view child.now) dependent.now }
+    ensures { dependency_view result ≡ record { parent = match_view parent; child = match_view child.now } }
 {
     DependencyEdge {
-        parent: KrateMatch {
-            krate: dependent.krate,
-            kid: dependent.kid,
-            node_id: dependent.node_id,
-        },
+        parent,
         child: KrateMatch {
             krate: child.krate,
             kid: child.kid,
@@ -107,32 +121,39 @@ fn dependency_of<'a>(
 
 /// Adds the dependency of a crate on another, if the other graph lacks it.
 fn push_if_lost<'a>(
+    here: &'a Krates,
     there: &There<'_, Package, Edge>,
     child: &KrateMatch<'a, Package>,
     dependent: &DirectDependent<'a, Package>,
     lost: &mut Vec<DependencyEdge<'a>>,
 ) -> Result<(), AllocError>
-    ensures { OnOk result (AddsThose (IsMissing there.now) (pair_of (match_view child.now) dependent.now ∷ [])
+    ensures { OnOk result (AddsThose (IsMissing there.now)
+        (pairs_to here.now (match_view child.now) (dependent.now ∷ []))
         (map dependency_view lost.old.items) (map dependency_view lost.new.items)) }
 {
-    if there.has_dependency(dependent.kid, child.kid) {
+    let Some(parent) = parent_of(here, dependent) else {
+        return Ok(());
+    };
+    if there.has_dependency(parent.kid, child.kid) {
         return Ok(());
     }
-    push(lost, dependency_of(child, dependent))
+    push(lost, dependency_of(parent, child))
 }
 
 /// Adds those of the direct dependencies on a crate that the other graph lacks.
 fn push_lost<'a>(
+    here: &'a Krates,
     there: &There<'_, Package, Edge>,
     child: &KrateMatch<'a, Package>,
     dependents: &[DirectDependent<'a, Package>],
     lost: &mut Vec<DependencyEdge<'a>>,
 ) -> Result<(), AllocError>
-    ensures { OnOk result (AddsThose (IsMissing there.now) (map (pair_of (match_view child.now)) dependents.now)
+    ensures { OnOk result (AddsThose (IsMissing there.now)
+        (pairs_to here.now (match_view child.now) dependents.now)
         (map dependency_view lost.old.items) (map dependency_view lost.new.items)) }
 {
     for dependent in dependents {
-        push_if_lost(there, child, dependent, lost)?;
+        push_if_lost(here, there, child, dependent, lost)?;
     }
     Ok(())
 }
@@ -151,7 +172,7 @@ pub fn lost_dependencies<'a>(
     let mut lost = Vec::new(alloc);
     for child in here.krate_nodes() {
         let dependents = here.direct_dependents(child.node_id)?;
-        push_lost(&there, &child, &dependents, &mut lost)?;
+        push_lost(here, &there, &child, &dependents, &mut lost)?;
     }
     Ok(lost)
 }

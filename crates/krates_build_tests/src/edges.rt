@@ -10,11 +10,19 @@ use krates_text::text::Text;
 use std::alloc::AllocError;
 use std::test::Fail;
 
+/// The word of the id of a node's crate; `none` where there is no node.
+fn word_at(krates: &Krates, node: NodeId) -> &str {
+    match krates.kid(node) {
+        Some(kid) => word_of(kid.repr()),
+        None => "none",
+    }
+}
+
 /// Adds the direct dependents of a number, each after `<` with its id and its edge.
 fn push_dependents(text: &mut Text, krates: &Krates, node: NodeId) -> Result<(), AllocError> {
     for found in &krates.direct_dependents(node)? {
         let (other, edge) = (found.node_id.index(), found.edge_id.index());
-        let kid = word_of(found.kid.repr());
+        let kid = word_at(krates, found.node_id);
         write!(text, " {}<{other} {kid} by {edge}", node.index());
     }
     Ok(())
@@ -27,7 +35,7 @@ fn push_dependencies(text: &mut Text, krates: &Krates, node: NodeId) -> Result<(
     }
     for found in &krates.direct_dependencies(node)? {
         let (other, edge) = (found.node_id.index(), found.edge_id.index());
-        let kid = word_of(found.kid.repr());
+        let kid = word_at(krates, found.node_id);
         write!(text, " {}>{other} {kid} by {edge}", node.index());
     }
     Ok(())

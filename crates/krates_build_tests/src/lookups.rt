@@ -1,8 +1,9 @@
 //! Questions about crates to a graph that was built: by id, by name, by number, and which are members.
 //!
 //! The section `ask` of a line has the question: `number`, `node` or `features` and a word for a crate, `found` and such a word,
-//! perhaps with the name of a feature after it, `members`, `nodes`, `name` and a name, `search`, a name and a requirement, or
-//! `krate` and a number. A crate is answered as its word, a feature as the number of its crate, a slash and its name.
+//! perhaps with the name of a feature after it, `members`, `nodes`, `name` and a name, `search`, a name and a requirement, `kid`
+//! and the number of a node, or `krate` and a number. A crate is answered as its word, a feature as the number of its crate, a
+//! slash and its name.
 
 use crate::of_graph::{OfGraph, Told, push_features, push_number};
 use krates::semver::VersionReq;
@@ -82,6 +83,15 @@ fn push_search(text: &mut Text, krates: &Krates, words: &str) -> Result<(), Fail
     Ok(())
 }
 
+/// Adds the id of a node's crate, or that there is none.
+fn push_kid(text: &mut Text, krates: &Krates, number: &str) -> Result<(), Fail> {
+    match krates.kid(NodeId::new(number.parse()?)) {
+        Some(kid) => text.push_str(word_of(kid.repr())),
+        None => text.push_str("none"),
+    }
+    Ok(())
+}
+
 /// Adds the name of the crate with a number, looked up in both ways.
 fn push_krate(text: &mut Text, krates: &Krates, number: &str) -> Result<(), Fail> {
     let number: usize = number.parse()?;
@@ -105,6 +115,7 @@ impl Told<Package> for LookedUp {
         match question {
             "number" | "node" | "features" | "found" => push_by_id(text, krates, question, words),
             "search" => push_search(text, krates, words),
+            "kid" => push_kid(text, krates, words),
             "krate" => push_krate(text, krates, words),
             "name" => {
                 push_matches(text, krates.krates_by_name(words));
@@ -166,6 +177,24 @@ const LOOKED_UP: &[Row] = &[
     ("a b|b;j= / ask found b j", "none"),
     ("a;j=|c;j= / ask found c j", "none"),
     ("a;j=|c;j= / ask found c", "none"),
+    // the id of a node: a crate has its own, a feature that of its crate, and past the nodes there is none
+    (
+        "a b?;b=dep:b w=b?/j|b;j= / nodes a b;b w|b;j / ask kid 1",
+        "b",
+    ),
+    (
+        "a b?;b=dep:b w=b?/j|b;j= / nodes a b;b w|b;j / ask kid 3",
+        "a",
+    ),
+    (
+        "a b?;b=dep:b w=b?/j|b;j= / nodes a b;b w|b;j / ask kid 4",
+        "b",
+    ),
+    (
+        "a b?;b=dep:b w=b?/j|b;j= / nodes a b;b w|b;j / ask kid 5",
+        "none",
+    ),
+    ("d a|a|b / ask kid 0", "a"),
     // the members: in the order of the ids, and each once
     ("b a|c|a / members b a / ask members", " a b"),
     ("a|b / members a a / ask members", " a"),

@@ -12,8 +12,8 @@ use krates::index::{
 use krates::resolve::{Setting, admit, select};
 use krates::semver::Version;
 use krates::{
-    DepKind, EdgeId, Error, Feature, IdError, Kid, NodeId, PackageId, ParsedFeature, PkgSpec,
-    Target, laws, path,
+    DepKind, Edge, EdgeId, Error, Feature, IdError, Kid, NodeId, Package, PackageId, ParsedFeature,
+    PkgSpec, Target, cm, laws, path,
 };
 use krates_samples::table::{Row, Tell, hold};
 use krates_text::text::Text;
@@ -142,10 +142,61 @@ const NAMES: &[Row] = &[
     ("PkgSpec e@1.0.0", "e"),
 ];
 
-#[test]
-fn names_of_values_and_texts(rt: HostRuntime) -> Result<(), Fail> {
+/// Calls each law of builds and of queries.
+fn call_laws_of_builds() {
     laws::narrowing();
     laws::reordering();
+    laws::named_part();
+    laws::agreement::<Package, Edge>();
+    laws::dependents_reach::<Package, Edge>();
+    laws::filtered_holds_rebuild();
+    laws::accepted_lists();
+    laws::closed_lists();
+}
+
+/// Calls each law of ids, specifications, references and expressions.
+fn call_laws_of_texts() {
+    laws::comparison();
+    laws::one_reading();
+    laws::one_specification();
+    laws::printed_specification();
+    laws::correcting_twice();
+    laws::one_correction();
+    laws::one_reference();
+    laws::references_compared();
+    laws::one_expression();
+    laws::causes_compared();
+}
+
+/// Calls each law of comparisons of numbers, and of what a document has.
+fn call_laws_of_comparisons() {
+    laws::nodes_compared();
+    laws::edges_compared();
+    laws::directions_compared();
+    laws::stored_edges_compared::<u8>();
+    laws::errors_compared::<u8>();
+    laws::kinds_compared();
+    cm::laws::package_ids_compared();
+    cm::laws::sources_compared();
+    cm::laws::source_kinds_compared();
+    cm::laws::editions_compared();
+    cm::laws::kinds_compared();
+    cm::laws::forms_compared();
+    cm::laws::dependency_kinds_compared();
+    cm::laws::faults_are_exact();
+    cm::laws::written_is_read();
+}
+
+#[test]
+fn names_of_laws(_rt: HostRuntime) -> Result<(), Fail> {
+    call_laws_of_builds();
+    call_laws_of_texts();
+    call_laws_of_comparisons();
+    Ok(())
+}
+
+#[test]
+fn names_of_values_and_texts(rt: HostRuntime) -> Result<(), Fail> {
     assert!(rt; DepKind::Dev.is(DependencyKind::Development));
     hold::<Named>(rt.alloc(), NAMES)
 }

@@ -7,7 +7,7 @@ use Rattle.std.specs.List.{AllByRecursion, cons_option, enumerate_from, filter_m
 use Rattle.krates_graph.specs.declared.graph.edge.Direction.{Direction}
 use Rattle.krates_graph.specs.declared.graph.edge.GraphEdge.{GraphEdge}
 use Rattle.krates_graph.specs.Graph.{edges_at, end_of, is_at, numbers_at}
-use Rattle.krates_queries.specs.Direct.{AreInOrder, first_edge, neighbour_cmp, id_and_value_at, id_and_value_in, value_at, value_in, Joined, IsLeastEdge, AreJoined, is_feature_in, is_feature_of, joined_by, joined_all, AreConnected, AreDependencies, home, home_in, numbers_in, named_by, target_in, targets_from, AreDependents, IsDependent, source_in, sources_into, sources_over, sources_to}
+use Rattle.krates_queries.specs.Direct.{AreInOrder, first_edge, neighbour_cmp, value_at, value_in, Joined, IsLeastEdge, AreJoined, is_feature_in, is_feature_of, joined_by, joined_all, AreConnected, AreDependencies, home, home_in, numbers_in, named_by, target_in, targets_from, AreDependents, IsDependent, source_in, sources_into, sources_over, sources_to}
 use Rattle.krates_drawing.specs.declared.node.Node.{Node}
 use Rattle.krates_rules.proofs.Members.{Member, mapped_of, member_map, kept_of, member_filter, contains_of, member_of, member_append, member_left, member_right, spread_of, member_spread}
 use Rattle.std.proofs.Math.Dec.{ltb}
@@ -24,7 +24,6 @@ use Rattle.krates_cm.specs.Document.{Text, text_view}
 use Rattle.krates_drawing.specs.Agreement.{DependsOn, IsOf}
 use Rattle.krates_drawing.specs.Drawing.{PlannedCrate, PlannedFeature}
 use Rattle.krates_drawing.specs.Stored.{LeadsAlong}
-use Rattle.krates_ids.specs.Identity.{Identity}
 use Rattle.krates_rules.specs.Facts.{Id}
 use Rattle.krates_rules.specs.Resolved.{id_of}
 use Rattle.krates_graph.specs.declared.graph.edge.Direction.TheVariants.{Outgoing, Incoming}
@@ -297,32 +296,32 @@ least_from nodes edges d xs w n k x v h = is_least nodes edges n d k (w.sound n 
 
 -- ---- exactly those are found
 
-record IsJoined {N : Type 0} (both : ℕ → Option (Identity × N)) (edge : ℕ → Option ℕ) (j : Joined N) : Type 0 where
-  krate : both j.node ≡ Some (j.id, j.krate)
+record IsJoined {N : Type 0} (value : ℕ → Option N) (edge : ℕ → Option ℕ) (j : Joined N) : Type 0 where
+  krate : value j.node ≡ Some j.krate
   edge_is : edge j.node ≡ Some j.edge
 
 abbrev both_some : {N : Type 0} → Option N → Option ℕ → Bool
 both_some v e = is_some v && is_some e
 
-each_step : {N : Type 0} (value : ℕ → Option (Identity × N)) (edge : ℕ → Option ℕ) (n : ℕ) (v : Option (Identity × N)) (e : Option ℕ) (more : List (Joined N)) → value n ≡ v → edge n ≡ e → AllByRecursion (IsJoined value edge) more
+each_step : {N : Type 0} (value : ℕ → Option N) (edge : ℕ → Option ℕ) (n : ℕ) (v : Option N) (e : Option ℕ) (more : List (Joined N)) → value n ≡ v → edge n ≡ e → AllByRecursion (IsJoined value edge) more
     → AllByRecursion (IsJoined value edge) (cons_option (joined_by n v e) more)
 each_step value edge n (Some v) (Some e) more is_v is_e h = (record { krate = is_v; edge_is = is_e }, h)
 each_step value edge n (Some v) None more is_v is_e h = h
 each_step value edge n None (Some e) more is_v is_e h = h
 each_step value edge n None None more is_v is_e h = h
 
-each_joined : {N : Type 0} (value : ℕ → Option (Identity × N)) (edge : ℕ → Option ℕ) (ns : List ℕ) → AllByRecursion (IsJoined value edge) (joined_all value edge ns)
+each_joined : {N : Type 0} (value : ℕ → Option N) (edge : ℕ → Option ℕ) (ns : List ℕ) → AllByRecursion (IsJoined value edge) (joined_all value edge ns)
 each_joined value edge [] = tt
 each_joined value edge (n ∷ ns) = each_step value edge n (value n) (edge n) (joined_all value edge ns) refl refl (each_joined value edge ns)
 
-nodes_step : {N : Type 0} (n : ℕ) (v : Option (Identity × N)) (e : Option ℕ) (more : List (Joined N)) (ns : List ℕ) → map (λ j. j.node) more ≡ ns
+nodes_step : {N : Type 0} (n : ℕ) (v : Option N) (e : Option ℕ) (more : List (Joined N)) (ns : List ℕ) → map (λ j. j.node) more ≡ ns
     → map (λ j. j.node) (cons_option (joined_by n v e) more) ≡ cond (both_some v e) (n ∷ ns) ns
 nodes_step n (Some v) (Some e) more ns h = ap (λ zs. n ∷ zs) h
 nodes_step n (Some v) None more ns h = h
 nodes_step n None (Some e) more ns h = h
 nodes_step n None None more ns h = h
 
-joined_nodes : {N : Type 0} (value : ℕ → Option (Identity × N)) (edge : ℕ → Option ℕ) (ns : List ℕ) → map (λ j. j.node) (joined_all value edge ns) ≡ filter (λ n. both_some (value n) (edge n)) ns
+joined_nodes : {N : Type 0} (value : ℕ → Option N) (edge : ℕ → Option ℕ) (ns : List ℕ) → map (λ j. j.node) (joined_all value edge ns) ≡ filter (λ n. both_some (value n) (edge n)) ns
 joined_nodes value edge [] = refl
 joined_nodes value edge (n ∷ ns) = nodes_step n (value n) (edge n) (joined_all value edge ns) (filter (λ n. both_some (value n) (edge n)) ns) (joined_nodes value edge ns)
 
@@ -347,46 +346,31 @@ pub record AreLookedAt {N : Type 0} (nodes : List (Node N)) (edge : ℕ → Opti
   pub right : (n : ℕ) (x : N) (k : ℕ) → Contains ns n → value_at nodes n ≡ Some x → edge n ≡ Some k → Is n
   pub edges : (n k : ℕ) (x : N) → value_at nodes n ≡ Some x → edge n ≡ Some k → IsEdge n k
 
--- a crate with a value has an id, and the other way round
-id_there : {N : Type 0} (o : Option (Node N)) (x : N) → value_in o ≡ Some x → (i : Identity) × (id_and_value_in o ≡ Some (i, x))
-id_there None x v = absurd cc
-id_there (Some (Krate id krate features mapping)) x v = let same : krate ≡ x = cc in (id, ap (λ y. Some (id, y)) same)
-id_there (Some (Feature krate_index name)) x v = absurd cc
-
-value_there : {N : Type 0} (o : Option (Node N)) (i : Identity) (x : N) → id_and_value_in o ≡ Some (i, x) → value_in o ≡ Some x
-value_there None i x v = absurd cc
-value_there {N} (Some (Krate id krate features mapping)) i x v = ap (λ (both : Identity × N). Some both.1) (same_Some (id, krate) (i, x) v)
-value_there (Some (Feature krate_index name)) i x v = absurd cc
-
 all_weaker : {X : Type 0} (P Q : X → Type 0) (xs : List X) → ((x : X) → P x → Q x) → AllByRecursion P xs → AllByRecursion Q xs
 all_weaker P Q [] f h = tt
 all_weaker P Q (x ∷ xs) f h = (f x h.0, all_weaker P Q xs f h.1)
 
 pub are_joined : {N : Type 0} (nodes : List (Node N)) (edge : ℕ → Option ℕ) (Is : ℕ → Type 0) (IsEdge : ℕ → ℕ → Type 0) (ns : List ℕ) → AreLookedAt nodes edge Is IsEdge ns
-    → AreJoined nodes Is IsEdge (joined_all (id_and_value_at nodes) edge ns)
+    → AreJoined nodes Is IsEdge (joined_all (value_at nodes) edge ns)
 are_joined {N} nodes edge Is IsEdge ns w =
-    let found = joined_all (id_and_value_at nodes) edge ns in
-    let test : ℕ → Bool = λ n. both_some (id_and_value_at nodes n) (edge n) in
-    let same = joined_nodes (id_and_value_at nodes) edge ns in
-    let each = each_joined (id_and_value_at nodes) edge ns in
-    let value : (n : ℕ) (both : Identity × N) → id_and_value_at nodes n ≡ Some both → value_at nodes n ≡ Some both.1 =
-    λ n both is. value_there (slice_get nodes n) both.0 both.1 is in
+    let found = joined_all (value_at nodes) edge ns in
+    let test : ℕ → Bool = λ n. both_some (value_at nodes n) (edge n) in
+    let same = joined_nodes (value_at nodes) edge ns in
+    let each = each_joined (value_at nodes) edge ns in
     record {
       by_number = rw same (IsStrictlySortedBy-filter nat_cmp test ns w.ascending);
       exactly = λ n. (
         λ c.
             (let m = kept_of test ns n (member_of (filter test ns) n (subst (λ zs. Contains zs n) same c)) in
-            let s = some_both (id_and_value_at nodes n) (edge n) m.1 in
-            w.right n s.krate.1 s.edge (contains_of ns n m.0) (value n s.krate s.krate_is) s.edge_is),
+            let s = some_both (value_at nodes n) (edge n) m.1 in
+            w.right n s.krate s.edge (contains_of ns n m.0) s.krate_is s.edge_is),
         λ is.
             (let t = w.there n is in
-            let id = id_there (slice_get nodes n) t.krate t.krate_is in
-            let both : Identity × N = (id.0, t.krate) in
-            let passes : test n ≡ true = ap (λ v. both_some v (edge n)) id.1 ∙ ap (λ e. both_some (Some both) e) t.edge_is in
+            let passes : test n ≡ true = ap (λ v. both_some v (edge n)) t.krate_is ∙ ap (λ e. both_some (Some t.krate) e) t.edge_is in
             subst (λ zs. Contains zs n) (sym same) (contains_of (filter test ns) n (member_filter test ns n passes (member_of ns n (w.among n is))))),
       );
-      krates = All-from_recursion (λ (j : Joined N). id_and_value_at nodes j.node ≡ Some (j.id, j.krate)) found (all_weaker _ _ found (λ j h. h.krate) each);
-      edges = All-from_recursion (λ (j : Joined N). IsEdge j.node j.edge) found (all_weaker _ _ found (λ j h. w.edges j.node j.edge j.krate (value j.node (j.id, j.krate) h.krate) h.edge_is) each);
+      krates = All-from_recursion (λ (j : Joined N). value_at nodes j.node ≡ Some j.krate) found (all_weaker _ _ found (λ j h. h.krate) each);
+      edges = All-from_recursion (λ (j : Joined N). IsEdge j.node j.edge) found (all_weaker _ _ found (λ j h. w.edges j.node j.edge j.krate h.krate h.edge_is) each);
     }
 
 -- ---- which neighbours are looked at
@@ -549,7 +533,7 @@ depends_iff nodes p d = (
 
 pub are_dependencies : {N E : Type 0} (nodes : List (Node N)) (edges : List (GraphEdge E)) (p : ℕ) (xs : List Neighbour) (ns : List ℕ) → AreConnected nodes edges → AreInOrder xs
     → ((x : Neighbour) → Contains xs x ↔ Contains (targets_from nodes edges p) x) → IsStrictlySortedBy nat_cmp ns → ((n : ℕ) → Contains ns n ↔ Contains (named_by (slice_get nodes p)) n)
-    → AreDependencies nodes edges p (joined_all (id_and_value_at nodes) (first_edge xs) ns)
+    → AreDependencies nodes edges p (joined_all (value_at nodes) (first_edge xs) ns)
 are_dependencies nodes edges p xs ns connected order found ascending same =
     let targets = targets_from nodes edges p in
     let w : AreNeighbours nodes (λ n k. Leads nodes edges p n k) xs = record {
@@ -571,7 +555,7 @@ are_dependencies nodes edges p xs ns connected order found ascending same =
 
 pub are_dependents : {N E : Type 0} (nodes : List (Node N)) (edges : List (GraphEdge E)) (d : ℕ) (xs : List Neighbour) (ns : List ℕ) → AreConnected nodes edges → AreInOrder xs
     → ((x : Neighbour) → Contains xs x ↔ Contains (sources_into nodes edges d) x) → IsStrictlySortedBy nat_cmp ns → ((n : ℕ) → Contains ns n ↔ Contains (map (λ x. x.krate) xs) n)
-    → AreDependents nodes edges d (joined_all (id_and_value_at nodes) (first_edge xs) ns)
+    → AreDependents nodes edges d (joined_all (value_at nodes) (first_edge xs) ns)
 are_dependents nodes edges d xs ns connected order found ascending same =
     let sources = sources_into nodes edges d in
     let w : AreNeighbours nodes (λ n k. Leads nodes edges n d k) xs = record {

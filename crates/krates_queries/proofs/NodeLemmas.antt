@@ -1,7 +1,7 @@
 -- The nodes of a graph: where the crates and the enabled features are among them, and what a search for one finds.
 use Rattle.std.proofs.Common.{◌≡◌, ◌↔◌, ℕ, zero, suc, ◌<◌, ◌≤◌, List, [], ◌∷◌, length, get_or, Option, Some, None, slice_get, refl, sym, ap, ◌∙◌, subst, arith, HoldsAt, Ordering, Less, Equal, Greater, ◌+◌, ◌++◌, map, take, option_map, Contains, inl, inr, rules}
 use Rattle.std.proofs.lemmas.List.Sorted.{searchable_from_sorted}
-use Rattle.std.proofs.lemmas.Option.{get_or_from_slice_get, slice_get_within, slice_get-map, slice_get-get_or, slice_get_cases}
+use Rattle.std.proofs.lemmas.Option.{none-some, get_or_from_slice_get, slice_get_within, slice_get-map, slice_get-get_or, slice_get_cases}
 use Rattle.std.specs.Bool.{⊤}
 use Rattle.std.specs.BTreeSet.{BTreeSet}
 use Rattle.std.specs.Global.{Vec}
@@ -14,9 +14,11 @@ use Rattle.krates_cm.specs.Document.{Text, text_view}
 use Rattle.krates_ids.specs.Identity.{Identity, id_cmp}
 use Rattle.krates_rules.specs.Facts.{Id}
 use Rattle.krates_rules.specs.Resolved.{id_of, StandsAt}
+use Rattle.krates_queries.specs.Direct.{home_in}
+use Rattle.krates_queries.proofs.DirectLemmas.{got}
 use Rattle.krates_queries.specs.Kept.{AreNodes, HasFeatures, IsEnabledIn, enabled_facts, feature_order}
 use Rattle.krates_drawing.specs.Node.{crate_ids, crate_values, crate_features, CratesFirst, names_in, IsFeature, IsFeatureAt, feature_names}
-use Rattle.krates_queries.specs.Numbers.{node_cmp, IsNumberFor, feature_cmp}
+use Rattle.krates_queries.specs.Numbers.{node_cmp, IsNumberFor, feature_cmp, id_in, kid_at}
 use Rattle.krates_drawing.specs.declared.node.Node.{Node}
 use Rattle.krates_drawing.specs.declared.node.Node.TheVariants.{Krate, Feature}
 use Rattle.krates_rules.proofs.OrderedIds.{Compares, id_of_equal, equal_of, sorted_weakly, none_equal, one_place, stands_within, stands_same}
@@ -475,3 +477,36 @@ enabled_told nodes id view (Some f) number a so = (
       let e : number ≡ Some w.n = (so w.n).1 (record { number = h.theirs.place; stands = h.theirs.stands; is = w.at }) in
       subst (λ (o : Option ℕ). IsSome o) (sym e) refl),
 )
+
+-- ---- the id of a node's crate
+
+not_some : {A : Type 0} (o : Option A) → o ≡ None → IsSome o → ⊥
+not_some None e some = cc some
+not_some (Some x) e some = cc e
+
+kid_step : {N : Type 0} (nodes : List (Node N)) (n : ℕ) (o : Option (Node N)) → AreNodes nodes → slice_get nodes n ≡ o → IsSome (id_in (slice_get nodes (home_in n o))) ↔ (n < length nodes)
+kid_step nodes n None a e = (
+  λ some. absurd (not_some (id_in (slice_get nodes n)) (ap id_in e) some),
+  λ lt. (let w = got nodes n lt in absurd (none-some w.0 (sym e ∙ w.1))),
+)
+kid_step nodes n (Some (Krate i k f m)) a e = (
+  λ some. slice_get_within nodes n (Krate i k f m) e,
+  λ lt. subst (λ o. IsSome (id_in o)) (sym e) refl,
+)
+kid_step nodes n (Some (Feature k t)) a e =
+    let own = feature_member nodes n k (text_view t) (record { node = Feature k t; at = e; is = (refl, refl) }) in
+    let named = (a.features.exactly k (text_view t)).0 (contains_of (feature_names nodes) (k, text_view t) own) in
+    let within : k < length (crate_ids nodes) = subst (λ m. k < m) (as_many_features nodes) (slice_get_within (crate_features nodes) k named.names named.at) in
+    let there = got (crate_ids nodes) k within in
+    let crate = crate_at nodes k there.0 a.first there.1 in (
+      λ some. slice_get_within nodes n (Feature k t) e,
+      λ lt. subst (λ o. IsSome (id_in o)) (sym (crate.at ∙ ap (λ node. Some node) crate.is.is)) refl,
+    )
+
+-- exactly the nodes have one
+pub kid_there : {N : Type 0} (nodes : List (Node N)) (n : ℕ) → AreNodes nodes → IsSome (kid_at nodes n) ↔ (n < length nodes)
+kid_there nodes n a = kid_step nodes n (slice_get nodes n) a refl
+
+pub some_lent : {A B : Type 0} (f : A → B) (o : Option A) → IsSome (option_map f o) ↔ IsSome o
+some_lent f None = (λ h. h, λ h. h)
+some_lent f (Some x) = (λ h. refl, λ h. refl)

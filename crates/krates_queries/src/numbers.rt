@@ -3,8 +3,9 @@
 ghost use Rattle.std.specs.Prelude.{◌≡◌, ◌↔◌, ◌<◌, ◌∷◌, ◌++◌, [], ℕ, ⊤, IfOk, IsSome, MatchOption, OnOk, Some, length, map, option_map, slice_get};
 ghost use Rattle.krates_rules.specs.Resolved.{id_of, StandsAt};
 ghost use Rattle.krates_drawing.specs.Node.{IsFeatureAt, crate_ids, crate_features, crate_values, names_in};
+ghost use Rattle.krates_queries.specs.Direct.{home};
 ghost use Rattle.krates_queries.specs.Kept.{AreNodes, HasEnabled, HasFeatures, IsNodeOf, IsNotKept, features_of, ids_of, values_of};
-ghost use Rattle.krates_queries.specs.Numbers.{IsNumberFor, IsNumberIn, feature_cmp, node_cmp};
+ghost use Rattle.krates_queries.specs.Numbers.{IsNumberFor, IsNumberIn, feature_cmp, id_in, kid_at, node_cmp};
 
 use crate::kept::Krates;
 use krates_drawing::node::{EnabledFeatures, Node};
@@ -31,6 +32,24 @@ impl<N, E> Krates<N, E> {
             Some(number) => Some(NodeId::new(number as u32)),
             None => None,
         }
+    }
+
+    /// The id of a node's crate: of a crate its own, and of a feature that of the crate that has it; `None` exactly where
+    /// there is no such node. Time O(1).
+    ///
+    /// ```text
+    /// for found in &krates.direct_dependents(node)? {
+    ///     if let Some(kid) = krates.kid(found.node_id) {
+    ///         println!(rt; "needed by {kid}")?;
+    ///     }
+    /// }
+    /// ```
+    pub fn kid(&self, node: NodeId) -> Option<&Kid>
+        ensures id { option_map (λ kid. kid.now) result ≡ kid_at self.now.graph.nodes node }
+        ensures there { IsSome result ↔ node < length self.now.graph.nodes }
+    {
+        let nodes = self.nodes();
+        id_at(nodes, home_of(nodes, node).index())
     }
 
     /// The node of a crate: `Some` exactly for a kept crate. Time O(log n) for n nodes.
@@ -206,6 +225,28 @@ pub(crate) fn node_at<N>(nodes: &[Node<N>], number: usize) -> Option<&Node<N>>
     ensures { option_map (λ node. node.now) result ≡ slice_get nodes.now number }
 {
     nodes.get(number)
+}
+
+/// The number of the crate of a node: that of a feature's crate, otherwise the node's own.
+pub(crate) fn home_of<N>(nodes: &[Node<N>], number: NodeId) -> NodeId
+    ensures { result ≡ home nodes.now number }
+{
+    match node_at(nodes, number.index()) {
+        Some(Node::Feature { krate_index, .. }) => *krate_index,
+        Some(Node::Krate { .. }) => number,
+        None => number,
+    }
+}
+
+/// The id of the crate with a number.
+fn id_at<N>(nodes: &[Node<N>], number: usize) -> Option<&Kid>
+    ensures { option_map (λ kid. kid.now) result ≡ id_in (slice_get nodes.now number) }
+{
+    match node_at(nodes, number) {
+        Some(Node::Krate { id, .. }) => Some(id),
+        Some(Node::Feature { .. }) => None,
+        None => None,
+    }
 }
 
 /// The node with a number.

@@ -7,14 +7,13 @@ ghost use Rattle.std.specs.Ordering.{nat_cmp};
 ghost use Rattle.krates_drawing.specs.Views.{listed};
 ghost use Rattle.krates_graph.specs.Graph.{HasEnds, numbers_at};
 ghost use Rattle.krates_graph.specs.declared.graph.edge.Direction.TheVariants.{Outgoing};
-ghost use Rattle.krates_queries.specs.Direct.{AreDependencies, AreDependents, AreInOrder, deps_of, first_edge, home, id_and_value_at, is_feature_of as is_feature, joined_all, joined_by, joined_view, named_by, number_in, numbers_in, resolved_at, sources_into, sources_over, sources_to, target_in, target_of, targets_from};
+ghost use Rattle.krates_queries.specs.Direct.{AreDependencies, AreDependents, AreInOrder, Joined, dependency_view, dependent_view, deps_of, first_edge, is_feature_of as is_feature, joined_all, joined_by, named_by, number_in, numbers_in, resolved_at, sources_into, sources_over, sources_to, target_in, target_of, targets_from, value_at};
 
 use crate::kept::Krates;
-use crate::numbers::{node_at, standing_at};
+use crate::numbers::{home_of, node_at, standing_at};
 use crate::queries::krate_nodes::{KrateMatch, krate_at};
 use krates_drawing::node::Node;
 use krates_graph::graph::{Direction, EdgeId, Graph, GraphEdge, NodeId};
-use krates_ids::Kid;
 use std::alloc::{AllocError, Global};
 use std::marker::Model;
 
@@ -58,59 +57,50 @@ fn is_feature_of<N>(nodes: &[Node<N>], krate: NodeId, number: NodeId) -> bool
     }
 }
 
-/// A crate that an edge joins to a node: one on which it depends directly, or one that depends on it.
-#[derive(Debug, Drop)]
-pub struct JoinedKrate<'a, N> {
-    /// The value held for the package of the crate.
-    pub krate: &'a N,
-    /// The id of the crate.
-    pub kid: &'a Kid,
-    /// The number of the crate.
-    pub node_id: NodeId,
-    /// The least edge between the node, or a feature of what is depended on, and the crate.
-    pub edge_id: EdgeId,
+/// What is told of a crate that an edge joins to a node: that it is a dependency, or that it is a dependent.
+trait FromJoined<'a, N>: Sized + Drop {
+    /// The crate that it tells of.
+    ghost joined_view: { Self → Joined N };
+
+    /// Tells of a crate with its number and that of an edge.
+    fn from_joined(krate: &'a N, node_id: NodeId, edge_id: EdgeId) -> Self
+        ensures { joined_view result ≡ record { krate = krate.now; node = node_id; edge = edge_id } };
 }
 
 /// Adds the crate with a number, with the first edge by which it is a neighbour; nothing if it isn't one.
-fn push_joined<'a, N>(
+fn push_joined<'a, N, J: FromJoined<'a, N>>(
     nodes: &'a [Node<N>],
     neighbours: &[Neighbour],
     number: NodeId,
-    found: &mut Vec<JoinedKrate<'a, N>>,
+    found: &mut Vec<J>,
 ) -> Result<(), AllocError>
     requires { AreInOrder neighbours.now }
-    ensures { OnOk result (map joined_view found.new.items ≡ map joined_view found.old.items
-        ++ listed (joined_by number (id_and_value_at nodes.now number) (first_edge neighbours.now number))) }
+    ensures { OnOk result (map J.joined_view found.new.items ≡ map J.joined_view found.old.items
+        ++ listed (joined_by number (value_at nodes.now number) (first_edge neighbours.now number))) }
 {
-    let Some(KrateMatch { krate, kid, .. }) = krate_at(nodes, number) else {
+    let Some(KrateMatch { krate, .. }) = krate_at(nodes, number) else {
         return Ok(());
     };
     let Some(edge_id) = first_edge(neighbours, number) else {
         return Ok(());
     };
-    let joined = JoinedKrate {
-        krate,
-        kid,
-        node_id: number,
-        edge_id,
-    };
     // No `?` here: what it makes of the refusal would have to own references.
-    match found.push(joined) {
+    match found.push(J::from_joined(krate, number, edge_id)) {
         Ok(()) => Ok(()),
         Err(_) => Err(AllocError),
     }
 }
 
 /// The crates with these numbers that are neighbours, each with the first edge by which it is one.
-fn joined_krates<'a, N>(
+fn joined_krates<'a, N, J: FromJoined<'a, N>>(
     alloc: Global,
     nodes: &'a [Node<N>],
     neighbours: &[Neighbour],
     numbers: &[NodeId],
-) -> Result<Vec<JoinedKrate<'a, N>>, AllocError>
+) -> Result<Vec<J>, AllocError>
     requires { AreInOrder neighbours.now }
-    ensures { IfOk result (λ found. map joined_view found.items
-        ≡ joined_all (id_and_value_at nodes.now) (first_edge neighbours.now) numbers.now) }
+    ensures { IfOk result (λ found. map J.joined_view found.items
+        ≡ joined_all (value_at nodes.now) (first_edge neighbours.now) numbers.now) }
 {
     let mut found = Vec::new(alloc);
     for number in numbers {
@@ -129,8 +119,28 @@ pub(crate) fn sorted_once(mut numbers: Vec<NodeId>) -> Vec<NodeId>
     numbers
 }
 
-/// A crate on which another depends directly, with the least edge from the other to it or to a feature of it.
-pub type DirectDependency<'a, N> = JoinedKrate<'a, N>;
+/// A crate on which another depends directly.
+#[derive(Debug, Drop)]
+pub struct DirectDependency<'a, N> {
+    /// The value held for the package of the crate.
+    pub krate: &'a N,
+    /// The number of the crate.
+    pub node_id: NodeId,
+    /// The least edge from the crate that depends on it, to it or to a feature of it.
+    pub edge_id: EdgeId,
+}
+
+impl<'a, N> FromJoined<'a, N> for DirectDependency<'a, N> {
+    ghost joined_view = { dependency_view };
+
+    fn from_joined(krate: &'a N, node_id: NodeId, edge_id: EdgeId) -> DirectDependency<'a, N> {
+        DirectDependency {
+            krate,
+            node_id,
+            edge_id,
+        }
+    }
+}
 
 /// The numbers that a mapping names.
 fn mapped_numbers(alloc: Global, mapping: &[Option<NodeId>]) -> Result<Vec<NodeId>, AllocError>
@@ -146,17 +156,6 @@ fn named<N>(alloc: Global, node: &Node<N>) -> Result<Vec<NodeId>, AllocError>
     match node {
         Node::Krate { dep_mapping, .. } => mapped_numbers(alloc, dep_mapping),
         Node::Feature { .. } => Ok(Vec::new(alloc)),
-    }
-}
-
-/// The number of the crate of a node: that of a feature's crate, otherwise the node's own.
-fn home_of<N>(nodes: &[Node<N>], number: NodeId) -> NodeId
-    ensures { result ≡ home nodes.now number }
-{
-    match node_at(nodes, number.index()) {
-        Some(Node::Feature { krate_index, .. }) => *krate_index,
-        Some(Node::Krate { .. }) => number,
-        None => number,
     }
 }
 
@@ -192,8 +191,29 @@ fn targets_of<N, E>(
     Ok(targets)
 }
 
-/// A crate that depends directly on another, or on a feature of it, with the least edge from it to the other or to a feature of the other.
-pub type DirectDependent<'a, N> = JoinedKrate<'a, N>;
+/// A crate that depends directly on another, or on a feature of it.
+#[derive(Debug, Drop)]
+pub struct DirectDependent<'a, N> {
+    /// The value held for the package of the crate.
+    pub krate: &'a N,
+    /// The number of the crate.
+    pub node_id: NodeId,
+    /// The least edge from it: to the crate that was asked about or to a feature of that, or to the feature that was
+    /// asked about.
+    pub edge_id: EdgeId,
+}
+
+impl<'a, N> FromJoined<'a, N> for DirectDependent<'a, N> {
+    ghost joined_view = { dependent_view };
+
+    fn from_joined(krate: &'a N, node_id: NodeId, edge_id: EdgeId) -> DirectDependent<'a, N> {
+        DirectDependent {
+            krate,
+            node_id,
+            edge_id,
+        }
+    }
+}
 
 /// Adds the sources of the edges to a node.
 fn push_sources<N, E>(
@@ -326,6 +346,9 @@ impl<N, E> Krates<N, E> {
     /// The crates that the declared dependencies of a crate mean, each once, by number, with the least edge to each;
     /// none for a feature. There must be a node with that number. The only refusal is running out of memory.
     ///
+    /// A build promises that these are exactly the crates that have this one among their `direct_dependents`, where no
+    /// two kept crates come by one declared dependency of it. Where two do, the other has it as a dependent alone.
+    ///
     /// Time: O(n log n), where n counts the declared dependencies of the crate and the edges from it.
     ///
     /// ```text
@@ -341,7 +364,7 @@ impl<N, E> Krates<N, E> {
     ) -> Result<Vec<DirectDependency<'_, N>>, AllocError>
         requires stands { node < length self.now.graph.nodes }
         ensures { IfOk result (λ found. AreDependencies self.now.graph.nodes self.now.graph.edges node
-            (map joined_view found.items)) }
+            (map dependency_view found.items)) }
     {
         let alloc = self.alloc();
         let graph = self.graph();
@@ -367,7 +390,7 @@ impl<N, E> Krates<N, E> {
     /// Time: O(n log n), where n counts the edges to the node and to its features.
     pub fn direct_dependents(&self, node: NodeId) -> Result<Vec<DirectDependent<'_, N>>, AllocError>
         ensures { IfOk result (λ found. AreDependents self.now.graph.nodes self.now.graph.edges node
-            (map joined_view found.items)) }
+            (map dependent_view found.items)) }
     {
         let alloc = self.alloc();
         let graph = self.graph();

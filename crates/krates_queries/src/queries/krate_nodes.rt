@@ -3,7 +3,7 @@
 ghost use Rattle.std.specs.Prelude.{◌≡◌, ◌<◌, All, Some, filter, length, map, option_map};
 ghost use Rattle.std.specs.Iterator.{YieldsFirstBy, YieldsFirstRef, item_count};
 ghost use Rattle.std.specs.List.{range_with_len};
-ghost use Rattle.krates_queries.specs.Direct.{id_and_value_at, value_at};
+ghost use Rattle.krates_queries.specs.Direct.{value_at};
 ghost use Rattle.krates_queries.specs.Kept.{AreOrdered, ids_of, values_of};
 ghost use Rattle.krates_queries.specs.KrateNodes.{crates_of, fits, has_fitting, is_named, match_at, match_view, nodes_at};
 
@@ -30,8 +30,6 @@ pub struct KrateMatch<'a, N> {
 /// The crate with a number; `None` for a feature, and where there is no node.
 pub(crate) fn krate_at<N>(nodes: &[Node<N>], number: NodeId) -> Option<KrateMatch<'_, N>>
     ensures is { option_map match_view result ≡ match_at nodes.now number }
-    ensures both { option_map (λ found. (found.kid.now, found.krate.now)) result
-        ≡ id_and_value_at nodes.now number }
     ensures value { option_map (λ found. found.krate.now) result ≡ value_at nodes.now number }
 {
     match node_at(nodes, number.index()) {

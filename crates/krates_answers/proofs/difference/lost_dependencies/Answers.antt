@@ -7,8 +7,8 @@ use Rattle.krates_rules.proofs.Members.{Member, contains_of}
 use Rattle.krates_drawing.specs.declared.edge.Edge.{Edge}
 use Rattle.krates_queries.specs.Kept.{KeptCrates, ids_of}
 use Rattle.krates_queries.specs.KrateNodes.{Match, crates_of, match_view}
-use Rattle.krates_queries.specs.declared.queries.direct.JoinedKrate.{JoinedKrate}
-use Rattle.krates_answers.specs.Difference.{IsLost, IsMissing, dependency_view, pair_of, pairs_with}
+use Rattle.krates_queries.specs.declared.queries.direct.DirectDependent.{DirectDependent}
+use Rattle.krates_answers.specs.Difference.{IsLost, IsMissing, dependency_view, pairs_to, pairs_with}
 use Rattle.krates_answers.specs.Those.{AddsThose, AreThose}
 use Rattle.krates_answers.proofs.DifferenceLemmas.{one_more_lost}
 use Rattle.krates_answers.proofs.WalkedLists.{next_among, those_none, walked, walked_on}
@@ -31,8 +31,8 @@ loop-child-preserved c =
     let among = next_among done child l.child-iterator c.next.new.self (crates_of here) c.in-Some.ensures.steps l.invariant.1 in
     let listed = contains_of nodes child (subst (λ (ms : List (Match Package)). Member ms child) (sym c.krate_nodes-child-items.ensures.all) among) in
     let within : child.number < length (ids_of here) = All-contains (λ (m : Match Package). m.number < length (ids_of here)) nodes child c.krate_nodes-child-items.ensures.below listed in
-    let told = subst (λ (k : KeptCrates Package Edge). AddsThose (IsMissing k) (map (pair_of child) c.deref.result.now) old new) c.in_ok-there.ensures c.in_ok-push_lost.ensures in
-    let adds = subst (λ (xs : List (JoinedKrate Package)). AddsThose (IsMissing there) (map (pair_of child) xs) old new) c.deref.ensures.value told in
+    let told = subst (λ (k : KeptCrates Package Edge). AddsThose (IsMissing k) (pairs_to here child c.deref.result.now) old new) c.in_ok-there.ensures c.in_ok-push_lost.ensures in
+    let adds = subst (λ (xs : List (DirectDependent Package)). AddsThose (IsMissing there) (pairs_to here child xs) old new) c.deref.ensures.value told in
     let more = one_more_lost here there child ds done old new within c.in_ok-dependents.ensures adds l.invariant.2 in (
       tt,
       walked_on match_view l.yielded c.in-Some.child l.child-iterator c.next.new.self (crates_of here) c.in-Some.ensures.steps l.invariant.1,

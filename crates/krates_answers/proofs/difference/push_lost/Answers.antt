@@ -1,8 +1,10 @@
 use Rattle.std.proofs.Common.{◌≡◌, ◌∷◌, ◌++◌, ◌∙◌, ◌+◌, ◌<◌, [], List, length, map, take, get_or, arith, sym, ap, subst}
-use Rattle.std.proofs.lemmas.List.{map-append, take_more}
+use Rattle.std.proofs.lemmas.List.{take_more}
 use Rattle.krates_cm.specs.declared.package.Package.{Package}
 use Rattle.krates_queries.specs.KrateNodes.{match_view}
-use Rattle.krates_answers.specs.Difference.{IsMissing, Pair, dependency_view, pair_of}
+use Rattle.krates_answers.specs.Difference.{IsMissing, Pair, dependency_view, pairs_to}
+use Rattle.krates_answers.proofs.DifferenceLemmas.{one_more_pair}
+use Rattle.krates_queries.specs.declared.queries.direct.DirectDependent.{DirectDependent}
 use Rattle.krates_answers.specs.Those.{AddsThose}
 use Rattle.krates_answers.proofs.ThoseLemmas.{AddsThose-append, AddsThose-none}
 use Rattle.krates_answers.proofs.difference.push_lost.Goals as goal
@@ -13,12 +15,13 @@ loop-dependent-init c = AddsThose-none (map dependency_view c.args.lost.now.item
 pub loop-dependent-preserved : goal.loop-dependent-preserved
 loop-dependent-preserved c =
     let l = c.loop-dependent in
+    let here = c.args.here.now in
+    let child = match_view c.args.child.now in
     let dependents = c.args.dependents.now in
     let item = c.dependent-item.result in
-    let pair = pair_of (match_view c.args.child.now) in
     let lt : l.dependent-index < length dependents = omega (arith, c.loop-dependent-test.true) in
-    let more : map pair (take (l.dependent-index + 1) dependents) ≡ map pair (take l.dependent-index dependents) ++ pair item ∷ [] =
-    ap (map pair) (take_more dependents l.dependent-index item lt) ∙ map-append pair (take l.dependent-index dependents) (get_or dependents l.dependent-index item ∷ [])
-    ∙ ap (λ x. map pair (take l.dependent-index dependents) ++ pair x ∷ []) (sym c.dependent-item.is) in
+    let more : pairs_to here child (take (l.dependent-index + 1) dependents) ≡ pairs_to here child (take l.dependent-index dependents) ++ pairs_to here child (item ∷ []) =
+    ap (pairs_to here child) (take_more dependents l.dependent-index item lt) ∙ one_more_pair here child (take l.dependent-index dependents) (get_or dependents l.dependent-index item)
+    ∙ ap (λ (d : DirectDependent Package). pairs_to here child (take l.dependent-index dependents) ++ pairs_to here child (d ∷ [])) (sym c.dependent-item.is) in
     subst (λ (all : List (Pair Package)). AddsThose (IsMissing c.args.there.now) all (map dependency_view c.args.lost.now.items) (map dependency_view c.push_if_lost.new.lost.items)) (sym more)
     (AddsThose-append l.invariant c.in_ok-push_if_lost.ensures)

@@ -1,6 +1,6 @@
 use Rattle.std.proofs.Common.{◌≡◌, ◌↔◌, ◌∙◌, List, ℕ, Contains, slice_get, sym, ap, subst}
 use Rattle.std.proofs.lemmas.Result.{IfOk-weaker}
-use Rattle.krates_queries.specs.Direct.{AreInOrder, Joined, id_and_value_at, joined_all, AreDependencies, named_by, targets_from, first_edge}
+use Rattle.krates_queries.specs.Direct.{AreInOrder, Joined, joined_all, AreDependencies, named_by, targets_from, first_edge, value_at}
 use Rattle.krates_drawing.specs.declared.node.Node.{Node}
 use Rattle.krates_queries.specs.declared.queries.direct.Neighbour.{Neighbour}
 use Rattle.krates_queries.proofs.DirectLemmas.{are_dependencies}
@@ -19,9 +19,9 @@ returns g c =
     let are = are_dependencies graph.nodes graph.edges c.args.node targets numbers c.graph-graph.ensures.connected c.ordered-targets.ensures.ordered
     (λ x. subst (λ (xs : List Neighbour). Contains targets x ↔ Contains xs x) led (c.ordered-targets.ensures.same x)) c.sorted_once-numbers.ensures.ascending
     (λ n. subst (λ (ns : List ℕ). Contains numbers n ↔ Contains ns n) named (c.sorted_once-numbers.ensures.same n)) in
-    let seen = ap (λ (ns : List (Node g.row.N.Denot)). joined_all (id_and_value_at ns) (first_edge c.deref.result.now) c.deref-2.result.now) c.raw_nodes.ensures.nodes
-    ∙ ap (λ (xs : List Neighbour). joined_all (id_and_value_at graph.nodes) (first_edge xs) c.deref-2.result.now) c.deref.ensures.value
-    ∙ ap (joined_all (id_and_value_at graph.nodes) (first_edge targets)) c.deref-2.ensures.value in
+    let seen = ap (λ (ns : List (Node g.row.N.Denot)). joined_all (value_at ns) (first_edge c.deref.result.now) c.deref-2.result.now) c.raw_nodes.ensures.nodes
+    ∙ ap (λ (xs : List Neighbour). joined_all (value_at graph.nodes) (first_edge xs) c.deref-2.result.now) c.deref.ensures.value
+    ∙ ap (joined_all (value_at graph.nodes) (first_edge targets)) c.deref-2.ensures.value in
     rw (← c.graph-graph.ensures.graph)
     (IfOk-weaker c.joined_krates.result _ _
     (λ found e. subst (λ (js : List (Joined g.row.N.Denot)). AreDependencies graph.nodes graph.edges c.args.node js) (sym (e ∙ seen)) are)
