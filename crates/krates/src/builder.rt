@@ -16,7 +16,7 @@ ghost use Rattle.krates.specs.Cargo.{CargoBuildRefusal, IsWritten, NamesWrittenI
 ghost use Rattle.krates.specs.Indexed.{HasNames, IsAskable, IsSeen, Sees};
 ghost use Rattle.krates_cargo.specs.Running.{IsSomeAnswer};
 
-use crate::drawn::{Sketch, graph_of, members_of, sketch_of};
+use crate::drawn::{Sketch, graph_of, places_of, sketch_of};
 use krates_cargo::MetadataCommand;
 use krates_cm::{Metadata, Package};
 use krates_document::corrected_document::corrected;
@@ -26,7 +26,7 @@ use krates_drawing::limits::Limits;
 use krates_drawing::store::FromEdge;
 use krates_ids::{BuildIndexCache, CachingIndex, Error, Kid, PackageNames, PkgSpec, laws};
 use krates_queries::from_package::FromPackage;
-use krates_queries::kept::{Findings, Krates};
+use krates_queries::kept::{Findings, Krates, krates_of};
 use krates_resolve::{DepKind, Ids, Scope, Setting, admit};
 use krates_text::target::Target;
 use std::alloc::{AllocError, Global};
@@ -433,10 +433,10 @@ fn build_admitted<N: FromPackage + Drop, E: FromEdge + Drop, F: OnFilter>(
     let Division { kept, others } = division;
     let count = kept.len();
     let graph = graph_of(alloc, limits, outline, kept)?;
-    let found = members_of(alloc, graph.raw_nodes(), &members);
-    let members = handed_over(found, others, filter)?;
+    let found = places_of(alloc, graph.raw_nodes(), count, &members);
+    let places = handed_over(found, others, filter)?;
     let findings = Findings { work, steps };
-    Ok(Krates::new(graph, count, members, workspace_root, findings))
+    Ok(krates_of(graph, count, places, workspace_root, findings))
 }
 
 /// The packages of a document, their ids, those of the workspace's members, and its root: what a build still needs, once the document

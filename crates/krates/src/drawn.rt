@@ -17,7 +17,7 @@ ghost use Rattle.krates_drawing.specs.Node.{crate_ids};
 ghost use Rattle.krates_drawing.specs.Stored.{IsStoredAs};
 ghost use Rattle.krates_drawing.specs.Views.{planned_edge_view, outline_view};
 ghost use Rattle.krates_ids.specs.declared.error.Error.TheVariants.{Memory};
-ghost use Rattle.krates_queries.specs.Kept.{AreNodes};
+ghost use Rattle.krates_queries.specs.Kept.{AreNodes, AreStarts};
 ghost use Rattle.krates_rules.specs.Admission.{IsAdmitted};
 ghost use Rattle.krates_rules.specs.NamedIds.{NamesReadIds};
 ghost use Rattle.krates_rules.specs.Resolution.{RefusesSelection};
@@ -41,7 +41,8 @@ use krates_drawing::store::{FromEdge, store_edges};
 use krates_graph::graph::{Graph, GraphError, NodeId};
 use krates_ids::{Error, Kid};
 use krates_queries::from_package::FromPackage;
-use krates_queries::numbers::number_of;
+use krates_queries::kept::Places;
+use krates_queries::numbers::{number_of, starts_of};
 use krates_questions::context::Context;
 use krates_resolve::{Document, EnabledFeature, Ids, NumberedSelection, Setting, Work, select_in};
 use krates_selection::KeptStep;
@@ -268,12 +269,27 @@ pub(crate) fn graph_of<N: FromPackage + Drop, E: FromEdge + Drop>(
     stored(alloc, limits, crates, features, &planned_edges)
 }
 
-/// The numbers of the crates that have one of these ids, ascending, each once. Ids of other crates are left out.
-pub(crate) fn members_of<N>(
+/// Where the crates among the nodes, as many as stated, stand: which of them have one of these ids, and where the features of each begin.
+pub(crate) fn places_of<N>(
     alloc: Global,
     nodes: &[Node<N>],
+    count: usize,
     ids: &[Kid],
-) -> Result<Vec<NodeId>, AllocError>
+) -> Result<Places, AllocError>
+    requires nodes { AreNodes nodes.now }
+    requires counted { count ≡ length (crate_ids nodes.now) }
+    ensures ascending { IfOk result (λ places. IsStrictlyIncreasing places.members.items) }
+    ensures exactly { IfOk result
+        (λ places. AreNumbersOf (crate_ids nodes.now) ids.now places.members.items) }
+    ensures starts { IfOk result (λ places. AreStarts nodes.now places.starts.items) }
+{
+    let members = members_of(alloc, nodes, ids)?;
+    let starts = starts_of(alloc, nodes, count)?;
+    Ok(Places { members, starts })
+}
+
+/// The numbers of the crates that have one of these ids, ascending, each once. Ids of other crates are left out.
+fn members_of<N>(alloc: Global, nodes: &[Node<N>], ids: &[Kid]) -> Result<Vec<NodeId>, AllocError>
     requires { AreNodes nodes.now }
     ensures ascending { IfOk result (λ numbers. IsStrictlyIncreasing numbers.items) }
     ensures exactly { IfOk result (λ numbers. AreNumbersOf (crate_ids nodes.now) ids.now numbers.items) }

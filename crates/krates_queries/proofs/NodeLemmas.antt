@@ -403,49 +403,27 @@ features_later (Krate i k f m ∷ nodes) x number name none h = absurd cc
 features_later (Feature k t ∷ nodes) x number name none h =
     (weakly feature_total x (k, text_view t) (number, name) Less h.0 (λ e. cc e), features_later nodes x number name none h.1)
 
-lowest : {N : Type 0} (nodes : List (Node N)) (f : Node N → ℕ) → AllByRecursion (λ (node : Node N). 0 ≤ f node) nodes
+pub lowest : {N : Type 0} (nodes : List (Node N)) (f : Node N → ℕ) → AllByRecursion (λ (node : Node N). 0 ≤ f node) nodes
 lowest [] f = tt
 lowest (node ∷ nodes) f = (omega arith, lowest nodes f)
 
-features_rise : {N : Type 0} (nodes : List (Node N)) (number : ℕ) (name : Text) → CratesFirst nodes → IsStrictlySortedBy feature_order (feature_names nodes)
+pub features_rise : {N : Type 0} (nodes : List (Node N)) (number : ℕ) (name : Text) → CratesFirst nodes → IsStrictlySortedBy feature_order (feature_names nodes)
     → Rises (λ (node : Node N). ordering_index (feature_cmp node number name)) nodes
 unfolding IsStrictlySortedBy
 features_rise [] number name first s = tt
 features_rise (Krate i k f m ∷ nodes) number name first s = (lowest nodes (λ node. ordering_index (feature_cmp node number name)), features_rise nodes number name first s)
 features_rise (Feature k t ∷ nodes) number name first s = (features_later nodes (k, text_view t) number name first s.0, features_rise nodes number name (none_first nodes first) s.1)
 
-feature_equal : {N : Type 0} (node : Node N) (number : ℕ) (name : Text) → feature_cmp node number name ≡ Equal → IsFeature number name node
+pub feature_equal : {N : Type 0} (node : Node N) (number : ℕ) (name : Text) → feature_cmp node number name ≡ Equal → IsFeature number name node
 feature_equal (Krate i k f m) number name e = cc e
 feature_equal (Feature k t) number name e =
     let parts = then_equal (nat_cmp k number) (slice_cmp nat_cmp (text_view t) name) e in
     (exact_unsigned k number parts.0, (text_tells (text_view t) name).0 parts.1)
 
-equal_feature : {N : Type 0} (node : Node N) (number : ℕ) (name : Text) → IsFeature number name node → feature_cmp node number name ≡ Equal
+pub equal_feature : {N : Type 0} (node : Node N) (number : ℕ) (name : Text) → IsFeature number name node → feature_cmp node number name ≡ Equal
 equal_feature (Krate i k f m) number name is = absurd is
 equal_feature (Feature k t) number name is =
     ap (λ (j : ℕ). feature_order (j, text_view t) (number, name)) is.0 ∙ ap (λ (u : Text). feature_order (number, u) (number, name)) is.1 ∙ equal_self feature_total (number, name)
-
--- the place that the search found
-pub feature_found : {N : Type 0} (nodes : List (Node N)) (number : ℕ) (name : Text) (place : ℕ) → AreNodes nodes → place < length nodes
-    → HoldsAt (λ (node : Node N). feature_cmp node number name ≡ Equal) nodes place → (n : ℕ) → (place ≡ n) ↔ IsFeatureAt nodes n number name
-feature_found {N} nodes number name place a lt at n =
-    let there : IsFeatureAt nodes place number name = elim (slice_get_cases nodes place).1 [
-      | inl (d, low, got, is) ↦ record { node = get_or nodes place d; at = slice_get-get_or nodes place d lt; is = feature_equal (get_or nodes place d) number name (at d) }
-      | inr past ↦ absurd (omega (arith, past.0, lt))
-    ] in (
-      λ e. subst (λ m. IsFeatureAt nodes m number name) e there,
-      λ h. one_feature nodes place n number name a.features.ascending there h,
-    )
-
--- the search found none
-pub no_feature : {N : Type 0} (nodes : List (Node N)) (number : ℕ) (name : Text) (place : ℕ) → AreNodes nodes
-    → (IsNonDecreasingBy (λ (node : Node N). ordering_index (feature_cmp node number name)) nodes → IsPartitionPoint (λ (node : Node N). feature_cmp node number name ≡ Less) (λ (node : Node N). feature_cmp node number name ≡ Greater) nodes place)
-    → (n : ℕ) → IsFeatureAt nodes n number name → ⊥
-no_feature {N} nodes number name place a parts n h =
-    let lt : n < length nodes = slice_get_within nodes n h.node h.at in
-    let rises = rising (λ (node : Node N). ordering_index (feature_cmp node number name)) nodes (features_rise nodes number name a.first a.features.ascending) in
-    let node : get_or nodes n h.node ≡ h.node = get_or_from_slice_get nodes n h.node h.node h.at in
-    none_equal (λ (x : Node N). feature_cmp x number name) nodes place (parts rises) n h.node lt (ap (λ (x : Node N). feature_cmp x number name) node ∙ equal_feature h.node number name h.is)
 
 -- ---- the node of a crate or of a feature
 

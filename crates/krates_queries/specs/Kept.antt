@@ -1,5 +1,5 @@
 -- The crates that a build keeps, as clauses see them.
-use Rattle.std.specs.Prelude.{◌≡◌, ◌↔◌, ℕ, ◌<◌, ◌^◌, ◌++◌, [], ◌∷◌, List, All, Contains, Some, String, length, map, slice_get}
+use Rattle.std.specs.Prelude.{◌≡◌, ◌↔◌, ℕ, ⊤, ◌+◌, ◌<◌, ◌≤◌, ◌^◌, ◌++◌, [], ◌∷◌, List, All, Contains, Some, String, length, map, slice_get}
 use Rattle.std.specs.BTreeSet.{BTreeSet}
 use Rattle.std.specs.Cmp.Lexicographic.{slice_cmp}
 use Rattle.std.specs.List.Sorted.{IsStrictlyIncreasing, IsStrictlySortedBy}
@@ -69,6 +69,23 @@ pub record AreNodes {N : Type 0} (nodes : List (Node N)) : Type 0 where
 pub record AreCrateNumbers {N : Type 0} (nodes : List (Node N)) (numbers : List ℕ) : Type 0 where
   pub ascending : IsStrictlyIncreasing numbers
   pub crates : All (λ n. n < length (crate_ids nodes)) numbers
+
+-- ---- where the features of each crate stand
+
+-- the node is a crate, or a feature of a crate with a lower number
+abbrev pub StandsBefore : {N : Type 0} → ℕ → Node N → Type 0
+StandsBefore number (Krate id krate features mapping) = ⊤
+StandsBefore number (Feature krate_index name) = krate_index < number
+
+-- exactly the first n nodes are crates and features of crates with a lower number
+pub record IsStart {N : Type 0} (nodes : List (Node N)) (number n : ℕ) : Type 0 where
+  pub within : n ≤ length nodes
+  pub exactly : (k : ℕ) (node : Node N) → slice_get nodes k ≡ Some node → (k < n) ↔ StandsBefore number node
+
+-- for each crate, where its features begin, and for the number behind the last crate, where they all end
+pub record AreStarts {N : Type 0} (nodes : List (Node N)) (starts : List ℕ) : Type 0 where
+  pub counted : length starts ≡ length (crate_ids nodes) + 1
+  pub each : (p n : ℕ) → slice_get starts p ≡ Some n → IsStart nodes p n
 
 -- ---- enabled features
 

@@ -4,7 +4,7 @@ ghost use Rattle.std.specs.Prelude.{◌≡◌, ◌<◌, ◌^◌, length, string_
 ghost use Rattle.std.specs.Iterator.{YieldsFirstRef, item_count};
 ghost use Rattle.krates_queries.specs.Direct.{AreConnected};
 ghost use Rattle.krates_queries.specs.Why.{AreExplained};
-ghost use Rattle.krates_queries.specs.Kept.{AreCrateNumbers, AreFeatures, AreNodes, AreOrdered, ids_of, values_of};
+ghost use Rattle.krates_queries.specs.Kept.{AreCrateNumbers, AreFeatures, AreNodes, AreOrdered, AreStarts, ids_of, values_of};
 ghost use Rattle.krates_drawing.specs.Node.{CratesFirst, crate_ids};
 
 use krates_cm::Package;
@@ -24,6 +24,15 @@ pub struct Findings {
     pub steps: Vec<KeptStep>,
 }
 
+/// Where crates and their features stand among the nodes of a graph.
+#[derive(Drop)]
+pub struct Places {
+    /// The numbers of the kept members of the workspace, ascending, each once.
+    pub members: Vec<NodeId>,
+    /// The number of the node with which the features of each crate begin; last that of all nodes, where they end.
+    pub starts: Vec<usize>,
+}
+
 /// The graph of the crates that a build keeps, and the path of the workspace.
 ///
 /// The nodes of the crates come first, numbered from 0 in the order of their ids; then one for each enabled feature, in the
@@ -33,6 +42,7 @@ pub struct Krates<N = Package, E = Edge> {
     graph: Graph<Node<N>, E>,
     count: usize,
     members: Vec<NodeId>,
+    starts: Vec<usize>,
     workspace_root: String,
     work: Work,
     steps: Vec<KeptStep>,
@@ -42,7 +52,7 @@ impl<N, E> Model for Krates<N, E> {
     ghost use Rattle.std.specs.Prelude.{◌≡◌, length, string_bytes};
     ghost use Rattle.krates_queries.specs.Direct.{AreConnected};
     ghost use Rattle.krates_queries.specs.Why.{AreExplained};
-    ghost use Rattle.krates_queries.specs.Kept.{AreCrateNumbers, AreNodes, KeptCrates};
+    ghost use Rattle.krates_queries.specs.Kept.{AreCrateNumbers, AreNodes, AreStarts, KeptCrates};
     ghost use Rattle.krates_drawing.specs.Node.{crate_ids};
 
     ghost Value = { KeptCrates N E };
@@ -58,44 +68,46 @@ impl<N, E> Model for Krates<N, E> {
     ghost invariant = { λ k. AreNodes k.graph.nodes
         × (k.count ≡ length (crate_ids k.graph.nodes))
         × AreCrateNumbers k.graph.nodes k.members.items
+        × AreStarts k.graph.nodes k.starts.items
         × AreConnected k.graph.nodes k.graph.edges
         × AreExplained k.graph.nodes k.steps.items };
 }
 
-impl<N, E> Krates<N, E> {
-    /// The kept crates of this graph, as many as stated, with these members, for a workspace at this path, and how they were found.
-    ///
-    /// Time: O(1).
-    pub fn new(
-        graph: Graph<Node<N>, E>,
-        count: usize,
-        members: Vec<NodeId>,
-        workspace_root: String,
-        findings: Findings,
-    ) -> Krates<N, E>
-        requires nodes { AreNodes graph.nodes }
-        requires counted { count ≡ length (crate_ids graph.nodes) }
-        requires members { AreCrateNumbers graph.nodes members.items }
-        requires connected { AreConnected graph.nodes graph.edges }
-        requires explained { AreExplained graph.nodes findings.steps.items }
-        ensures { result ≡ record {
-          graph = graph;
-          members = members.items;
-          workspace_root = string_bytes workspace_root;
-          work = findings.work;
-          steps = findings.steps.items;
-        } }
-    {
-        Krates {
-            graph,
-            count,
-            members,
-            workspace_root,
-            work: findings.work,
-            steps: findings.steps,
-        }
+/// The kept crates of this graph, as many as stated, which stand at these places, for a workspace at this path, and how they were
+/// found. Only a build makes them, so it isn't a method, which whoever has the type could call. Time: O(1).
+pub fn krates_of<N, E>(
+    graph: Graph<Node<N>, E>,
+    count: usize,
+    places: Places,
+    workspace_root: String,
+    findings: Findings,
+) -> Krates<N, E>
+    requires nodes { AreNodes graph.nodes }
+    requires counted { count ≡ length (crate_ids graph.nodes) }
+    requires members { AreCrateNumbers graph.nodes places.members.items }
+    requires starts { AreStarts graph.nodes places.starts.items }
+    requires connected { AreConnected graph.nodes graph.edges }
+    requires explained { AreExplained graph.nodes findings.steps.items }
+    ensures { result ≡ record {
+      graph = graph;
+      members = places.members.items;
+      workspace_root = string_bytes workspace_root;
+      work = findings.work;
+      steps = findings.steps.items;
+    } }
+{
+    Krates {
+        graph,
+        count,
+        members: places.members,
+        starts: places.starts,
+        workspace_root,
+        work: findings.work,
+        steps: findings.steps,
     }
+}
 
+impl<N, E> Krates<N, E> {
     /// How many crates are kept: at most 4,294,967,295. Time O(1).
     ///
     /// ```text
@@ -140,6 +152,13 @@ impl<N, E> Krates<N, E> {
         ensures crates { AreCrateNumbers self.now.graph.nodes result.now }
     {
         self.members.as_slice()
+    }
+
+    /// For the number of each crate, and for the one behind the last, the number of the node where its features begin.
+    pub(crate) fn starts(&self) -> &[usize]
+        ensures starts { AreStarts self.now.graph.nodes result.now }
+    {
+        self.starts.as_slice()
     }
 
     /// The steps by which all that is kept is kept.

@@ -1,10 +1,10 @@
 //! Crates and enabled features among the nodes of a graph, found by their ids and by their numbers.
 
-ghost use Rattle.std.specs.Prelude.{◌≡◌, ◌↔◌, ◌<◌, ◌∷◌, ◌++◌, [], ℕ, ⊤, IfOk, IsSome, MatchOption, OnOk, Some, length, map, option_map, slice_get};
+ghost use Rattle.std.specs.Prelude.{◌≡◌, ◌↔◌, ◌<◌, ◌∷◌, ◌++◌, [], ℕ, ⊤, IfOk, IsSome, IsTrue, MatchOption, OnOk, Some, length, map, option_map, slice_get};
 ghost use Rattle.krates_rules.specs.Resolved.{id_of, StandsAt};
 ghost use Rattle.krates_drawing.specs.Node.{IsFeatureAt, crate_ids, crate_features, crate_values, names_in};
 ghost use Rattle.krates_queries.specs.Direct.{home};
-ghost use Rattle.krates_queries.specs.Kept.{AreNodes, HasEnabled, HasFeatures, IsNodeOf, IsNotKept, features_of, ids_of, values_of};
+ghost use Rattle.krates_queries.specs.Kept.{AreNodes, AreStarts, HasEnabled, HasFeatures, IsNodeOf, IsNotKept, IsStart, StandsBefore, features_of, ids_of, values_of};
 ghost use Rattle.krates_queries.specs.Numbers.{IsNumberFor, IsNumberIn, feature_cmp, id_in, kid_at, node_cmp};
 
 use crate::kept::Krates;
@@ -70,7 +70,7 @@ impl<N, E> Krates<N, E> {
 
     /// The node of a crate, or that of an enabled feature of it, with its number. Without a feature it is `Some`
     /// exactly for a kept crate; with one exactly where `get_enabled_features` of the crate has that name. Time
-    /// O(log n) for n nodes.
+    /// O(log n + log f) for n nodes, of which f are those of features of the crate: no other feature's is looked at.
     ///
     /// ```text
     /// let has_std = krates.get_node(&kid, Some("std")).is_some();
@@ -83,7 +83,7 @@ impl<N, E> Krates<N, E> {
             IsSome result ↔ HasEnabled self.now (id_of kid.now) name.now) }
     {
         let nodes = self.nodes();
-        match number_in(nodes, kid, feature) {
+        match number_in(nodes, self.starts(), kid, feature) {
             Some(number) => Some((NodeId::new(number as u32), standing_at(nodes, number))),
             None => None,
         }
@@ -258,13 +258,19 @@ pub(crate) fn standing_at<N>(nodes: &[Node<N>], number: usize) -> &Node<N>
 }
 
 /// The number of the node of a crate, or of that of an enabled feature of it.
-fn number_in<N>(nodes: &[Node<N>], kid: &Kid, feature: Option<&str>) -> Option<usize>
-    requires { AreNodes nodes.now }
+fn number_in<N>(
+    nodes: &[Node<N>],
+    starts: &[usize],
+    kid: &Kid,
+    feature: Option<&str>,
+) -> Option<usize>
+    requires nodes { AreNodes nodes.now }
+    requires starts { AreStarts nodes.now starts.now }
     ensures { (n : ℕ) → (result ≡ Some n)
         ↔ IsNumberFor nodes.now (id_of kid.now) (option_map (λ name. name.now) feature.entry) n }
 {
     match number_of(nodes, kid) {
-        Some(krate) => crate_or_feature_number(nodes, krate, feature),
+        Some(krate) => crate_or_feature_number(nodes, starts, krate, feature),
         None => None,
     }
 }
@@ -272,27 +278,84 @@ fn number_in<N>(nodes: &[Node<N>], kid: &Kid, feature: Option<&str>) -> Option<u
 /// The number of the node of the crate with a number, or of that of an enabled feature of it.
 fn crate_or_feature_number<N>(
     nodes: &[Node<N>],
+    starts: &[usize],
     krate: usize,
     feature: Option<&str>,
 ) -> Option<usize>
-    requires { AreNodes nodes.now }
+    requires nodes { AreNodes nodes.now }
+    requires starts { AreStarts nodes.now starts.now }
+    requires stands { krate < length (crate_ids nodes.now) }
     ensures { (n : ℕ) → (result ≡ Some n)
         ↔ IsNumberIn nodes.now krate (option_map (λ name. name.now) feature.entry) n }
 {
     match feature {
-        Some(name) => kept_feature_number(nodes, krate, name),
+        Some(name) => kept_feature_number(nodes, starts, krate, name),
         None => Some(krate),
     }
 }
 
-/// The number of the enabled feature of this name of a crate.
-fn kept_feature_number<N>(nodes: &[Node<N>], krate: usize, name: &str) -> Option<usize>
-    requires { AreNodes nodes.now }
+/// The number of the enabled feature of this name of a crate, which is looked for among the crate's own features alone.
+fn kept_feature_number<N>(
+    nodes: &[Node<N>],
+    starts: &[usize],
+    krate: usize,
+    name: &str,
+) -> Option<usize>
+    requires nodes { AreNodes nodes.now }
+    requires starts { AreStarts nodes.now starts.now }
+    requires stands { krate < length (crate_ids nodes.now) }
     ensures { (n : ℕ) → (result ≡ Some n) ↔ IsFeatureAt nodes.now n krate name.now }
 {
-    match nodes.binary_search_by(|node| compare_feature(node, krate, name)) {
-        Ok(place) => Some(place),
+    let start = start_in(starts, krate);
+    let end = start_in(starts, krate + 1);
+    let own = &nodes[start..end];
+    match own.binary_search_by(|node| compare_feature(node, krate, name)) {
+        Ok(place) => Some(start + place),
         Err(_) => None,
+    }
+}
+
+/// The number that stands at a place.
+fn start_in(starts: &[usize], place: usize) -> usize
+    requires { place < length starts.now }
+    ensures { slice_get starts.now place ≡ Some result }
+{
+    starts[place]
+}
+
+/// For the number of each of as many crates as stated, and for the one behind the last, the number of the node where its features
+/// begin. Returns `AllocError` if memory runs out. Time: O(c log n) for c crates and n nodes.
+pub fn starts_of<N>(
+    alloc: Global,
+    nodes: &[Node<N>],
+    count: usize,
+) -> Result<Vec<usize>, AllocError>
+    requires nodes { AreNodes nodes.now }
+    requires counted { count ≡ length (crate_ids nodes.now) }
+    ensures { IfOk result (λ starts. AreStarts nodes.now starts.items) }
+{
+    let mut starts = Vec::with_capacity(alloc, count + 1)?;
+    for krate in 0..count + 1 {
+        starts.push(start_of(nodes, krate))?;
+    }
+    Ok(starts)
+}
+
+/// The number of the node where the features of the crate with a number begin.
+fn start_of<N>(nodes: &[Node<N>], krate: usize) -> usize
+    requires { AreNodes nodes.now }
+    ensures { IsStart nodes.now krate result }
+{
+    nodes.partition_point(|node| stands_before(node, krate))
+}
+
+/// Whether a node is a crate, or a feature of a crate with a lower number.
+fn stands_before<N>(node: &Node<N>, krate: usize) -> bool
+    ensures { IsTrue result ↔ StandsBefore krate node.now }
+{
+    match node {
+        Node::Krate { .. } => true,
+        Node::Feature { krate_index, .. } => krate_index.index() < krate,
     }
 }
 

@@ -1,4 +1,4 @@
-use Rattle.std.proofs.Common.{◌≡◌, ℕ, ap, ◌∙◌, subst, List, Result, Ok, IfOk, sym}
+use Rattle.std.proofs.Common.{◌≡◌, ℕ, ap, ◌∙◌, subst, List, Result, Ok, IfOk, length, sym}
 use Rattle.std.proofs.lemmas.Result.{err_from_is_err_and}
 use Rattle.std.specs.Global.{Vec}
 use Rattle.std.specs.Prelude.{String}
@@ -14,7 +14,8 @@ use Rattle.krates_drawing.specs.Views.{outline_view}
 use Rattle.krates_drawing.specs.declared.outline.CrateRow.{CrateRow}
 use Rattle.krates_ids.specs.Identity.{Identity, id_cmp}
 use Rattle.krates_drawing.specs.Division.{IsDivision, outline_ids, krate_packages}
-use Rattle.krates_queries.specs.Kept.{AreNodes}
+use Rattle.krates_queries.specs.Kept.{AreNodes, AreStarts}
+use Rattle.krates_queries.specs.declared.kept.Places.{Places}
 use Rattle.krates_drawing.specs.declared.division.Division.{Division}
 use Rattle.krates.specs.Members.{AreNumbersOf}
 use Rattle.krates_drawing.specs.Node.{crate_ids}
@@ -79,8 +80,8 @@ graph_of-requires-clause-ids g c =
 pub graph_of-requires-clause-stand : goal.graph_of-requires-clause-stand
 graph_of-requires-clause-stand g c = outline_stands c.ends_stand.ensures (metadata_view c.args.metadata) c.args.setting.now (outline_view c.in_ok-sketch.sketch.outline) c.in_ok-sketch.ensures.sketched.outline
 
-pub members_of-found-requires : goal.members_of-found-requires
-members_of-found-requires g c =
+pub places_of-requires-clause-nodes : goal.places_of-requires-clause-nodes
+places_of-requires-clause-nodes g c =
     let o : Compares = record { total = c.comparison.ensures.total; tells = c.comparison.ensures.order } in
     let division = c.in_ok-division.division in
     let graph = c.in_ok-graph.ensures.graph in
@@ -92,8 +93,8 @@ members_of-found-requires g c =
     b graph n in
     subst (λ ns. AreNodes ns) (sym c.raw_nodes.ensures.nodes) nodes
 
-pub new-requires-clause-nodes : goal.new-requires-clause-nodes
-new-requires-clause-nodes g c =
+pub krates_of-requires-clause-nodes : goal.krates_of-requires-clause-nodes
+krates_of-requires-clause-nodes g c =
     let o : Compares = record { total = c.comparison.ensures.total; tells = c.comparison.ensures.order } in
     let division = c.in_ok-division.division in
     let graph = c.in_ok-graph.ensures.graph in
@@ -104,23 +105,29 @@ new-requires-clause-nodes g c =
     numbered_graph o g.N.FromPackage.made_from g.E.FromEdge.made_from_edge c.args.metadata c.args.setting.now c.in_ok-sketch.sketch.outline division c.in_ok-graph.graph outline_is
     b graph n
 
-pub new-requires-clause-members : goal.new-requires-clause-members
-new-requires-clause-members g c =
-    let those = c.in_ok-members.members in
-    let numbers = those.items in
-    let ascending = handed (λ (v : Vec ℕ). IsStrictlyIncreasing v.items) c.members_of-found.result those c.in_ok-members.ensures.same c.members_of-found.ensures.ascending in
-    let exactly = handed (λ (v : Vec ℕ). AreNumbersOf (crate_ids c.raw_nodes.result.now) c.deref-2.result.now v.items) c.members_of-found.result those c.in_ok-members.ensures.same c.members_of-found.ensures.exactly in
+pub krates_of-requires-clause-members : goal.krates_of-requires-clause-members
+krates_of-requires-clause-members g c =
+    let those = c.in_ok-places.places in
+    let numbers = those.members.items in
+    let ascending = handed (λ (v : Places). IsStrictlyIncreasing v.members.items) c.places_of-found.result those c.in_ok-places.ensures.same c.places_of-found.ensures.ascending in
+    let exactly = handed (λ (v : Places). AreNumbersOf (crate_ids c.raw_nodes.result.now) c.deref-2.result.now v.members.items) c.places_of-found.result those c.in_ok-places.ensures.same c.places_of-found.ensures.exactly in
     let there = subst (λ ns. AreNumbersOf (crate_ids ns) c.deref-2.result.now numbers) c.raw_nodes.ensures.nodes exactly in
     crate_numbers c.in_ok-graph.graph.nodes c.deref-2.result.now numbers ascending there
 
-pub new-requires-clause-connected : goal.new-requires-clause-connected
-new-requires-clause-connected g c =
+pub krates_of-requires-clause-starts : goal.krates_of-requires-clause-starts
+krates_of-requires-clause-starts g c =
+    let those = c.in_ok-places.places in
+    let starts = handed (λ (v : Places). AreStarts c.raw_nodes.result.now v.starts.items) c.places_of-found.result those c.in_ok-places.ensures.same c.places_of-found.ensures.starts in
+    subst (λ ns. AreStarts ns those.starts.items) c.raw_nodes.ensures.nodes starts
+
+pub krates_of-requires-clause-connected : goal.krates_of-requires-clause-connected
+krates_of-requires-clause-connected g c =
     connects g.E.FromEdge.made_from_edge (metadata_view c.args.metadata) c.args.setting.now (outline_view c.in_ok-sketch.sketch.outline) c.in_ok-graph.graph c.connected.ensures
     c.in_ok-sketch.ensures.sketched.outline c.in_ok-graph.ensures.graph.drawing
     (numbered g.E.FromEdge.made_from_edge (outline_view c.in_ok-sketch.sketch.outline) c.in_ok-graph.graph c.in_ok-graph.ensures.graph.drawing c.in_ok-graph.ensures.within c.in_ok-graph.ensures.limits).nodes
 
-pub new-requires-clause-explained : goal.new-requires-clause-explained
-new-requires-clause-explained g c =
+pub krates_of-requires-clause-explained : goal.krates_of-requires-clause-explained
+krates_of-requires-clause-explained g c =
     let o : Compares = record { total = c.comparison.ensures.total; tells = c.comparison.ensures.order } in
     let division = c.in_ok-division.division in
     let graph = c.in_ok-graph.ensures.graph in
@@ -138,10 +145,10 @@ returns-clause-built g c =
     let division = c.in_ok-division.division in
     let divided = divided_of c.args.metadata c.args.ids c.rest_of-rest.result c.in_ok-sketch.sketch.outline.krates.items c.deref.result.now division c.rest_of-rest.ensures c.deref.ensures.value c.in_ok-division.ensures in
     let b = builds_outline c.one_reading.ensures.once c.args.metadata c.args.setting.now c.in_ok-sketch.sketch.outline division c.in_ok-sketch.ensures.sketched.outline divided in
-    let those = c.in_ok-members.members in
-    let numbers = those.items in
-    let ascending = handed (λ (v : Vec ℕ). IsStrictlyIncreasing v.items) c.members_of-found.result those c.in_ok-members.ensures.same c.members_of-found.ensures.ascending in
-    let exactly = handed (λ (v : Vec ℕ). AreNumbersOf (crate_ids c.raw_nodes.result.now) c.deref-2.result.now v.items) c.members_of-found.result those c.in_ok-members.ensures.same c.members_of-found.ensures.exactly in
+    let those = c.in_ok-places.places in
+    let numbers = those.members.items in
+    let ascending = handed (λ (v : Places). IsStrictlyIncreasing v.members.items) c.places_of-found.result those c.in_ok-places.ensures.same c.places_of-found.ensures.ascending in
+    let exactly = handed (λ (v : Places). AreNumbersOf (crate_ids c.raw_nodes.result.now) c.deref-2.result.now v.members.items) c.places_of-found.result those c.in_ok-places.ensures.same c.places_of-found.ensures.exactly in
     let there = subst (λ ns. AreNumbersOf (crate_ids ns) c.deref-2.result.now numbers) c.raw_nodes.ensures.nodes exactly in
     let listed = subst (λ (is : List Identity). AreNumbersOf (crate_ids c.in_ok-graph.graph.nodes) is numbers) (c.deref-2.ensures.value ∙ ap (λ (p : Rest). p.2.items) c.rest_of-rest.ensures) there in
     let members = kept_members c.one_reading.ensures.once (metadata_view c.args.metadata) (ids_view c.args.ids) (crate_ids c.in_ok-graph.graph.nodes) numbers c.requires.admitted ascending listed in
@@ -150,12 +157,18 @@ returns-clause-built g c =
     let explained = (kept_steps o g.N.FromPackage.made_from g.E.FromEdge.made_from_edge c.args.metadata c.args.setting.now c.in_ok-sketch.sketch.outline division c.in_ok-graph.graph steps c.in_ok-sketch.ensures.sketched.outline b c.in_ok-graph.ensures.graph
     c.in_ok-sketch.ensures.sketched.steps).explained in
     let agree = agrees g.E.FromEdge.made_from_edge c.connected.ensures c.dependencies_agree.ensures (metadata_view c.args.metadata) c.args.setting.now c.in_ok-graph.graph in
-    let run = handed (λ _. FoldsTo g.F.OnFilter.filters c.args.filter.now (krate_packages division.others.items) c.handed_over.new.filter) c.members_of-found.result those c.in_ok-members.ensures.same c.in_ok-members.ensures.run in
-    rw (c.new.ensures, c.rest_of-rest.ensures) (is_built g.F.OnFilter.filters g.N.FromPackage.made_from g.E.FromEdge.made_from_edge c.args.metadata c.args.setting.now c.in_ok-sketch.sketch.outline division c.in_ok-graph.graph numbers c.args.filter.now c.handed_over.new.filter c.in_ok-sketch.sketch.work
+    let run = handed (λ _. FoldsTo g.F.OnFilter.filters c.args.filter.now (krate_packages division.others.items) c.handed_over.new.filter) c.places_of-found.result those c.in_ok-places.ensures.same c.in_ok-places.ensures.run in
+    rw (c.krates_of.ensures, c.rest_of-rest.ensures) (is_built g.F.OnFilter.filters g.N.FromPackage.made_from g.E.FromEdge.made_from_edge c.args.metadata c.args.setting.now c.in_ok-sketch.sketch.outline division c.in_ok-graph.graph numbers c.args.filter.now c.handed_over.new.filter c.in_ok-sketch.sketch.work
     c.in_ok-sketch.ensures.sketched.outline b c.in_ok-graph.ensures.graph run c.in_ok-sketch.ensures.sketched.work
     (resolvable (metadata_view c.args.metadata) (ids_view c.args.ids) c.requires.admitted) (numbered g.E.FromEdge.made_from_edge (outline_view c.in_ok-sketch.sketch.outline) c.in_ok-graph.graph c.in_ok-graph.ensures.graph.drawing c.in_ok-graph.ensures.within c.in_ok-graph.ensures.limits) members agree steps explained)
 
-pub new-requires-clause-counted : goal.new-requires-clause-counted
-new-requires-clause-counted g c =
+pub krates_of-requires-clause-counted : goal.krates_of-requires-clause-counted
+krates_of-requires-clause-counted g c =
     let kept = c.in_ok-division.division.kept in
     c.len-count.ensures ∙ kept.ok.0 ∙ counted kept.items c.in_ok-graph.graph.nodes c.in_ok-graph.ensures.graph.ids
+
+pub places_of-requires-clause-counted : goal.places_of-requires-clause-counted
+places_of-requires-clause-counted g c =
+    let kept = c.in_ok-division.division.kept in
+    c.len-count.ensures ∙ kept.ok.0 ∙ counted kept.items c.in_ok-graph.graph.nodes c.in_ok-graph.ensures.graph.ids
+    ∙ ap (λ ns. length (crate_ids ns)) (sym c.raw_nodes.ensures.nodes)

@@ -3,6 +3,9 @@ use Rattle.krates_rules.specs.Resolved.{id_of}
 use Rattle.krates_queries.proofs.NodeLemmas.{enabled_told, number_among}
 use Rattle.krates_queries.proofs.kept.Krates.get_node.Goals as goal
 
+pub number_in-requires-clause-starts : goal.number_in-requires-clause-starts
+number_in-requires-clause-starts g c = rw c.nodes-nodes.ensures.nodes c.starts.ensures.starts
+
 pub overflow_cast-number : goal.overflow_cast-number
 overflow_cast-number g c =
     let within = number_among c.nodes-nodes.result.now (id_of c.args.kid.now) (option_map (λ name. name.now) c.args.feature) c.in-Some.number ((c.in-Some.ensures c.in-Some.number).0 refl) in
