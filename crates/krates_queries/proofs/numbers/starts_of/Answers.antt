@@ -5,7 +5,7 @@ use Rattle.krates_queries.proofs.StretchLemmas.{no_start, one_start_more}
 use Rattle.krates_queries.proofs.numbers.starts_of.Goals as goal
 
 pub loop-krate-init : goal.loop-krate-init
-loop-krate-init g c = (ap (λ (ns : List ℕ). length ns) c.in_ok-with_capacity.ensures.items, no_start c.args.nodes.now c.in_ok-with_capacity.starts.items c.in_ok-with_capacity.ensures.items)
+loop-krate-init g c = (ap (λ (ns : List ℕ). length ns) c.in_ok-starts.ensures.items, no_start c.args.nodes.now c.in_ok-starts.starts.items c.in_ok-starts.ensures.items)
 
 pub loop-krate-preserved : goal.loop-krate-preserved
 loop-krate-preserved g c =

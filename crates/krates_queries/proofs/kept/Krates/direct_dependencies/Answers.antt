@@ -1,4 +1,4 @@
-use Rattle.std.proofs.Common.{◌≡◌, ◌↔◌, ◌∙◌, List, ℕ, Contains, slice_get, sym, ap, subst}
+use Rattle.std.proofs.Common.{◌≡◌, ◌↔◌, ◌∙◌, List, ℕ, Contains, slice_get, refl, sym, ap, subst}
 use Rattle.std.proofs.lemmas.Result.{IfOk-weaker}
 use Rattle.krates_queries.specs.Direct.{AreInOrder, Joined, joined_all, AreDependencies, named_by, targets_from, first_edge, value_at}
 use Rattle.krates_drawing.specs.declared.node.Node.{Node}
@@ -7,7 +7,7 @@ use Rattle.krates_queries.proofs.DirectLemmas.{are_dependencies}
 use Rattle.krates_queries.proofs.kept.Krates.direct_dependencies.Goals as goal
 
 pub joined_krates-requires : goal.joined_krates-requires
-joined_krates-requires g c = subst AreInOrder (sym c.deref.ensures.value) c.ordered-targets.ensures.ordered
+joined_krates-requires g c = λ _. ((refl, tt), subst AreInOrder (sym c.deref.ensures.value) c.ordered-targets.ensures.ordered)
 
 pub returns : goal.returns
 returns g c =

@@ -1,4 +1,4 @@
-use Rattle.std.proofs.Common.{◌≡◌, ◌↔◌, ◌∙◌, List, ℕ, Contains, map, sym, ap, subst}
+use Rattle.std.proofs.Common.{◌≡◌, refl, ◌↔◌, ◌∙◌, List, ℕ, Contains, map, sym, ap, subst}
 use Rattle.std.proofs.lemmas.Result.{IfOk-weaker}
 use Rattle.krates_queries.specs.Direct.{AreInOrder, Joined, joined_all, AreDependents, sources_into, first_edge, value_at}
 use Rattle.krates_drawing.specs.declared.node.Node.{Node}
@@ -7,7 +7,7 @@ use Rattle.krates_queries.proofs.DirectLemmas.{are_dependents}
 use Rattle.krates_queries.proofs.kept.Krates.direct_dependents.Goals as goal
 
 pub joined_krates-requires : goal.joined_krates-requires
-joined_krates-requires g c = subst AreInOrder (sym c.deref-2.ensures.value) c.ordered-sources.ensures.ordered
+joined_krates-requires g c = λ _. ((refl, tt), subst AreInOrder (sym c.deref-2.ensures.value) c.ordered-sources.ensures.ordered)
 
 pub returns : goal.returns
 returns g c =
