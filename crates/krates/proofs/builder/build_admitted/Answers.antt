@@ -80,8 +80,8 @@ graph_of-requires-clause-ids g c =
 pub graph_of-requires-clause-stand : goal.graph_of-requires-clause-stand
 graph_of-requires-clause-stand g c = outline_stands c.ends_stand.ensures (metadata_view c.args.metadata) c.args.setting.now (outline_view c.in_ok-sketch.sketch.outline) c.in_ok-sketch.ensures.sketched.outline
 
-pub places_of-requires-clause-nodes : goal.places_of-requires-clause-nodes
-places_of-requires-clause-nodes g c =
+pub places_of-found-requires-clause-nodes : goal.places_of-found-requires-clause-nodes
+places_of-found-requires-clause-nodes g c =
     let o : Compares = record { total = c.comparison.ensures.total; tells = c.comparison.ensures.order } in
     let division = c.in_ok-division.division in
     let graph = c.in_ok-graph.ensures.graph in
@@ -167,8 +167,8 @@ krates_of-requires-clause-counted g c =
     let kept = c.in_ok-division.division.kept in
     c.len-count.ensures ∙ kept.ok.0 ∙ counted kept.items c.in_ok-graph.graph.nodes c.in_ok-graph.ensures.graph.ids
 
-pub places_of-requires-clause-counted : goal.places_of-requires-clause-counted
-places_of-requires-clause-counted g c =
+pub places_of-found-requires-clause-counted : goal.places_of-found-requires-clause-counted
+places_of-found-requires-clause-counted g c =
     let kept = c.in_ok-division.division.kept in
     c.len-count.ensures ∙ kept.ok.0 ∙ counted kept.items c.in_ok-graph.graph.nodes c.in_ok-graph.ensures.graph.ids
     ∙ ap (λ ns. length (crate_ids ns)) (sym c.raw_nodes.ensures.nodes)
