@@ -122,6 +122,7 @@ const TEXTS: &[Row] = &[
     ),
     // what isn't JSON
     ("{", "not JSON, at line 1 column 1"),
+    ("{\n  \"kind\":}", "not JSON, at line 2 column 10"),
     // keys that are missing, and of another type
     ("[]", "missing key: kind"),
     (r#"{"kind":"closed"}"#, "missing key: setting"),

@@ -19,53 +19,92 @@ const PLAIN: &str = r#"{"default": ["std", "foo"]}, then {"default": ["std", "fo
 const WHOLE: &str =
     r#"{"default": ["std", "foo"], "foo": ["dep:foo"], "std": []}, then {"default": ["std", "foo"], "foo": ["dep:foo"], "std": []}"#;
 
-/// The source of a package of version 1.0.0 as JSON, with the version that the index has, if any; and what the features are then.
+/// The source of the package `p` of version 1.0.0 as JSON; after bars the versions that the index has of it, in order, each with its features as
+/// JSON, or that the index lacks it, or that the answer doesn't name it; and what the features of the package are then.
 const CORRECTED: &[Row] = &[
     (
-        r#""registry+https://github.com/rust-lang/crates.io-index" 1.0.0"#,
+        r#""registry+https://github.com/rust-lang/crates.io-index" | 1.0.0 {"default":["x"],"std":[]}"#,
         WHOLE,
     ),
     (
-        r#""registry+https://github.com/rust-lang/crates.io-index" 1.0.0+b"#,
+        r#""registry+https://github.com/rust-lang/crates.io-index" | 1.0.0+b {"default":["x"],"std":[]}"#,
         PLAIN,
     ),
     (
-        r#""registry+https://github.com/rust-lang/crates.io-index""#,
+        r#""registry+https://github.com/rust-lang/crates.io-index" | lacked"#,
         PLAIN,
     ),
-    ("null 1.0.0", PLAIN),
+    (r#"null | 1.0.0 {"default":["x"],"std":[]}"#, PLAIN),
+    (
+        r#""registry+https://github.com/rust-lang/crates.io-index" | unnamed"#,
+        PLAIN,
+    ),
+    (
+        r#""registry+https://github.com/rust-lang/crates.io-index" | 1.0.0-rc.1 {"default":["x"],"std":[]}"#,
+        PLAIN,
+    ),
+    // packages of other sources stay as they are: of another registry, of crates.io by its other protocol and from a git repository
+    (
+        r#""registry+https://example.org/index" | 1.0.0 {"default":["x"],"std":[]}"#,
+        PLAIN,
+    ),
+    (
+        r#""registry+https://github.com/rust-lang/crates.io-index/" | 1.0.0 {"default":["x"],"std":[]}"#,
+        PLAIN,
+    ),
+    (
+        r#""sparse+https://index.crates.io/" | 1.0.0 {"default":["x"],"std":[]}"#,
+        PLAIN,
+    ),
+    (
+        r#""git+https://github.com/rust-lang/crates.io-index" | 1.0.0 {"default":["x"],"std":[]}"#,
+        PLAIN,
+    ),
+    // the version that is equal, wherever it is among others
+    (
+        r#""registry+https://github.com/rust-lang/crates.io-index" | 0.9.0 {"old":[]} | 1.0.0 {"std":["dep:a","foo"]} | 1.0.1 {"new":[]}"#,
+        r#"{"default": ["std", "foo"], "foo": ["dep:foo"], "std": ["dep:a", "foo"]}, then {"default": ["std", "foo"], "foo": ["dep:foo"], "std": ["dep:a", "foo"]}"#,
+    ),
+    // of several that are equal the first
+    (
+        r#""registry+https://github.com/rust-lang/crates.io-index" | 1.0.0 {"std":["dep:a"],"foo":["dep:b","dep:c"]} | 1.0.0 {"std":["dep:d"],"more":[]}"#,
+        r#"{"default": ["std", "foo"], "foo": ["dep:b", "dep:c"], "std": ["dep:a"]}, then {"default": ["std", "foo"], "foo": ["dep:b", "dep:c"], "std": ["dep:a"]}"#,
+    ),
 ];
 
-/// What an index knows of a crate of this one version.
-fn known(alloc: Global, version: &str) -> Result<IndexKrate, Fail> {
+/// What an index knows of one version of a crate, which a line names before its features as JSON.
+fn known_version(alloc: Global, line: &str) -> Result<IndexKrateVersion, Fail> {
+    let (version, features) = line.split_once(' ').unwrap_or((line, "{}"));
     let version = Version::parse(alloc, version)?;
-    let features = read(alloc, r#"{"default":["x"],"std":[]}"#)?;
-    let indexed = IndexKrateVersion { version, features };
-    Ok(IndexKrate {
-        versions: vec![in alloc; indexed]?,
-    })
+    let features = read(alloc, features)?;
+    Ok(IndexKrateVersion { version, features })
 }
 
-/// A copy of what is known of the version.
-fn known_copy(alloc: Global, version: &str) -> Result<IndexKrate, Fail> {
-    let known = known(alloc, version)?;
-    Ok(known.clone()?)
+/// What an index knows of a crate of these versions, or nothing where it lacks the crate.
+fn known(alloc: Global, line: &str) -> Result<Option<IndexKrate>, Fail> {
+    if line == "lacked" {
+        return Ok(None);
+    }
+    let mut versions = Vec::new(alloc);
+    for version in line.split(" | ") {
+        versions.push(known_version(alloc, version)?)?;
+    }
+    Ok(Some(IndexKrate { versions }))
 }
 
-/// The answer that has the package in this version, as a copy, or lacks it where there is none.
-fn answer_of(alloc: Global, version: Option<&str>) -> Result<IndexAnswer, Fail> {
-    let known = match version {
-        Some(version) => Some(known_copy(alloc, version)?),
-        None => None,
-    };
+/// The answer that has a copy of what is known of the package, or doesn't name it.
+fn answer_of(alloc: Global, line: &str) -> Result<IndexAnswer, Fail> {
     let mut krates = BTreeMap::new(alloc);
-    drop(krates.insert(String::from_str(alloc, "cargo")?, known)?);
+    if line != "unnamed" {
+        let known = known(alloc, line)?;
+        drop(krates.insert(String::from_str(alloc, "p")?, known.clone()?)?);
+    }
     Ok(IndexAnswer { krates })
 }
 
-/// The index that gives this answer.
-fn index(alloc: Global, version: Option<&str>) -> Result<CachingIndex, Fail> {
-    let answer = answer_of(alloc, version)?;
+/// The index that gives the answer of a line.
+fn index(alloc: Global, line: &str) -> Result<CachingIndex, Fail> {
+    let answer = answer_of(alloc, line)?;
     let build: BuildIndexCache = Box::new(alloc, move |names: PackageNames| {
         drop(names);
         answer
@@ -90,7 +129,7 @@ fn push_features(
 /// Adds the features of the package with this source as JSON, after one correction and after two.
 fn push_corrected(told: &mut Text, index: &CachingIndex, source: &str) -> Result<(), Fail> {
     let features = r#"{"default":["std","foo"]}"#;
-    let mut package = package(told.allocator(), "1.0.0", source, features)?;
+    let mut package = package(told.allocator(), "p", "1.0.0", source, features)?;
     push_features(told, index, &mut package)?;
     told.push_str(", then ");
     Ok(push_features(told, index, &mut package)?)
@@ -101,11 +140,8 @@ struct Corrected;
 
 impl Tell for Corrected {
     fn tell(told: &mut Text, line: &str) -> Result<(), Fail> {
-        let (source, version) = match line.split_once(' ') {
-            Some((source, version)) => (source, Some(version)),
-            None => (line, None),
-        };
-        let index = index(told.allocator(), version)?;
+        let (source, known) = line.split_once(" | ").unwrap_or((line, "unnamed"));
+        let index = index(told.allocator(), known)?;
         push_corrected(told, &index, source)
     }
 }

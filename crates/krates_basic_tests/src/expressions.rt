@@ -55,6 +55,39 @@ const VALUES: &[Row] = &[
         "true",
     ),
     (r#"wasm32-unknown-unknown cfg(panic = "abort")"#, "true"),
+    (r#"wasm32-unknown-unknown cfg(panic = "unwind")"#, "false"),
+    (
+        r#"aarch64-unknown-linux-gnu cfg(target_arch = "aarch64")"#,
+        "true",
+    ),
+    (
+        r#"aarch64-unknown-linux-gnu cfg(target_arch = "x86_64")"#,
+        "false",
+    ),
+    (
+        r#"wasm32-unknown-unknown cfg(target_pointer_width = "32")"#,
+        "true",
+    ),
+    (
+        r#"x86_64-apple-darwin cfg(target_pointer_width = "32")"#,
+        "false",
+    ),
+    (
+        r#"x86_64-apple-darwin cfg(target_endian = "little")"#,
+        "true",
+    ),
+    (r#"x86_64-apple-darwin cfg(target_endian = "big")"#, "false"),
+    (r#"x86_64-unknown-linux-gnu cfg(target_abi = "")"#, "true"),
+    (
+        r#"x86_64-unknown-linux-gnu cfg(target_abi = "gnu")"#,
+        "false",
+    ),
+    // of the families only two are words
+    ("x86_64-pc-windows-msvc cfg(windows)", "true"),
+    ("x86_64-pc-windows-msvc cfg(unix)", "false"),
+    ("wasm32-unknown-unknown cfg(wasm)", "false"),
+    // a key without its prefix is none
+    (r#"x86_64-unknown-linux-gnu cfg(os = "linux")"#, "false"),
     ("x86_64-unknown-linux-gnu cfg(foo)", "false"),
 ];
 

@@ -4,6 +4,7 @@ ghost use Rattle.std.specs.Prelude.{◌≡◌};
 ghost use Rattle.std.specs.BTreeMap.{get};
 ghost use Rattle.krates_ids.specs.Identity.{id_cmp};
 
+use crate::packages::same_fields;
 use krates_cm::PackageId;
 use krates_ids::{IdError, Kid};
 use krates_samples::table::{Row, Tell, compare, hold};
@@ -152,6 +153,10 @@ const READ: &[Row] = &[
     ("x#1", "bad stable id: x#1"),
     ("", "bad stable id: "),
     (
+        "git+https://x.org/y?branch=c%41#n@1.0.0",
+        "bad escape: git+https://x.org/y?branch=c%41#n@1.0.0",
+    ),
+    (
         "git+https://x.org/y?branch=c%41d#n@1.0.0",
         "bad escape: git+https://x.org/y?branch=c%41d#n@1.0.0",
     ),
@@ -175,6 +180,10 @@ const LESS: &str = "Less, Some(Less), less";
 const COMPARED: &[Row] = &[
     // with equal parts: of one package at two commits, which don't count, and in the stable form
     (
+        "fuser 0.4.1 (git+https://github.com/cberner/fuser?branch=master#b2e7622942e52a28ffa85cdaf48e28e982bb6923) | fuser 0.4.1 (git+https://github.com/cberner/fuser?branch=master#0d3c4d1f9a3b5e6c7d8e9f0a1b2c3d4e5f607182)",
+        EQUAL,
+    ),
+    (
         "fuser 0.4.1 (git+https://x.org/fuser?branch=master#b2e76229) | fuser 0.4.1 (git+https://x.org/fuser?branch=master#0a1b2c3d)",
         EQUAL,
     ),
@@ -194,6 +203,24 @@ const COMPARED: &[Row] = &[
         LESS,
     ),
     ("path+file:///w/e#d@0.10.0 | path+file:///w/d#d@0.9.0", LESS),
+    // names that are alike for many bytes, or of which one begins with the other
+    (
+        "path+file:///w/e#serde_json-a@2.0.0 | path+file:///w/d#serde_json-b@1.0.0",
+        LESS,
+    ),
+    (
+        "path+file:///w/e#serde_js@2.0.0 | path+file:///w/d#serde_json@1.0.0",
+        LESS,
+    ),
+    (
+        "path+file:///w/e#serde@2.0.0 | path+file:///w/d#serde_json@1.0.0",
+        LESS,
+    ),
+    ("path+file:///w/e#Z@2.0.0 | path+file:///w/d#a@1.0.0", LESS),
+    (
+        "path+file:///w/e#serde_json-b@1.0.0 | path+file:///w/d#serde_json-a@2.0.0",
+        "Greater, Some(Greater), neither",
+    ),
 ];
 
 /// Ids that are looked up in a map that has the first under 7.
@@ -301,31 +328,46 @@ impl Tell for Key {
     }
 }
 
-/// An id whose query is decoded, and what it, a copy of it and the empty id print and answer.
-const COPIED: &[Row] = &[(
-    "git+https://x.org/y?branch=c%2fd#n@1.0.0",
-    "git+https://x.org/y?branch=c/d#n@1.0.0 | git+https://x.org/y?branch=c/d#n@1.0.0 | git+https://x.org/y?branch=c/d#n@1.0.0 | 1.0.0 |  |  | ",
-)];
+/// Ids, and what each prints; and the copy of each: how it is described as an id of that text, and how it compares with the id. The empty text is
+/// for the empty id.
+const COPIED: &[Row] = &[
+    (
+        "git+https://x.org/y?branch=c%2fd#n@1.0.0",
+        "git+https://x.org/y?branch=c/d#n@1.0.0; stable, decoded: n | 1.0.0 | git+https://x.org/y?branch=c/d; Equal, equal with equal hashes",
+    ),
+    (
+        "path+file:///w/parts/alloc#w-alloc@0.1.0",
+        "path+file:///w/parts/alloc#w-alloc@0.1.0; stable, as written: w-alloc | 0.1.0 | path+file:///w/parts/alloc; Equal, equal with equal hashes",
+    ),
+    (
+        "fuser 0.4.1 (git+https://github.com/cberner/fuser?branch=master#b2e7622942e52a28ffa85cdaf48e28e982bb6923)",
+        "fuser 0.4.1 (git+https://github.com/cberner/fuser?branch=master#b2e7622942e52a28ffa85cdaf48e28e982bb6923); opaque, as written: fuser | 0.4.1 | git+https://github.com/cberner/fuser?branch=master; Equal, equal with equal hashes",
+    ),
+    (
+        "",
+        "; stable, as written:  |  | ; Equal, equal with equal hashes",
+    ),
+];
 
-/// What an id prints, its text, and the text and the version of a copy of it; the text, the name and the source of the empty id.
+/// The id that a text is, or the empty one.
+fn kid_or_empty(alloc: Global, text: &str) -> Result<Kid, Fail> {
+    if text.is_empty() {
+        return Ok(Kid::empty(alloc));
+    }
+    kid(alloc, text)
+}
+
+/// What an id prints, the description of a copy of it, and how the copy compares with it. Fails where the copy shows other fields.
 struct Copied;
 
 impl Tell for Copied {
     fn tell(told: &mut Text, text: &str) -> Result<(), Fail> {
-        let kid = kid(told.allocator(), text)?;
+        let kid = kid_or_empty(told.allocator(), text)?;
         let copy = kid.clone()?;
-        let empty = Kid::empty(told.allocator());
-        write!(
-            told,
-            "{kid} | {} | {} | {} | {} | {} | {}",
-            kid.repr(),
-            copy.repr(),
-            copy.version(),
-            empty.repr(),
-            empty.name(),
-            empty.source()
-        );
-        Ok(())
+        write!(told, "{kid}; ");
+        push_described(told, &copy, text);
+        write!(told, "; {:?}, {}", copy.cmp(&kid), relation(&copy, &kid));
+        same_fields(told.allocator(), text, &copy, &kid)
     }
 }
 

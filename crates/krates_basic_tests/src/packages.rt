@@ -2,6 +2,7 @@
 
 use krates_cm::Package;
 use krates_cm_json::FromValue;
+use krates_samples::failures::Failures;
 use krates_samples::table::{Question, Row, compare};
 use serde_json::Value;
 use std::alloc::Global;
@@ -25,23 +26,18 @@ pub(crate) fn told_within<Q: Question>(
     Q::told(alloc, json.as_str())
 }
 
-/// Compares the answer to one line, with what surrounds it, with the one that is known.
-fn hold_row_within<Q: Question>(alloc: Global, around: (&str, &str), row: Row) -> Result<(), Fail> {
-    let (line, answer) = row;
-    let told = told_within::<Q>(alloc, around, line)?;
-    compare(line, told.as_str(), answer)
-}
-
-/// Compares the answer to each line, with what surrounds it, with the one that is known; names the first row where they differ.
+/// Compares the answer to each line, with what surrounds it, with the one that is known; fails where some differ, and names each of
+/// their lines.
 pub(crate) fn hold_within<Q: Question>(
     alloc: Global,
     around: (&str, &str),
     rows: &[Row],
 ) -> Result<(), Fail> {
-    for &row in rows {
-        hold_row_within::<Q>(alloc, around, row)?;
+    let mut failures = Failures::new(alloc);
+    for &(line, answer) in rows {
+        failures.compare(line, told_within::<Q>(alloc, around, line), answer)?;
     }
-    Ok(())
+    failures.reported()
 }
 
 /// Fails where another value shows other fields than the one that was read of a text.
@@ -56,15 +52,16 @@ pub(crate) fn same_fields<T: Debug>(
     compare(json, other.as_str(), read.as_str())
 }
 
-/// The package `cargo` of this version, with this source and these features as JSON.
+/// The package of this name and version, with this source and these features as JSON.
 pub(crate) fn package(
     alloc: Global,
+    name: &str,
     version: &str,
     source: &str,
     features: &str,
 ) -> Result<Box<Package>, Fail> {
     let json = format!(in alloc;
-        "{{\"name\":\"cargo\",\"version\":\"{version}\",\"id\":\"x\",\"source\":{source},\"dependencies\":[],\"targets\":[],\"features\":{features},\"manifest_path\":\"m\"}}"
+        "{{\"name\":\"{name}\",\"version\":\"{version}\",\"id\":\"x\",\"source\":{source},\"dependencies\":[],\"targets\":[],\"features\":{features},\"manifest_path\":\"m\"}}"
     )?;
     Ok(Box::new(alloc, read(alloc, json.as_str())?)?)
 }

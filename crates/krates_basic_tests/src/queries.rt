@@ -7,6 +7,7 @@ use krates_cm::{
     TargetKind, WorkspaceDefaultMembers,
 };
 use krates_cm_json::FromValue;
+use krates_samples::stand_in::DOCUMENT as TWO_PACKAGES;
 use krates_samples::table::{Row, Tell, compare, hold};
 use krates_text::text::Text;
 use std::alloc::{AllocError, Global};
@@ -14,9 +15,10 @@ use std::fmt::Debug;
 use std::marker::PhantomData;
 use std::test::Fail;
 
-/// What comes before and after the rows: the packages `a` in `/w/a` and `b` in `/w/b`, and a member `a`.
+/// What comes before and after the rows: the packages `a` in `/w/a` and `b` in `/w/b`, two packages of one id, of which the first has a manifest
+/// of another name, and a member `a`.
 const DOCUMENT: (&str, &str) = (
-    r#"{"packages":[{"name":"a","version":"0.1.0","id":"A","dependencies":[],"targets":[],"features":{},"manifest_path":"/w/a/Cargo.toml"},{"name":"b","version":"0.1.0","id":"B","dependencies":[],"targets":[],"features":{},"manifest_path":"/w/./b//Cargo.toml"}],"workspace_members":["A"],"target_directory":"/t","#,
+    r#"{"packages":[{"name":"a","version":"0.1.0","id":"A","dependencies":[],"targets":[],"features":{},"manifest_path":"/w/a/Cargo.toml"},{"name":"b","version":"0.1.0","id":"B","dependencies":[],"targets":[],"features":{},"manifest_path":"/w/./b//Cargo.toml"},{"name":"c","version":"0.1.0","id":"C","dependencies":[],"targets":[],"features":{},"manifest_path":"/w/c/Other.toml"},{"name":"d","version":"0.1.0","id":"C","dependencies":[],"targets":[],"features":{},"manifest_path":"/w/d/Cargo.toml"}],"workspace_members":["A"],"target_directory":"/t","#,
     "}",
 );
 
@@ -31,7 +33,7 @@ const ANSWERS: &[Row] = &[
         r#"root Some("b"), members ["a"], default Some(["b"]), B is Some("b")"#,
     ),
     (
-        r#""workspace_root":"/w/b","resolve":null,"workspace_default_members":["B","A","C"]"#,
+        r#""workspace_root":"/w/b","resolve":null,"workspace_default_members":["B","A","D"]"#,
         r#"root Some("b"), members ["a"], default Some(["a", "b"]), B is Some("b")"#,
     ),
     (
@@ -43,8 +45,27 @@ const ANSWERS: &[Row] = &[
         r#"root None, members ["a"], default None, B is Some("b")"#,
     ),
     (
-        r#""workspace_root":"/w/b","resolve":{"nodes":[],"root":"C"}"#,
+        r#""workspace_root":"/w/b","resolve":{"nodes":[],"root":"D"}"#,
         r#"root None, members ["a"], default None, B is Some("b")"#,
+    ),
+    // of two packages of one id the first, and both where several are meant
+    (
+        r#""workspace_root":"/w/b","resolve":{"nodes":[],"root":"C"},"workspace_default_members":["C"]"#,
+        r#"root Some("c"), members ["a"], default Some(["c", "d"]), B is Some("b")"#,
+    ),
+    // only a manifest that is called so is that of the workspace's root
+    (
+        r#""workspace_root":"/w/c""#,
+        r#"root None, members ["a"], default None, B is Some("b")"#,
+    ),
+];
+
+/// Further keys of the document of two packages, of which `a` is the member; and the packages of the workspace and the default ones.
+const WORKSPACES: &[Row] = &[
+    ("", r#"members ["a"], default None"#),
+    (
+        r#","workspace_default_members":["path+file:///w/b#0.1.0"]"#,
+        r#"members ["a"], default Some(["b"])"#,
     ),
 ];
 
@@ -144,23 +165,30 @@ trait Answers: FromValue {
     fn push_answers(&self, told: &mut Text) -> Result<(), AllocError>;
 }
 
+/// Adds the packages of the workspace of a document, and the default ones.
+fn push_workspace(told: &mut Text, metadata: &Metadata) -> Result<(), AllocError> {
+    let alloc = told.allocator();
+    told.push_str("members ");
+    push_names(told, &metadata.workspace_packages(alloc)?);
+    told.push_str(", default ");
+    match metadata.workspace_default_packages(alloc)? {
+        Some(packages) => {
+            told.push_str("Some(");
+            push_names(told, &packages);
+            told.push_str(")")
+        }
+        None => told.push_str("None"),
+    }
+    Ok(())
+}
+
 /// What a document answers.
 impl Answers for Metadata {
     fn push_answers(&self, told: &mut Text) -> Result<(), AllocError> {
-        let alloc = told.allocator();
         let root = self.root_package().map(|p| p.name.as_str());
-        write!(told, "root {root:?}, members ");
-        push_names(told, &self.workspace_packages(alloc)?);
-        told.push_str(", default ");
-        match self.workspace_default_packages(alloc)? {
-            Some(packages) => {
-                told.push_str("Some(");
-                push_names(told, &packages);
-                told.push_str(")")
-            }
-            None => told.push_str("None"),
-        }
-        let id = package_id(alloc, "B")?;
+        write!(told, "root {root:?}, ");
+        push_workspace(told, self)?;
+        let id = package_id(told.allocator(), "B")?;
         let b = self.package(&id).map(|p| p.name.as_str());
         write!(told, ", B is {b:?}");
         Ok(())
@@ -210,12 +238,22 @@ impl<T: Answers> Tell for AnswersOf<T> {
     }
 }
 
+/// The packages of the workspace of the document that JSON is, and the default ones.
+struct Workspace;
+
+impl Tell for Workspace {
+    fn tell(told: &mut Text, json: &str) -> Result<(), Fail> {
+        let metadata: Metadata = read(told.allocator(), json)?;
+        Ok(push_workspace(told, &metadata)?)
+    }
+}
+
 /// Of what kind a source is that JSON is, and whether a package of it is local.
 struct Origin;
 
 impl Tell for Origin {
     fn tell(told: &mut Text, source: &str) -> Result<(), Fail> {
-        let package = package(told.allocator(), "1.0.0", source, "{}")?;
+        let package = package(told.allocator(), "p", "1.0.0", source, "{}")?;
         let kind = package.source.as_ref().map(|source| source.kind());
         write!(told, "{kind:?}, local: {}", package.is_local());
         Ok(())
@@ -225,6 +263,8 @@ impl Tell for Origin {
 #[test]
 fn what_documents_packages_targets_and_sources_answer(rt: HostRuntime) -> Result<(), Fail> {
     hold::<Origin>(rt.alloc(), SOURCES)?;
+    let document = TWO_PACKAGES.strip_suffix("}").unwrap_or("");
+    hold_within::<Workspace>(rt.alloc(), (document, "}"), WORKSPACES)?;
     hold_within::<AnswersOf<Metadata>>(rt.alloc(), DOCUMENT, ANSWERS)?;
     hold_within::<AnswersOf<Package>>(rt.alloc(), PACKAGE, FILES)?;
     hold_within::<AnswersOf<Target>>(rt.alloc(), TARGET, KINDS)
@@ -236,16 +276,19 @@ const COPIED_ID: &str = r#""a 0.1.0""#;
 const COPIED_INFO: &str = r#"{"kind":"dev","target":"t"}"#;
 
 const COPIED_DEPENDENCY: &str =
-    r#"{"name":"b","source":"s","req":">=1.2, <3","kind":"build","optional":true,"uses_default_features":true,"features":["f","g"],"target":"t","rename":"r","registry":"g","path":"/b"}"#;
+    r#"{"name":"b","source":"s","req":">=1.2, <3","kind":"build","optional":true,"uses_default_features":false,"features":["f","g"],"target":"t","rename":"r","registry":"g","path":"/b"}"#;
 
 const COPIED_TARGET: &str =
     r#"{"name":"t","kind":["custom-build"],"crate_types":["cdylib"],"required-features":["f"],"src_path":"s","edition":"2021","doctest":false,"test":true,"doc":false}"#;
 
+const COPIED_DOCUMENTED_TARGET: &str =
+    r#"{"name":"t","kind":["lib","rlib"],"src_path":"s","doctest":false,"test":false,"doc":true}"#;
+
 const COPIED_PACKAGE: &str =
-    r#"{"name":"a","version":"1.2.3-rc+b","authors":["x"],"id":"i","source":"s","description":"d","dependencies":[],"license":"MIT","license_file":"L","targets":[],"features":{"f":["g"]},"manifest_path":"m","categories":["c"],"keywords":["k"],"readme":"R","repository":"o","homepage":"h","documentation":"u","edition":"2024","metadata":{"k":[1,null]},"links":"l","publish":["p"],"default_run":"p","rust_version":"1.70.1"}"#;
+    r#"{"name":"a","version":"1.2.3-rc+b","authors":["x"],"id":"i","source":"s","description":"d","dependencies":[{"name":"b","req":"*","optional":false,"uses_default_features":true,"features":[]}],"license":"MIT","license_file":"L","targets":[{"name":"t","kind":["bin"],"src_path":"s"}],"features":{"f":["g"]},"manifest_path":"m","categories":["c"],"keywords":["k"],"readme":"R","repository":"o","homepage":"h","documentation":"u","edition":"2024","metadata":{"k":[1,null]},"links":"l","publish":["p"],"default_run":"p","rust_version":"1.70.1"}"#;
 
 const COPIED_DOCUMENT: &str =
-    r#"{"packages":[],"workspace_members":["a"],"workspace_default_members":["b"],"workspace_root":"/w","target_directory":"/t","build_directory":"/b","metadata":{"k":[true]},"version":1,"resolve":{"nodes":[{"id":"a","deps":[{"name":"b","pkg":"c","dep_kinds":[{"kind":"build","target":"t"}]}],"dependencies":["c"],"features":["f"]}],"root":"a"}}"#;
+    r#"{"packages":[{"name":"a","version":"0.1.0","id":"a","dependencies":[],"targets":[],"features":{},"manifest_path":"m"}],"workspace_members":["a"],"workspace_default_members":["b"],"workspace_root":"/w","target_directory":"/t","build_directory":"/b","metadata":{"k":[true]},"version":1,"resolve":{"nodes":[{"id":"a","deps":[{"name":"b","pkg":"c","dep_kinds":[{"kind":"build","target":"t"}]}],"dependencies":["c"],"features":["f"]}],"root":"a"}}"#;
 
 /// Fails where a copy of what is read of a text shows other fields.
 fn copied<T: FromValue + Clone + Debug>(alloc: Global, json: &str) -> Result<(), Fail> {
@@ -268,6 +311,7 @@ fn copies(rt: HostRuntime) -> Result<(), Fail> {
     copied::<DepKindInfo>(alloc, COPIED_INFO)?;
     copied::<Dependency>(alloc, COPIED_DEPENDENCY)?;
     copied::<Target>(alloc, COPIED_TARGET)?;
+    copied::<Target>(alloc, COPIED_DOCUMENTED_TARGET)?;
     copied::<Package>(alloc, COPIED_PACKAGE)?;
     copied::<Metadata>(alloc, COPIED_DOCUMENT)?;
     let members = copied_members(alloc, COPIED_DOCUMENT)?;

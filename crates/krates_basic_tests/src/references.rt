@@ -17,6 +17,15 @@ const FORMS: &[Row] = &[
         r#"Strong { krate: "serde", feature: "derive" }"#,
     ),
     ("dep:x/y", r#"Krate("x/y")"#),
+    ("dep:x?/y", r#"Krate("x?/y")"#),
+    ("dep:", r#"Krate("")"#),
+    // the first mark counts, and one with a question mark before any other
+    ("a?/b?/c", r#"Weak { krate: "a", feature: "b?/c" }"#),
+    ("a?/b/c", r#"Weak { krate: "a", feature: "b/c" }"#),
+    ("a/b/c", r#"Strong { krate: "a", feature: "b/c" }"#),
+    ("/", r#"Strong { krate: "", feature: "" }"#),
+    ("a/dep:b", r#"Strong { krate: "a", feature: "dep:b" }"#),
+    ("a?", r#"Simple("a?")"#),
     ("std", r#"Simple("std")"#),
     ("", r#"Simple("")"#),
 ];

@@ -1,6 +1,7 @@
 //! Targets as rustc describes them: the lines that `rustc --print cfg --target TRIPLE` of Rust 1.95 prints.
 
-use krates_samples::table::{Row, Tell, compare, hold};
+use krates_samples::failures::Failures;
+use krates_samples::table::{Row, Tell, hold};
 use krates_text::target::{TargetInfo, builtin};
 use krates_text::text::Text;
 use std::alloc::{AllocError, Global};
@@ -88,7 +89,10 @@ const BESIDE_THE_TABLE: &[Row] = &[
 ];
 
 /// The target of a line: its triple, and after each `;` a line of rustc's.
-fn target_of(alloc: Global, line: &str) -> Result<(TargetInfo, Vec<String>), AllocError> {
+pub(crate) fn target_of(
+    alloc: Global,
+    line: &str,
+) -> Result<(TargetInfo, Vec<String>), AllocError> {
     let (triple, lines) = line.split_once(";").unwrap_or((line, ""));
     let text = lines.replace(alloc, ";", "\n")?;
     TargetInfo::from_rustc(alloc, triple, text.as_str())
@@ -118,20 +122,27 @@ fn in_fixed_order(alloc: Global, mut info: TargetInfo) -> Result<String, AllocEr
     format!(in alloc; "{info:?}")
 }
 
-/// Compares the target of a line with the one of the table.
-fn compare_with_table(alloc: Global, line: &str) -> Result<(), Fail> {
+/// The description that a line's target has, in fixed order.
+fn described(alloc: Global, line: &str) -> Result<String, Fail> {
     let (info, _) = target_of(alloc, line)?;
-    let Some(known) = builtin(alloc, info.triple.as_str())? else {
-        return Err(Fail::new(format_args!("{line}: not in the table")));
-    };
-    let told = in_fixed_order(alloc, info)?;
-    compare(line, told.as_str(), in_fixed_order(alloc, known)?.as_str())
+    Ok(in_fixed_order(alloc, info)?)
+}
+
+/// The description that the table has for the triple of a line, in fixed order, or none.
+fn in_table(alloc: Global, line: &str) -> Result<String, AllocError> {
+    let (triple, _) = line.split_once(";").unwrap_or((line, ""));
+    match builtin(alloc, triple)? {
+        Some(info) => in_fixed_order(alloc, info),
+        None => String::from_str(alloc, "none"),
+    }
 }
 
 #[test]
 fn describes_as_the_table(rt: HostRuntime) -> Result<(), Fail> {
+    let mut failures = Failures::new(rt.alloc());
     for (line, _) in IN_THE_TABLE {
-        compare_with_table(rt.alloc(), *line)?;
+        let known = in_table(rt.alloc(), *line)?;
+        failures.compare(*line, described(rt.alloc(), *line), known.as_str())?;
     }
-    Ok(())
+    failures.reported()
 }

@@ -166,6 +166,31 @@ const MATCHES: &[Row] = &[
         "false",
     ),
     (
+        r#"cargo@0.1.0-rc.1 0.1.0 "git+https://github.com/rust-lang/cargo?branch=x#abc""#,
+        "false",
+    ),
+    (
+        r#"https://github.com/rust-lang/cargo#0.1.0 0.1.1 null"#,
+        "false",
+    ),
+    (
+        r#"https://github.com/rust-lang/cargo#cargo-x@0.1.0 0.1.0 null"#,
+        "false",
+    ),
+    // of a source what is behind its first plus and before its first question mark, wherever a hash is
+    (
+        r#"https://x.org/a+b#cargo 0.1.0 "git+https://x.org/a+b#c?d""#,
+        "false",
+    ),
+    (
+        r#"https://x.org/a+b#cargo 0.1.0 "git+https://x.org/a+b#c""#,
+        "true",
+    ),
+    (
+        r#"https://x.org/b#cargo 0.1.0 "git+https://x.org/a+b#c""#,
+        "false",
+    ),
+    (
         r#"cargo@0.1.0-rc.1 0.1.0-rc.1 "git+https://github.com/rust-lang/cargo?branch=x#abc""#,
         "true",
     ),
@@ -237,7 +262,7 @@ impl Tell for Matches {
         let (spec, line) = line.split_once(' ').unwrap_or((line, ""));
         let (version, source) = line.split_once(' ').unwrap_or((line, ""));
         let spec = PkgSpec::from_str(told.allocator(), spec)?;
-        let package = package(told.allocator(), version, source, "{}")?;
+        let package = package(told.allocator(), "cargo", version, source, "{}")?;
         write!(told, "{}", spec.matches(&package));
         Ok(())
     }

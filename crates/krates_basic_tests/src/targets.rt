@@ -1,8 +1,10 @@
 //! Targets: the table row by row, and how a target is printed.
 
+use crate::rustc_cfg::target_of;
 use krates_samples::table::{Row, Tell, hold};
 use krates_text::target::{Target, builtin};
 use krates_text::text::Text;
+use std::alloc::{AllocError, Global};
 use std::test::Fail;
 
 /// A triple and the description of its target, with each of its fields.
@@ -38,6 +40,21 @@ const DESCRIBED: &[Row] = &[
     ("x86_64", "no row"),
 ];
 
+/// Texts, and a copy of the target of each, with each of its fields; with `;` in the text that of the caller's own target, which rustc's lines
+/// after it describe.
+const COPIED: &[Row] = &[
+    (
+        "aarch64-apple-darwin",
+        r#"Builtin(TargetInfo { triple: "aarch64-apple-darwin", arch: "aarch64", os: "macos", env: "", abi: "", vendor: "apple", pointer_width: "64", endian: "little", panic: "unwind", families: ["unix"], atomics: ["8", "16", "32", "64", "ptr"] })"#,
+    ),
+    (
+        r#"t;target_arch="a";target_os="o";target_env="e";target_abi="i";target_vendor="v";target_pointer_width="16";target_endian="big";panic="abort";target_family="f";target_family="g";target_has_atomic="8";target_has_atomic="ptr""#,
+        r#"Builtin(TargetInfo { triple: "t", arch: "a", os: "o", env: "e", abi: "i", vendor: "v", pointer_width: "16", endian: "big", panic: "abort", families: ["f", "g"], atomics: ["8", "ptr"] })"#,
+    ),
+    ("linux", r#"Unknown("linux")"#),
+    ("", r#"Unknown("")"#),
+];
+
 /// Texts that are printed as they are: a triple, and two about which nothing is known.
 const PRINTED: &[Row] = &[
     ("wasm32-unknown-unknown", "wasm32-unknown-unknown"),
@@ -68,9 +85,9 @@ impl Tell for Described {
 }
 
 /// That of a copy of it.
-struct Copied;
+struct CopiedInfo;
 
-impl Tell for Copied {
+impl Tell for CopiedInfo {
     fn tell(told: &mut Text, triple: &str) -> Result<(), Fail> {
         match builtin(told.allocator(), triple)? {
             Some(info) => write!(told, "{:?}", info.clone()?),
@@ -80,13 +97,33 @@ impl Tell for Copied {
     }
 }
 
-/// What a copy of the target of a text prints.
+/// The target of a text, or the one that a caller describes.
+fn target(alloc: Global, line: &str) -> Result<Target, AllocError> {
+    if !line.contains(';') {
+        return Target::new(alloc, line);
+    }
+    let (info, _) = target_of(alloc, line)?;
+    Ok(Target::Builtin(info))
+}
+
+/// A copy of a target, with each of its fields.
+struct Copied;
+
+impl Tell for Copied {
+    fn tell(told: &mut Text, line: &str) -> Result<(), Fail> {
+        let target = target(told.allocator(), line)?;
+        write!(told, "{:?}", target.clone()?);
+        Ok(())
+    }
+}
+
+/// What the target of a text prints.
 struct Printed;
 
 impl Tell for Printed {
     fn tell(told: &mut Text, text: &str) -> Result<(), Fail> {
         let target = Target::new(told.allocator(), text)?;
-        write!(told, "{}", target.clone()?);
+        write!(told, "{target}");
         Ok(())
     }
 }
@@ -105,7 +142,8 @@ impl Tell for Known {
 #[test]
 fn each_row_of_the_table_and_what_targets_print(rt: HostRuntime) -> Result<(), Fail> {
     hold::<Described>(rt.alloc(), DESCRIBED)?;
-    hold::<Copied>(rt.alloc(), DESCRIBED)?;
+    hold::<CopiedInfo>(rt.alloc(), DESCRIBED)?;
+    hold::<Copied>(rt.alloc(), COPIED)?;
     hold::<Printed>(rt.alloc(), PRINTED)?;
     hold::<Known>(rt.alloc(), KNOWN)
 }
