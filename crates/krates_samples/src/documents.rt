@@ -11,8 +11,8 @@
 //! - `lib=NAME`: the library of the package has this name.
 //!
 //! The name of a declared dependency is followed by `?` where it is optional and by `!` where it uses default features. It
-//! has more options: `normal`, `dev` and `build` (its kind), `on=TARGET`, `with=FEATURES`, `from=SOURCE`, `at=PATH` and
-//! `as=NAME` (its new name).
+//! has more options: `normal`, `dev` and `build` (its kind), `on=TARGET`, `with=FEATURES`, `from=SOURCE`, `at=PATH`,
+//! `as=NAME` (its new name) and `req=REQUIREMENT` (of its version; without it `*`, which has no comparator).
 //!
 //! The other sections begin with a name.
 //!
@@ -180,10 +180,11 @@ fn first_kind(word: &str) -> &'static str {
 fn push_declaration(json: &mut Text, word: &str) {
     let (name, _) = named(word);
     let kind = first_kind(word);
+    let req = option_of(word, "req=").unwrap_or("*");
     let (optional, defaults) = (is_marked(word, '?'), is_marked(word, '!'));
     write!(
         json,
-        "{{\"name\":{name:?},\"req\":\"*\",\"kind\":{kind},\"optional\":{optional},\"uses_default_features\":{defaults},\"features\":["
+        "{{\"name\":{name:?},\"req\":{req:?},\"kind\":{kind},\"optional\":{optional},\"uses_default_features\":{defaults},\"features\":["
     );
     push_texts(json, option_of(word, "with=").unwrap_or(""));
     json.push_str("]");
