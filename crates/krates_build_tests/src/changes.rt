@@ -95,7 +95,7 @@ impl Ask for EachChanged {
 
     fn push(told: &mut Text, given: &Given<'_, Setting>, line: &str) -> Result<(), Fail> {
         let steps = list_in::<Steps>(line);
-        Steps::push_by_setting(told, given, None, steps)?;
+        Steps::push_by_setting(told, given, steps)?;
         for (number, _) in steps.split(';').enumerate() {
             write!(told, " {}", refused(given, steps, number)?);
         }

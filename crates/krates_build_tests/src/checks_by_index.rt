@@ -1,8 +1,8 @@
-//! Both checks with an index: what it adds to the features of a package counts, and without it doesn't.
+//! Both checks by a builder with an index: what it adds to the features of a package counts, and without it doesn't.
 
 use crate::indexed::answer_of;
 use crate::lists::{Ask, Facts, Given, List, OfLine, Steps, list_in};
-use krates_document::Setting;
+use krates::Builder;
 use krates_ids::CachingIndex;
 use krates_samples::documents::section;
 use krates_samples::table::{Row, hold};
@@ -12,13 +12,13 @@ use std::test::Fail;
 /// Adds what the check of the list of a line answers with an index, and without it.
 fn push_both<L: List>(
     told: &mut Text,
-    given: &Given<'_, Setting>,
+    given: &Given<'_, Builder>,
     index: &CachingIndex,
     line: &str,
 ) -> Result<(), Fail> {
-    L::push_by_setting(told, given, Some(index), list_in::<L>(line))?;
+    L::push_by_builder(told, given, Some(index), list_in::<L>(line))?;
     told.push_str(", without ");
-    L::push_by_setting(told, given, None, list_in::<L>(line))
+    L::push_by_builder(told, given, None, list_in::<L>(line))
 }
 
 /// What the check of the list of a line answers with the index of the line, and without it.
@@ -27,9 +27,9 @@ struct ByIndex<L> {
 }
 
 impl<L: List> Ask for ByIndex<L> {
-    type Set = Setting;
+    type Set = Builder;
 
-    fn push(told: &mut Text, given: &Given<'_, Setting>, line: &str) -> Result<(), Fail> {
+    fn push(told: &mut Text, given: &Given<'_, Builder>, line: &str) -> Result<(), Fail> {
         let answer = answer_of(given.alloc, section(line, "index ").unwrap_or(""))?;
         push_both::<L>(told, given, &CachingIndex { answer }, line)
     }

@@ -43,7 +43,7 @@ impl Ask for EachNeeded {
 
     fn push(told: &mut Text, given: &Given<'_, Setting>, line: &str) -> Result<(), Fail> {
         let text = list_in::<Facts>(line);
-        Facts::push_by_setting(told, given, None, text)?;
+        Facts::push_by_setting(told, given, text)?;
         let changed = text.split_whitespace().chain(DRAGGING.iter().copied());
         for (place, _) in changed.enumerate() {
             push_changed(told, given, text, place)?;

@@ -60,16 +60,16 @@ pub(crate) trait List {
     /// The section of a line that has the list.
     const SECTION: &'static str;
 
-    /// Adds what the check answers of the list of a text under a setting, with an index or without one.
-    fn push_by_setting(
+    /// Adds what the check answers of the list of a text under a setting, without an index.
+    fn push_by_setting(told: &mut Text, given: &Given<'_, Setting>, text: &str) -> Result<(), Fail>;
+
+    /// Adds what the check answers of the list of a text by a builder, with an index or without one.
+    fn push_by_builder(
         told: &mut Text,
-        given: &Given<'_, Setting>,
+        given: &Given<'_, Builder>,
         index: Option<&CachingIndex>,
         text: &str,
     ) -> Result<(), Fail>;
-
-    /// Adds what the check answers of the list of a text by a builder, without an index.
-    fn push_by_builder(told: &mut Text, given: &Given<'_, Builder>, text: &str) -> Result<(), Fail>;
 }
 
 /// The list of a line, as the text of its section.
@@ -86,11 +86,10 @@ impl List for Steps {
     fn push_by_setting(
         told: &mut Text,
         given: &Given<'_, Setting>,
-        index: Option<&CachingIndex>,
         text: &str,
     ) -> Result<(), Fail> {
         let steps = steps_of(given.alloc, text)?;
-        let answer = krates_checkers::check(given.alloc, given.metadata, given.set, index, &steps);
+        let answer = krates_checkers::check(given.alloc, given.metadata, given.set, None, &steps);
         push_answer(told, answer);
         Ok(())
     }
@@ -98,12 +97,13 @@ impl List for Steps {
     fn push_by_builder(
         told: &mut Text,
         given: &Given<'_, Builder>,
+        index: Option<&CachingIndex>,
         text: &str,
     ) -> Result<(), Fail> {
         let steps = steps_of(given.alloc, text)?;
         push_answer(
             told,
-            krates::derive::check(given.metadata, given.set, None, &steps),
+            krates::derive::check(given.metadata, given.set, index, &steps),
         );
         Ok(())
     }
@@ -118,13 +118,12 @@ impl List for Facts {
     fn push_by_setting(
         told: &mut Text,
         given: &Given<'_, Setting>,
-        index: Option<&CachingIndex>,
         text: &str,
     ) -> Result<(), Fail> {
         let facts = facts_of(given.alloc, text)?;
         push_answer(
             told,
-            krates_checkers::check_closed(given.alloc, given.metadata, given.set, index, &facts),
+            krates_checkers::check_closed(given.alloc, given.metadata, given.set, None, &facts),
         );
         Ok(())
     }
@@ -132,12 +131,13 @@ impl List for Facts {
     fn push_by_builder(
         told: &mut Text,
         given: &Given<'_, Builder>,
+        index: Option<&CachingIndex>,
         text: &str,
     ) -> Result<(), Fail> {
         let facts = facts_of(given.alloc, text)?;
         push_answer(
             told,
-            krates::derive::check_closed(given.metadata, given.set, None, &facts),
+            krates::derive::check_closed(given.metadata, given.set, index, &facts),
         );
         Ok(())
     }
@@ -152,6 +152,6 @@ impl<L: List> Ask for Checked<L> {
     type Set = Setting;
 
     fn push(told: &mut Text, given: &Given<'_, Setting>, line: &str) -> Result<(), Fail> {
-        L::push_by_setting(told, given, None, list_in::<L>(line))
+        L::push_by_setting(told, given, list_in::<L>(line))
     }
 }

@@ -1,8 +1,9 @@
 //! Builds with types of a caller's own instead of packages and edges, and with a closure as the filter.
 
-ghost use Rattle.std.specs.Prelude.{⊤};
+ghost use Rattle.std.specs.Prelude.{◌≡◌, None, ⊤};
 ghost use Rattle.krates_cm.specs.Document.{text_view};
 
+use crate::builders::builder_of;
 use crate::of_graph::{OfGraph, Told};
 use krates::cm::Metadata;
 use krates::semver::Version;
@@ -81,20 +82,18 @@ impl FromEdge for IsDependency {
     }
 }
 
-/// Builds the graph of a document, and passes the names of the packages that aren't kept to a closure, which gathers them. The section `names` of
-/// the line says whether a name means all dependencies that match it.
+/// Builds the graph of a document, and passes the names of the packages that aren't kept to a closure, which gathers them.
 fn built(
-    alloc: Global,
-    line: &str,
+    builder: Builder,
     metadata: Metadata,
     names: &mut String,
-) -> Result<Krates<Named, IsDependency>, Error> {
+) -> Result<Krates<Named, IsDependency>, Error>
+    requires no_index { builder.index ≡ None }
+{
     let mut filter = FilterFn(|pkg: Package| {
         let _ = names.push_str(pkg.name.as_str());
         drop(pkg);
     });
-    let mut builder = Builder::new(alloc);
-    builder.all_named(section(line, "names all").is_some());
     builder.build_with_metadata(metadata, &mut filter)
 }
 
@@ -120,8 +119,9 @@ impl Tell for Own {
     fn tell(told: &mut Text, line: &str) -> Result<(), Fail> {
         let alloc = told.allocator();
         let metadata = metadata(alloc, line)?;
+        let builder = builder_of(alloc, line)?;
         let mut names = String::new(alloc);
-        match built(alloc, line, metadata, &mut names) {
+        match built(builder, metadata, &mut names) {
             Ok(krates) => push_krates(told, &krates),
             Err(error) => write!(told, "{error}"),
         }
@@ -143,6 +143,10 @@ const OWN: &[Row] = &[
         "a|c / no graph",
         "no resolution graph was provided, closure ",
     ),
+    (
+        "a|c / members a &id=x / no graph",
+        "no resolution graph was provided, closure ",
+    ),
     ("a|c / members a &id=x", "invalid package id: x, closure "),
     (
         "a|a|c / nodes",
@@ -160,6 +164,11 @@ const OWN: &[Row] = &[
     (
         "a b|b|c / nodes a b b|b",
         "doubled id: path+file:///w/b#0.1.0, closure ",
+    ),
+    // two commits of one source
+    (
+        "fuser&id=fuser~0.4.1~(git+https://github.com/cberner/fuser?branch=master#b2e7622942e52a28ffa85cdaf48e28e982bb6923)|fuser&id=fuser~0.4.1~(git+https://github.com/cberner/fuser?branch=master#3900e8ae5bd5e8e9bb0b0bd2a4b4ee3d7f0c2d11)|c / nodes",
+        "doubled id: fuser 0.4.1 (git+https://github.com/cberner/fuser?branch=master#3900e8ae5bd5e8e9bb0b0bd2a4b4ee3d7f0c2d11), closure ",
     ),
     (
         "a|c / nodes a b@1",

@@ -2,6 +2,7 @@
 
 use crate::building::{Built, push_outcome};
 use crate::real_documents::metadata_of;
+use crate::setting::setting_of;
 use krates::{Builder, DepKind, Scope};
 use krates_samples::settings::package_specs;
 use krates_samples::table::{Row, Tell, hold};
@@ -15,6 +16,28 @@ const SETTINGS: &[Row] = &[
     // the workspace itself means every member, until a crate is included
     ("a|c / members a c / include /w", "+a+c"),
     ("a|c / members a c / include /w /w/c", "+c-a"),
+    ("a|c / members a c / include /./w", "+a+c"),
+    (
+        "a|c / members a c / include /w /w",
+        "no root crates available",
+    ),
+    // a member that isn't there isn't missed where it isn't a root
+    ("a / members a z / include /w/a", "+a"),
+    ("a / members a z / root a", "+a"),
+    // a member alone, and by its directory, whatever that is called
+    (
+        "a b|b / members a / include /w/b",
+        "no root crates available",
+    ),
+    (
+        "a|xCargo.toml / members a xCargo.toml / include /w/xCargo.toml",
+        "+xCargo.toml-a",
+    ),
+    // more crates beside those that were included before
+    (
+        "a|c|d / members a c d / include /w/a / include /w/c",
+        "+a+c-d",
+    ),
     (
         "a|c / members a c / include /w/x",
         "no root crates available",
@@ -38,11 +61,26 @@ const SETTINGS: &[Row] = &[
         "a|c / members a c / root a / workspace on / workspace off",
         "+a-c",
     ),
+    // every dependency of a name, and the least
+    (
+        "a d?;x=dep:d|d@0.10.0|d@0.9.0 / nodes a d@0.10.0 d@0.9.0;x|d@0.10.0|d@0.9.0 / names all",
+        "+a+d=d@0.10.0+d=d@0.9.0",
+    ),
+    (
+        "a d?;x=dep:d|d@0.10.0|d@0.9.0 / nodes a d@0.10.0 d@0.9.0;x|d@0.10.0|d@0.9.0 / names all / names least",
+        "+a+d=d@0.10.0-d=d@0.9.0",
+    ),
     // packages that are left out
     ("a b|b c|c / without b", "+a-b-c"),
     ("a b|b c|c / without a", "no root crates available"),
+    (
+        "a|c / members a c / root a / without a",
+        "no root crates available",
+    ),
     // of another version
     ("a b|b c|c / without b@0.2.0", "+a+b+c"),
+    // more packages beside those that were left out before
+    ("a b c|b|c / without b / without c", "+a-b-c"),
     // the node of a package that is left out may be missing
     ("a b|b / nodes a b / without b", "+a-b"),
     // and so may the feature of it that a reference names
@@ -65,6 +103,15 @@ const SETTINGS: &[Row] = &[
     ("a b&on=cfg(unix)|b / for x86_64-pc-windows-msvc", "+a-b"),
     (
         "a b&on=cfg(unix)|b / for x86_64-pc-windows-msvc x86_64-unknown-linux-gnu",
+        "+a+b",
+    ),
+    // more targets beside those that were set before
+    (
+        "a b&on=cfg(unix)|b / for x86_64-unknown-linux-gnu / for x86_64-pc-windows-msvc",
+        "+a+b",
+    ),
+    (
+        "a b&on=cfg(unix)|b / for x86_64-pc-windows-msvc / for x86_64-unknown-linux-gnu",
         "+a+b",
     ),
     // a feature is looked up among those given with the target, of which nothing else need be known
@@ -122,8 +169,35 @@ const CHAINED: &[Row] = &[
     ("a b d&dev|b f|d|f", "+a+b-d-f"),
 ];
 
+/// What is kept and reported of a document by a builder that is made with the setting of its line.
+struct Under;
+
+impl Tell for Under {
+    fn tell(told: &mut Text, line: &str) -> Result<(), Fail> {
+        let metadata = metadata_of(told.allocator(), line)?;
+        let setting = setting_of(told.allocator(), line)?;
+        let builder = Builder::under(told.allocator(), setting);
+        push_outcome(told, builder, metadata);
+        Ok(())
+    }
+}
+
+const UNDER: &[Row] = &[
+    // of two crates that are included one is left out, and a third member isn't included; a kind is ignored, and a target set
+    (
+        "a b&on=cfg(unix) c&dev|b|c|d|e / members a d e / include /w/a /w/d / without d / ignore dev all / for x86_64-unknown-linux-gnu",
+        "+a+b-c-d-e",
+    ),
+    // every member, and every dependency of a name
+    (
+        "a d?;x=dep:d|c|d@0.10.0|d@0.9.0 / nodes a d@0.10.0 d@0.9.0;x|c|d@0.10.0|d@0.9.0 / members a c / root a / workspace on / names all",
+        "+a+c+d=d@0.10.0+d=d@0.9.0",
+    ),
+];
+
 #[test]
 fn settings_and_the_order_of_versions(rt: HostRuntime) -> Result<(), Fail> {
     hold::<Built>(rt.alloc(), SETTINGS)?;
-    hold::<Chained>(rt.alloc(), CHAINED)
+    hold::<Chained>(rt.alloc(), CHAINED)?;
+    hold::<Under>(rt.alloc(), UNDER)
 }
