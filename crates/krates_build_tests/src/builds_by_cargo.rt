@@ -5,7 +5,7 @@ ghost use Rattle.std.specs.Prelude.{⊤};
 use crate::builders::builder_of;
 use crate::building::push_count;
 use crate::stand_in::command;
-use crate::table::{Question, hold_beginnings};
+use crate::table::{Question, hold_runs};
 use krates::cm::MetadataCommand;
 use krates::{Error, Krates, OnFilter, Package};
 use krates_samples::table::Row;
@@ -27,8 +27,8 @@ impl OnFilter for Count {
     }
 }
 
-/// The last word of a run of cargo, with `/ ignore dev` after it where the build ignores what is needed for tests, and how the answer
-/// of that build begins, with how many packages the filter was called. Where it is ignored, a build that isn't refused reports one.
+/// The last word of a run of cargo, with `/ ignore dev` after it where the build ignores what is needed for tests, and the answer
+/// of that build, after how many packages the filter was handed. Where it is ignored, a build that isn't refused reports one.
 const BUILDS: &[Row] = &[
     ("x", "0 reported, 2 kept"),
     ("x / ignore dev", "1 reported, 1 kept"),
@@ -38,20 +38,20 @@ const BUILDS: &[Row] = &[
     ),
     (
         "--fake=badout / ignore dev",
-        "0 reported, cannot convert the stdout of `cargo metadata`: ",
+        "0 reported, cannot convert the stdout of `cargo metadata`: invalid utf-8 sequence of 1 bytes from index 0",
     ),
     (
         "--fake=baderr / ignore dev",
-        "0 reported, cannot convert the stderr of `cargo metadata`: ",
+        "0 reported, cannot convert the stderr of `cargo metadata`: invalid utf-8 sequence of 1 bytes from index 0",
     ),
     (
         "--fake=nojson / ignore dev",
         "0 reported, could not find any json in the output of `cargo metadata`",
     ),
-    // a program that isn't there
+    // a program that isn't there: after the colon the operating system's words
     (
         "/no/such/program / ignore dev",
-        "0 reported, failed to start `cargo metadata`: ",
+        "0 reported, failed to start `cargo metadata`: No such file or directory (os error 2)",
     ),
 ];
 
@@ -82,5 +82,5 @@ impl Question for Built {
 
 #[test]
 fn builds(rt: HostRuntime) -> Result<(), Fail> {
-    hold_beginnings::<Built>(&rt, BUILDS)
+    hold_runs::<Built>(&rt, BUILDS)
 }

@@ -1,7 +1,6 @@
 //! The command: the words that cargo is run with, the command of a tool's options, and what is read from cargo's output.
 
 use crate::starved_commands::parts;
-use crate::table::{Question, hold_beginnings};
 use krates_cargo::{Cmd, Features, LockOptions, MetadataCommand};
 use krates_cm::{Error, Metadata};
 use krates_samples::stand_in::DOCUMENT;
@@ -32,6 +31,10 @@ const COMMANDS: &[Row] = &[
         "no-default all no-default",
         "features given twice! cargo in none: metadata|--format-version|1|--all-features|--no-default-features",
     ),
+    (
+        "no-deps selected=x,y all no-default manifest=p other=--z all",
+        "features given twice! cargo in none: metadata|--format-version|1|--no-deps|--features|x,y|--all-features|--no-default-features|--manifest-path|p|--z",
+    ),
     // of several values the last counts
     (
         "cargo=q cargo=p dir=/c dir=/d manifest=a manifest=b",
@@ -58,6 +61,10 @@ const BECOMES: &[Row] = &[
     ("manifest=", "manifest path without parent"),
     ("dir=", "cargo in .: metadata|--format-version|1"),
     (
+        "no-default all feature=c lock other=--z",
+        "cargo in none: metadata|--format-version|1|--no-default-features|--all-features|--features|c|--frozen|--locked|--offline|--z",
+    ),
+    (
         "lock other=--y other=--z no-default all feature=c",
         "cargo in none: metadata|--format-version|1|--no-default-features|--all-features|--features|c|--frozen|--locked|--offline|--y|--z",
     ),
@@ -73,13 +80,16 @@ const JSON_LINES: &[Row] = &[
 ];
 
 /// Texts; or what cargo wrote, to standard output where it succeeded and else to standard error, where `\xff` is a byte that isn't UTF-8;
-/// and what is read of that, or how the refusal begins.
+/// and what is read of that, or the refusal.
 const READ: &[Row] = &[
     (DOCUMENT, "2 packages"),
-    ("{", "failed to interpret `cargo metadata`'s json: "),
     (
-        "{\"packages\":[]}",
-        "failed to interpret `cargo metadata`'s json: missing key: ",
+        "{",
+        "failed to interpret `cargo metadata`'s json: EOF while parsing at line 1 column 1",
+    ),
+    (
+        r#"{"packages":[],"workspace_members":[],"workspace_root":"/w"}"#,
+        "failed to interpret `cargo metadata`'s json: missing key: target_directory",
     ),
     (
         "out: hello\n",
@@ -91,19 +101,19 @@ const READ: &[Row] = &[
     ),
     (
         "out: {\n{}",
-        "failed to interpret `cargo metadata`'s json: ",
+        "failed to interpret `cargo metadata`'s json: EOF while parsing at line 1 column 1",
     ),
     (
-        "out: a warning\n{\"packages\":[]}\n",
-        "failed to interpret `cargo metadata`'s json: missing key: ",
+        "out: a warning\n{\"packages\":[],\"workspace_members\":[],\"workspace_root\":\"/w\"}\n",
+        "failed to interpret `cargo metadata`'s json: missing key: target_directory",
     ),
     (
         "out: \\xff",
-        "cannot convert the stdout of `cargo metadata`: ",
+        "cannot convert the stdout of `cargo metadata`: invalid utf-8 sequence of 1 bytes from index 0",
     ),
     (
         "err: \\xff",
-        "cannot convert the stderr of `cargo metadata`: ",
+        "cannot convert the stderr of `cargo metadata`: invalid utf-8 sequence of 1 bytes from index 0",
     ),
 ];
 
@@ -195,6 +205,34 @@ impl Tell for OfCommand {
     }
 }
 
+/// Settings of a command, after a bar and the program that is handed in, if there is one; and the program that it runs.
+const PROGRAMS: &[Row] = &[
+    ("|", "cargo"),
+    ("q|", "q"),
+    ("|cargo=p", "p"),
+    // its own before the one that is handed in
+    ("q|cargo=p", "p"),
+];
+
+/// The program that a command runs.
+struct Program;
+
+impl Tell for Program {
+    fn tell(told: &mut Text, line: &str) -> Result<(), Fail> {
+        let (handed_in, settings) = line.split_once('|').unwrap_or((line, ""));
+        let cargo = if handed_in.is_empty() {
+            None
+        } else {
+            Some(handed_in)
+        };
+        let mut command = MetadataCommand::new(told.allocator());
+        set_all(told, &mut command, settings);
+        let process = command.cargo_command(cargo)?;
+        write!(told, "{}", process.get_program());
+        Ok(())
+    }
+}
+
 /// Sets what a word says.
 fn ask(alloc: Global, cmd: &mut Cmd, word: &str) -> Result<(), AllocError> {
     let (setter, value) = word.split_once('=').unwrap_or((word, ""));
@@ -280,17 +318,18 @@ pub(crate) fn push_read(told: &mut Text, parsed: Result<Metadata, Error>) {
 /// What is read of a text, or of what cargo wrote.
 struct Read;
 
-impl Question for Read {
-    fn tell(told: &mut Text, rt: &HostRuntime, line: &str) -> Result<(), Fail> {
+impl Tell for Read {
+    fn tell(told: &mut Text, line: &str) -> Result<(), Fail> {
+        let alloc = told.allocator();
         let (to, text) = line.split_once(": ").unwrap_or(("", line));
         let bytes = match text {
             "\\xff" => b"\xff",
             _ => text.as_bytes(),
         };
         let parsed = match to {
-            "out" => MetadataCommand::interpret(rt.alloc(), true, bytes, b""),
-            "err" => MetadataCommand::interpret(rt.alloc(), false, b"", bytes),
-            _ => MetadataCommand::parse(rt.alloc(), line),
+            "out" => MetadataCommand::interpret(alloc, true, bytes, b""),
+            "err" => MetadataCommand::interpret(alloc, false, b"", bytes),
+            _ => MetadataCommand::parse(alloc, line),
         };
         push_read(told, parsed);
         Ok(())
@@ -301,13 +340,14 @@ impl Question for Read {
 fn commands_options_and_what_is_read(rt: HostRuntime) -> Result<(), Fail> {
     hold::<OfCommand>(rt.alloc(), COMMANDS)?;
     hold::<OfOptions>(rt.alloc(), BECOMES)?;
+    hold::<Program>(rt.alloc(), PROGRAMS)?;
     hold::<JsonLine>(rt.alloc(), JSON_LINES)?;
-    hold_beginnings::<Read>(&rt, READ)
+    hold::<Read>(rt.alloc(), READ)
 }
 
 #[test]
 fn a_copy_of_features_holds_the_same(rt: HostRuntime) -> Result<(), Fail> {
-    let features = Features::Selected(parts(rt.alloc(), "x,y", ',')?);
+    let features = Features::Selected(parts(rt.alloc(), "x", ',')?);
     let copy = format!(in rt.alloc(); "{:?}", features.clone()?)?;
-    compare("x,y", copy.as_str(), r#"Selected(["x", "y"])"#)
+    compare("x", copy.as_str(), r#"Selected(["x"])"#)
 }

@@ -1,7 +1,7 @@
 //! The runs, and the substitute for cargo in them.
 
 use crate::command::push_read;
-use crate::table::{Question, hold_beginnings};
+use crate::table::{Question, hold_runs};
 use krates_cargo::MetadataCommand;
 use krates_cm::Error;
 use krates_samples::stand_in::answer;
@@ -10,8 +10,7 @@ use krates_text::text::Text;
 use std::io::Write;
 use std::test::Fail;
 
-/// The last word of a run, after `verbose` where that is set, and how what is read from it begins, with a full stop after it; and a program
-/// that isn't there.
+/// The last word of a run, after `verbose` where that is set, and what is read from it; and a program that isn't there.
 const RUNS: &[Row] = &[
     ("x", "2 packages"),
     (
@@ -20,11 +19,11 @@ const RUNS: &[Row] = &[
     ),
     (
         "--fake=badout",
-        "cannot convert the stdout of `cargo metadata`: ",
+        "cannot convert the stdout of `cargo metadata`: invalid utf-8 sequence of 1 bytes from index 0",
     ),
     (
         "--fake=baderr",
-        "cannot convert the stderr of `cargo metadata`: ",
+        "cannot convert the stderr of `cargo metadata`: invalid utf-8 sequence of 1 bytes from index 0",
     ),
     (
         "--fake=nojson",
@@ -41,9 +40,13 @@ const RUNS: &[Row] = &[
     // what a verbose run writes as an error goes to the standard error of this program, and isn't collected
     (
         "verbose --fake=fail",
-        "`cargo metadata` exited with an error: .",
+        "`cargo metadata` exited with an error: ",
     ),
-    ("/no/such/program", "failed to start `cargo metadata`: "),
+    // after the colon the operating system's words
+    (
+        "/no/such/program",
+        "failed to start `cargo metadata`: No such file or directory (os error 2)",
+    ),
 ];
 
 /// Writes what the last word says, if words follow the name of the test, and returns the status.
@@ -80,7 +83,8 @@ pub(crate) fn command(rt: &HostRuntime, last: &str) -> Result<MetadataCommand, F
     Ok(command)
 }
 
-/// What is read of a run with this last word, or of a run of this program.
+/// What is read of a run with this last word, by a copy of the command, whose own program counts and not the one that is handed in; or of a run
+/// of this program, which is handed in.
 struct Ran;
 
 impl Question for Ran {
@@ -91,13 +95,12 @@ impl Question for Ran {
         }
         let mut command = command(rt, line.trim_start_matches("verbose "))?;
         command.verbose(line.starts_with("verbose"));
-        push_read(told, command.exec(None, rt));
-        told.push_str(".");
+        push_read(told, command.clone()?.exec(Some("/no/such/program"), rt));
         Ok(())
     }
 }
 
 #[test]
 fn runs(rt: HostRuntime) -> Result<(), Fail> {
-    hold_beginnings::<Ran>(&rt, RUNS)
+    hold_runs::<Ran>(&rt, RUNS)
 }
