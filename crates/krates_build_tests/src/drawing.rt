@@ -5,6 +5,7 @@
 //! as its two numbers: with `>` between them for a dependency, `=` for a dependency on a feature, and `:` for what a feature
 //! enables. After it comes the kind of dependency, where it isn't the normal one.
 
+use crate::facts::push_purpose;
 use crate::of_graph::{OfGraph, Told};
 use krates::graph::GraphEdge;
 use krates::{DepKind, Edge, Krates, Node, NodeId, Package};
@@ -29,6 +30,16 @@ fn mark_of(edge: &Edge) -> (&'static str, DepKind) {
         Edge::Dep { kind, .. } => (">", *kind),
         Edge::DepFeature { kind, .. } => ("=", *kind),
         Edge::Feature => (":", DepKind::Normal),
+    }
+}
+
+/// Adds all that an edge says: its mark, its kind and its target.
+pub(crate) fn push_edge(text: &mut Text, edge: &Edge) {
+    text.push_str(mark_of(edge).0);
+    match edge {
+        Edge::Dep { kind, cfg } => push_purpose(text, *kind, cfg.as_deref()),
+        Edge::DepFeature { kind, cfg } => push_purpose(text, *kind, cfg.as_deref()),
+        Edge::Feature => {}
     }
 }
 
@@ -120,6 +131,26 @@ const GRAPHS: &[Row] = &[
     // features that name each other, and one that names itself
     ("a;f=g g=f", "a 0/f 0/g | 1:0 1:2 2:0 2:1"),
     ("a;f=f", "a 0/f | 1:0 1:1"),
+    // two weak references, which come before what brings the dependency
+    (
+        "a b?;p=b?/j q=b?/k z=dep:b|b;j= k=",
+        "a[1] b 0/p 0/q 0/z 1/j 1/k | 0>1 0:5 0:6 2:0 2:5 3:0 3:6 4:0 4:1 5:1 6:1",
+    ),
+    // the kinds of a dependency in the order in which the node has them
+    (
+        "a b b&dev b&build|b / nodes a b&dev&build&normal|b",
+        "a[1][1][1] b | 0>1(dev) 0>1(build) 0>1",
+    ),
+    // the features that a dependency requires in its order, as often as it names them, and then the default one
+    (
+        "a b!&with=z,y,z|b;default= y= z=",
+        "a[1] b 1/default 1/y 1/z | 0=4 0=3 0=4 0=2 2:1 3:1 4:1",
+    ),
+    // what a crate toggles by name, and what a feature leads to in the order of its references
+    (
+        "a b?;u= v= x=v,b/z,u,b/y,dep:b|b;y= z=",
+        "a[1] b 0/u 0/v 0/x 1/y 1/z | 0>1 0:5 0:6 2:0 3:0 4:0 4:3 4:6 4:2 4:5 4:1 5:1 6:1",
+    ),
     // a name that means the least of two versions, and both
     (
         "a d?;x=dep:d|d@0.10.0|d@0.9.0 / nodes a d@0.10.0 d@0.9.0;x|d@0.10.0|d@0.9.0",

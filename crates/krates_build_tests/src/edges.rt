@@ -1,10 +1,11 @@
 //! What the graph of a build answers along its edges: direct dependencies and dependents, what a node leads to, and
 //! what members reach without a kind of edge.
 
+use crate::drawing::push_edge;
 use crate::of_graph::{OfGraph, Told, push_marked};
 use krates::graph::Direction;
 use krates::{DepKind, EdgeId, Krates, Node, NodeId, Package};
-use krates_samples::documents::word_of;
+use krates_samples::documents::{kind_named, section, word_of};
 use krates_samples::table::{Row, hold};
 use krates_text::text::Text;
 use std::alloc::AllocError;
@@ -66,6 +67,11 @@ const DIRECT: &[Row] = &[
     (
         "a b!&with=default|b;default= / nodes a b|b;default",
         " 0>1 b by 0 1<0 a by 0 2<0 a by 0",
+    ),
+    // edges into two features of one crate
+    (
+        "a b&with=x c|b;x= y=|c b&with=y",
+        " 0>1 b by 0 0>2 c by 1 1<0 a by 0 1<2 c by 2 2<0 a by 1 2>1 b by 2 3<0 a by 0 4<2 c by 2",
     ),
     // two crates by one declared dependency: the mapping has one, and both have the dependent
     (
@@ -139,15 +145,16 @@ fn push_resolved(text: &mut Text, krates: &Krates, node: NodeId, place: usize) {
     }
 }
 
-/// Adds after a bar what is at the ends of a node's edges, the name of a crate, or a plus sign and the name of a feature; and what its
-/// first two declared dependencies mean.
+/// Adds after a bar what is at the ends of a node's edges, the name of a crate, or a plus sign and the name of a feature, each with what
+/// the edge says; and what its first two declared dependencies mean.
 fn push_ends(text: &mut Text, krates: &Krates, node: NodeId) {
     text.push_str("|");
-    for (end, _) in krates.get_deps(node) {
+    for (end, edge) in krates.get_deps(node) {
         match end {
             Node::Krate { krate, .. } => push_marked(text, " ", krate.name.as_str()),
             Node::Feature { name, .. } => push_marked(text, " +", name.as_str()),
         }
+        push_edge(text, edge);
     }
     push_resolved(text, krates, node, 0);
     push_resolved(text, krates, node, 1)
@@ -160,7 +167,7 @@ fn push_numbers(text: &mut Text, edges: &[EdgeId]) {
     }
 }
 
-/// The ends of the edges of the nodes 0, 2, 3 and 9, and the numbers of the edges of 0 and into 1.
+/// The ends of the edges of the nodes 0, 2, 3 and 9, with the edges, and the numbers of the edges of 0 and into 1.
 struct Ends;
 
 impl Told<Package> for Ends {
@@ -182,17 +189,25 @@ impl Told<Package> for Ends {
     }
 }
 
-const ENDS: &[Row] = &[(
-    "a b?;b=dep:b w=b?/j|b;j= / nodes a b;b w|b;j",
-    "| b +j =b -| a b - -| a +j - -| - - 0 1 into 0 3 6",
-)];
+const ENDS: &[Row] = &[
+    (
+        "a b?;b=dep:b w=b?/j|b;j= / nodes a b;b w|b;j",
+        "| b> +j: =b -| a: b: - -| a: +j: - -| - - 0 1 into 0 3 6",
+    ),
+    // edges that differ
+    (
+        "a b&dev c&build&on=cfg(unix) d&with=f|b|c|d;f=",
+        "| b>:dev c>:build:cfg(unix) +f= =b =c| - -| - -| - - 0 1 2 into 0",
+    ),
+];
 
-/// The crates that members reach without edges of dev dependencies.
+/// The crates that members reach without edges of the kind in the section `ask`.
 struct Filtered;
 
 impl Told<Package> for Filtered {
-    fn push(text: &mut Text, krates: &Krates, _line: &str) -> Result<(), Fail> {
-        for krate in &krates.krates_filtered(DepKind::Dev)? {
+    fn push(text: &mut Text, krates: &Krates, line: &str) -> Result<(), Fail> {
+        let kind = DepKind::from(kind_named(section(line, "ask ").unwrap_or("")));
+        for krate in &krates.krates_filtered(kind)? {
             write!(text, "{} ", krate.name);
         }
         Ok(())
@@ -200,10 +215,18 @@ impl Told<Package> for Filtered {
 }
 
 const FILTERED: &[Row] = &[
-    ("a b c&dev|b|c d|d", "a b "),
+    ("a b c&dev|b|c d|d / ask dev", "a b "),
     // a feature leads on where its crate's dependency doesn't
-    ("a b&dev;x=b/y|b;y=", "a b "),
-    ("a a&dev", "a "),
+    ("a b&dev;x=b/y|b;y= / ask dev", "a b "),
+    ("a a&dev / ask dev", "a "),
+    // each kind, and what is needed beyond it
+    ("a b c&dev d&build|b|c e|d e|e / ask normal", "a c d "),
+    ("a b c&dev d&build|b|c e|d e|e / ask build", "a b c e "),
+    ("a b c&dev d&build|b|c e|d e|e / ask dev", "a b d e "),
+    // the way to a feature is of the kind too
+    ("a b&build&with=y|b;y= / ask build", "a "),
+    ("a b&build&with=y|b;y= / ask normal", "a b "),
+    ("a b&with=y|b;y= / ask normal", "a "),
 ];
 
 #[test]

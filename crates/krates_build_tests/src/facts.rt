@@ -15,7 +15,7 @@ use std::alloc::Global;
 use std::test::Fail;
 
 /// Adds what follows the child of a kept edge: its kind, where it isn't normal, and its target.
-fn push_purpose(text: &mut Text, kind: DepKind, cfg: Option<&str>) {
+pub(crate) fn push_purpose(text: &mut Text, kind: DepKind, cfg: Option<&str>) {
     let word = match kind {
         DepKind::Normal => "",
         DepKind::Build => "build",
