@@ -1,4 +1,4 @@
-//! Which declared dependency an edge has, where its package declares one several times.
+//! Which declared dependency an edge has: the one whose name, version requirement and source fit.
 
 use crate::building::Built;
 use krates_document::declared_source::is_path_of;
@@ -64,8 +64,117 @@ const DECLARED_TWICE: &[Row] = &[
     ),
 ];
 
+const SOURCES: &[Row] = &[
+    // of two that fit one has neither a source nor a path
+    ("a d? d&at=/w/d|d / nodes a d|d", "+a+d"),
+    (
+        "a d? d|d / nodes a d|d",
+        "undeclared dependency: path+file:///w/d#0.1.0 of path+file:///w/a#0.1.0",
+    ),
+    // the first of two with the source
+    ("a d? d? d&at=/w/d d?&at=/w/d|d / nodes a d|d", "+a+d"),
+    // a source is compared as a text, and counts before a path
+    (
+        "a p?&from=registry+https://x.org/i p&from=registry+https://github.com/rust-lang/crates.io-index|p@1.0.0&crates.io / nodes a p@1.0.0&crates.io|p@1.0.0&crates.io",
+        "+a+p=registry+https://github.com/rust-lang/crates.io-index#p@1.0.0",
+    ),
+    (
+        "a d?&from=registry+https://x.org/i&at=/w/d d&at=/w/d|d / nodes a d|d",
+        "+a+d",
+    ),
+    // one alone needs no source
+    ("a d&from=registry+https://x.org/i|d / nodes a d|d", "+a+d"),
+    // a name with a hyphen that fits beside one with an underscore
+    ("a x_y? x-y&at=/w/x_y|x_y / nodes a x_y|x_y", "+a+x_y"),
+];
+
+const REQUIRED: &[Row] = &[
+    // a requirement that the version fits, and one that it doesn't
+    ("a b&req=^0.1|b", "+a+b"),
+    ("a b&req=>=0.1,<0.2|b", "+a+b"),
+    (
+        "a b&req=^0.2|b",
+        "undeclared dependency: path+file:///w/b#0.1.0 of path+file:///w/a#0.1.0",
+    ),
+    (
+        "a b&req=>=0.1,<0.1.0|b",
+        "undeclared dependency: path+file:///w/b#0.1.0 of path+file:///w/a#0.1.0",
+    ),
+    // of two that are declared the one whose requirement fits counts, which is optional or not
+    (
+        "a d&req=^0.9 d?&req=^0.10|d@0.10.0 / nodes a d@0.10.0|d@0.10.0",
+        "+a-d=d@0.10.0",
+    ),
+    (
+        "a d?&req=^0.9 d&req=^0.10|d@0.10.0 / nodes a d@0.10.0|d@0.10.0",
+        "+a+d=d@0.10.0",
+    ),
+    // even where the other has the source
+    (
+        "a d?&req=^1&at=/w/d d&req=^0.9&at=/w/e|d@0.9.0 / nodes a d@0.9.0|d@0.9.0",
+        "+a+d=d@0.9.0",
+    ),
+    // a pre-release fits a requirement without a comparator, and one that names a pre-release of its version
+    ("a b@1.0.0-beta|b@1.0.0-beta", "+a+b=b@1.0.0-beta"),
+    (
+        "a b@1.0.0-beta&req=>=1.0.0-alpha|b@1.0.0-beta",
+        "+a+b=b@1.0.0-beta",
+    ),
+    // and no other
+    (
+        "a b@1.0.0-beta&req=>=0.9|b@1.0.0-beta",
+        "undeclared dependency: path+file:///w/b#b@1.0.0-beta of path+file:///w/a#0.1.0",
+    ),
+    (
+        "a b@1.0.0-beta&req=>=0.9.0-alpha|b@1.0.0-beta",
+        "undeclared dependency: path+file:///w/b#b@1.0.0-beta of path+file:///w/a#0.1.0",
+    ),
+];
+
+const NAMED: &[Row] = &[
+    // cargo's name for a dependency has an underscore where the manifest has a hyphen
+    ("a real&as=x-y|real / nodes a real&as=x_y|real", "+a+real"),
+    // never the other way round
+    (
+        "a real&as=x_y|real / nodes a real&as=x-y|real",
+        "undeclared dependency: path+file:///w/real#0.1.0 of path+file:///w/a#0.1.0",
+    ),
+    // as a whole, letter by letter
+    (
+        "a real&as=x-y|real / nodes a real&as=x|real",
+        "undeclared dependency: path+file:///w/real#0.1.0 of path+file:///w/a#0.1.0",
+    ),
+    (
+        "a real&as=x|real / nodes a real&as=X|real",
+        "undeclared dependency: path+file:///w/real#0.1.0 of path+file:///w/a#0.1.0",
+    ),
+    // the name in the id, where that of the node is another
+    ("a b-c|b_c / nodes a b_c&as=q|b_c", "+a+b_c"),
+    (
+        "a b_c|b-c / nodes a b-c&as=q|b-c",
+        "undeclared dependency: path+file:///w/b-c#0.1.0 of path+file:///w/a#0.1.0",
+    ),
+    // the name of a package isn't that of the dependency where it is renamed
+    (
+        "a real&as=x|real / nodes a real|real",
+        "undeclared dependency: path+file:///w/real#0.1.0 of path+file:///w/a#0.1.0",
+    ),
+    // references likewise
+    (
+        "a real?&as=x-y;f=dep:x-y|real / nodes a real&as=x_y;f|real",
+        "+a+real",
+    ),
+    (
+        "a real?&as=x-y;f=dep:x_y|real / nodes a real&as=x-y;f|real",
+        "+a-real",
+    ),
+];
+
 #[test]
-fn paths_of_sources_and_dependencies_declared_twice(rt: HostRuntime) -> Result<(), Fail> {
+fn paths_requirements_names_and_sources(rt: HostRuntime) -> Result<(), Fail> {
     hold::<IsPathOf>(rt.alloc(), PATHS)?;
-    hold::<Built>(rt.alloc(), DECLARED_TWICE)
+    hold::<Built>(rt.alloc(), DECLARED_TWICE)?;
+    hold::<Built>(rt.alloc(), SOURCES)?;
+    hold::<Built>(rt.alloc(), REQUIRED)?;
+    hold::<Built>(rt.alloc(), NAMED)
 }
