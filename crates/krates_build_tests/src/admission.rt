@@ -42,7 +42,8 @@ const DOCUMENTS: &[Row] = &[
     ("a&id=a~b|b / nodes", "invalid package id: a b"),
     ("a|b / nodes / root &id=y", "invalid package id: y"),
     ("a|b / nodes z&id=z", "invalid package id: z"),
-    // a version that isn't semantic
+    // a version that isn't semantic: of what a node depends on, and only there
+    ("a|b&id=path+file:///w/b#b@1 / nodes a", "2 packages"),
     (
         "a|b / nodes a b@1",
         "invalid package id: path+file:///w/b#b@1",

@@ -1,12 +1,11 @@
 //! Builds with an index: whether and for what it is asked, and which packages the filter is given.
 
-ghost use Rattle.std.specs.Prelude.{⊤};
-
+use crate::builders::builder_of;
 use crate::building::{Reported, push_built, push_count};
 use krates::index::{
     BuildIndexCache, FeaturesMap, IndexAnswer, IndexKrate, IndexKrateVersion, PackageNames,
 };
-use krates::{Builder, Error, Krates, OnFilter, Package};
+use krates::{Error, FilterFn, Krates, Package};
 use krates_samples::documents::{metadata, section};
 use krates_samples::table::{Row, Tell, hold};
 use krates_text::text::Text;
@@ -27,13 +26,27 @@ fn tally_of(names: &PackageNames) -> u8 {
     }
 }
 
-/// What a build reports, and how often its index was asked.
+/// An index without crates, a call of which counts a hundred.
+fn first_index(alloc: Global, calls: &Rc<Cell<u8>>) -> Result<BuildIndexCache, Fail> {
+    let counted = calls.clone()?;
+    let build: BuildIndexCache = Box::new(alloc, move |names: PackageNames| {
+        drop(names);
+        counted.set(counted.get().wrapping_add(100));
+        IndexAnswer {
+            krates: BTreeMap::new(alloc),
+        }
+    })?;
+    Ok(build)
+}
+
+/// What a build reports, and how often its indexes were asked: of the two that are set, the second takes the place of the first.
 struct AskedFor;
 
 impl Tell for AskedFor {
     fn tell(told: &mut Text, line: &str) -> Result<(), Fail> {
         let alloc = told.allocator();
         let calls = Rc::new(alloc, Cell::new(0u8))?;
+        let first = first_index(alloc, &calls)?;
         let counted = calls.clone()?;
         let build: BuildIndexCache = Box::new(alloc, move |names: PackageNames| {
             counted.set(counted.get().wrapping_add(tally_of(&names)));
@@ -42,7 +55,8 @@ impl Tell for AskedFor {
             }
         })?;
         let metadata = metadata(alloc, line)?;
-        let mut builder = Builder::new(alloc);
+        let mut builder = builder_of(alloc, line)?;
+        builder.with_crates_io_index(first);
         builder.with_crates_io_index(build);
         let text = Text::new(alloc);
         let mut reported = Reported { text };
@@ -73,25 +87,14 @@ const ASKED_FOR: &[Row] = &[
     ),
     ("a b|b / members a &id=x", "invalid package id: x, asked 0"),
     (
+        "a|a|b / nodes a|b",
+        "doubled id: path+file:///w/a#0.1.0, asked 0",
+    ),
+    (
         "a b|b|b / nodes a b|b",
         "doubled id: path+file:///w/b#0.1.0, asked 0",
     ),
 ];
-
-/// How many features the packages have that aren't kept.
-#[derive(Drop)]
-struct Features {
-    count: usize,
-}
-
-impl OnFilter for Features {
-    ghost filters = { λ _ _ _. ⊤ };
-
-    fn filtered(&mut self, pkg: Package) {
-        self.count = self.count.saturating_add(pkg.features.len());
-        drop(pkg);
-    }
-}
 
 /// The one feature that `NAME=REFERENCE` says.
 fn features_of(alloc: Global, feature: &str) -> Result<FeaturesMap, Fail> {
@@ -130,7 +133,13 @@ pub(crate) fn answer_of(alloc: Global, text: &str) -> Result<IndexAnswer, Fail> 
     Ok(answer)
 }
 
-/// How many crates are kept, or the refusal, and how many features the reported packages have, with the index of the line.
+/// Adds a package that isn't kept, with the number of its features, and drops it.
+fn push_reported(names: &mut Text, pkg: Package) {
+    write!(names, " {}:{}", pkg.name, pkg.features.len());
+    drop(pkg);
+}
+
+/// How many crates are kept, or the refusal, and what a closure is handed, with the index of the line.
 struct Corrected;
 
 impl Tell for Corrected {
@@ -142,12 +151,15 @@ impl Tell for Corrected {
             answer
         })?;
         let metadata = metadata(alloc, line)?;
-        let mut builder = Builder::new(alloc);
+        let mut builder = builder_of(alloc, line)?;
         builder.with_crates_io_index(build);
-        let mut reported = Features { count: 0 };
-        let built: Result<Krates, Error> = builder.build_with_metadata(metadata, &mut reported);
+        let mut names = Text::new(alloc);
+        let built: Result<Krates, Error> = {
+            let mut filter = FilterFn(|pkg: Package| push_reported(&mut names, pkg));
+            builder.build_with_metadata(metadata, &mut filter)
+        };
         push_count(told, &built);
-        write!(told, ", {} reported", reported.count);
+        write!(told, ", closure{}", names.as_str());
         Ok(())
     }
 }
@@ -156,20 +168,25 @@ const CORRECTED: &[Row] = &[
     // a package of crates.io that isn't kept, whose manifest has one feature
     (
         "a|p@1.0.0&crates.io;default=std / nodes a / index p@1.0.0 std",
-        "1 kept, 2 reported",
+        "1 kept, closure p:2",
     ),
     (
         "a|p@1.0.0&crates.io;default=std / nodes a / index p@1.0.1 std",
-        "1 kept, 1 reported",
+        "1 kept, closure p:1",
+    ),
+    // of two versions the index knows one
+    (
+        "a|p@0.9.0&crates.io|p@1.0.0&crates.io / nodes a / index p@1.0.0 std",
+        "1 kept, closure p:0 p:1",
     ),
     // the index lets the default features of the crate, or of one that the document lacks, name one that no node lists
     (
         "a b!|b@1.0.0&crates.io|p;x= / nodes a b@1.0.0&crates.io|b@1.0.0&crates.io;default / index b@1.0.0 default=std",
-        "lost feature: std of registry+https://github.com/rust-lang/crates.io-index#b@1.0.0, 0 reported",
+        "lost feature: std of registry+https://github.com/rust-lang/crates.io-index#b@1.0.0, closure",
     ),
     (
         "a b!|b@1.0.0&crates.io|p;x= / nodes a b@1.0.0&crates.io|b@1.0.0&crates.io;default / index z@1.0.0 default=std",
-        "2 kept, 1 reported",
+        "2 kept, closure p:1",
     ),
 ];
 
