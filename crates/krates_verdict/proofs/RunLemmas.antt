@@ -48,11 +48,11 @@ some_bytes (Some known) = (known, refl)
 unread : (s : SubjectModel) (left : Option Text) (e : Refusal) → IsOfReader e → RunRefusal s left e
 unread s left (refusals.Read cause) h = let w = some_bytes left in record { bytes = w.0; all = w.1; so = tt }
 unread s left refusals.Memory h = let w = some_bytes left in record { bytes = w.0; all = w.1; so = tt }
-unread s left refusals.Utf8 h = absurd h
-unread s left (refusals.Certificate _) h = absurd h
-unread s left (refusals.Setting _) h = absurd h
-unread s left (refusals.Check _) h = absurd h
-unread s left (refusals.Write _) h = absurd h
+unread s left refusals.Utf8 h = absurd h.1
+unread s left (refusals.Certificate _) h = absurd h.1
+unread s left (refusals.Setting _) h = absurd h.1
+unread s left (refusals.Check _) h = absurd h.1
+unread s left (refusals.Write _) h = absurd h.1
 
 -- a run without bytes is refused so
 pub run_unread : (s : SubjectModel) (left : Option Text) (e same : Refusal) → IsOfReader e → same ≡ e → RunRefusal s left same

@@ -1,6 +1,9 @@
 -- What the refusals of the crates below become, and what is printed of a refusal.
 use Rattle.std.specs.Prelude.{◌≡◌, List, [], ◌∷◌, ◌++◌, Option, Some, None, codes}
 use Rattle.std.specs.Fmt.{decimal, option_append}
+use Rattle.std.specs.IoError.{error_kind}
+use Rattle.std.specs.declared.io.Error as io
+use Rattle.std.specs.declared.io.ErrorKind.TheVariants as io_kinds
 use Rattle.krates_cm.specs.Document.{Text, texts_view}
 use Rattle.krates_certificate.specs.CertificateRefusals.{IsMemory, fault_of}
 use Rattle.krates_certificate.specs.contracts.certificate_error.CertificateErrorDisplay.TheImpl.{ghosts as certificate_display}
@@ -21,6 +24,11 @@ abbrev pub CheckErrorBecomes : CheckError → Refusal → Type 0
 CheckErrorBecomes cause (refusals.Check same) = (same ≡ cause) × (cause ≡ causes.Memory → ⊥)
 CheckErrorBecomes cause refusals.Memory = cause ≡ causes.Memory
 CheckErrorBecomes cause _ = ⊥
+
+abbrev pub ReadErrorBecomes : io.Error → Refusal → Type 0
+ReadErrorBecomes cause (refusals.Read same) = (same ≡ cause) × (error_kind cause ≡ io_kinds.OutOfMemory → ⊥)
+ReadErrorBecomes cause refusals.Memory = error_kind cause ≡ io_kinds.OutOfMemory
+ReadErrorBecomes cause _ = ⊥
 
 -- ---- what is printed
 

@@ -1,5 +1,6 @@
 -- Why a certificate isn't found to hold. Each cause is true; memory may always run out.
 use Rattle.std.specs.Prelude.{◌≡◌, List, ⊤}
+use Rattle.std.specs.declared.io.Error as io
 use Rattle.krates_cm.specs.Document.{Text, texts_view}
 use Rattle.krates_certificate.specs.declared.certificate.Certificate.{Certificate}
 use Rattle.krates_certificate.specs.declared.certificate.Certificate.TheVariants as certificates
@@ -8,6 +9,7 @@ use Rattle.krates_checkers.specs.declared.check_error.CheckError.{CheckError}
 use Rattle.krates_checkers.specs.declared.check_error.CheckError.TheVariants as causes
 use Rattle.krates_rules.specs.StepViews.{facts_view, steps_view}
 use Rattle.krates_verdict.specs.Holding.{words_of}
+use Rattle.krates_verdict.specs.RefusalText.{ReadErrorBecomes}
 use Rattle.krates_verdict.specs.Subject.{SubjectModel}
 use Rattle.krates_verdict.specs.declared.refusal.Refusal.{Refusal}
 use Rattle.krates_verdict.specs.declared.refusal.Refusal.TheVariants as refusals
@@ -36,8 +38,6 @@ JudgeRefusal s certificate (refusals.Check cause) =
 JudgeRefusal s certificate refusals.Memory = ⊤
 JudgeRefusal s certificate _ = ⊥
 
--- the refusal of a run whose reader failed
+-- the refusal of a run whose reader failed: what one of its errors becomes
 abbrev pub IsOfReader : Refusal → Type 0
-IsOfReader (refusals.Read cause) = ⊤
-IsOfReader refusals.Memory = ⊤
-IsOfReader _ = ⊥
+IsOfReader e = (cause : io.Error) × ReadErrorBecomes cause e

@@ -2,9 +2,8 @@
 
 ghost use Rattle.std.specs.Prelude.{◌≡◌, Some, map};
 ghost use Rattle.krates_cm.specs.Document.{text_view};
-ghost use Rattle.krates_verdict.specs.RefusalText.{CertificateErrorBecomes, CheckErrorBecomes};
+ghost use Rattle.krates_verdict.specs.RefusalText.{CertificateErrorBecomes, CheckErrorBecomes, ReadErrorBecomes};
 ghost use Rattle.krates_verdict.specs.RefusalText.{check_text, refusal_text, words_text};
-ghost use Rattle.krates_verdict.specs.VerdictRefusals.{IsOfReader};
 ghost use Rattle.krates_verdict.specs.declared.refusal.Refusal.TheVariants.{Memory};
 
 use krates_certificate::CertificateError;
@@ -39,7 +38,7 @@ pub enum Refusal {
 impl Refusal {
     /// The refusal of a run whose reader failed in this way.
     pub(crate) fn unread(cause: io::Error) -> Refusal
-        ensures { IsOfReader result }
+        ensures { ReadErrorBecomes cause result }
     {
         if cause.kind() == io::ErrorKind::OutOfMemory {
             Refusal::Memory

@@ -1,6 +1,6 @@
 //! What a certificate is judged against, and how it is judged.
 
-ghost use Rattle.std.specs.Prelude.{◌≡◌, ◌↔◌, [], IfErr, IfOk, IsTrue, OnOk, map};
+ghost use Rattle.std.specs.Prelude.{◌≡◌, ◌↔◌, [], Err, IfErr, IfOk, IsTrue, IsUtf8, OnOk, map};
 ghost use Rattle.krates_cm.specs.Document.{text_view, texts_view};
 ghost use Rattle.krates_checkers.specs.CheckRefusals.{IsCheckRefused, IsClosedRefused};
 ghost use Rattle.krates_checkers.specs.declared.check_error.CheckError.TheVariants.{Empty};
@@ -71,8 +71,8 @@ impl CertificateSubject<'_> {
 
     /// Judges the bytes of a certificate: they are a text that `Certificate::parse` reads, and `judge` says what it holds.
     ///
-    /// It is refused as `Utf8` or `Certificate` where the bytes aren't a text or aren't a certificate, otherwise as by `judge`. It may
-    /// instead return `Memory`. Time: O(n) for n bytes, and that of `judge`.
+    /// It is refused as `Utf8` exactly where the bytes aren't a text. Otherwise it is refused as `Certificate` where they aren't a
+    /// certificate, or as by `judge`, and may instead return `Memory`. Time: O(n) for n bytes, and that of `judge`.
     ///
     /// ```text
     /// println!(rt; "{}", subject.judge_bytes(alloc, certificate)?)?;
@@ -80,6 +80,7 @@ impl CertificateSubject<'_> {
     pub fn judge_bytes(&self, alloc: Global, certificate: &[u8]) -> Result<Verdict, Refusal>
         ensures holds { IfOk result (IsVerdictOf (subject_view self.now) certificate.now) }
         ensures refused { IfErr result (IsUnheld (subject_view self.now) certificate.now) }
+        ensures no_text { (IsUtf8 certificate.now → ⊥) → result ≡ Err refusals.Utf8 }
     {
         let Ok(text) = str::from_utf8(certificate) else {
             return Err(Refusal::Utf8);
