@@ -14,7 +14,7 @@ use std::{fmt, io};
 /// Why a certificate isn't found to hold, or its verdict isn't written.
 ///
 /// The first that is true counts. Memory may run out at each of them.
-#[derive(Debug, Drop)]
+#[derive(Debug, Drop, thiserror::Error)]
 pub enum Refusal {
     /// The reader failed.
     Read(io::Error),
@@ -90,6 +90,7 @@ impl fmt::Display for Objection {
     }
 }
 
+// By hand, since a clause says what is printed, and what a derive writes has none.
 impl fmt::Display for Refusal {
     ghost output = { refusal_text };
 
@@ -109,8 +110,6 @@ impl fmt::Display for Refusal {
         }
     }
 }
-
-impl std::error::Error for Refusal {}
 
 impl From<CertificateError> for Refusal {
     ghost from_gives = { CertificateErrorBecomes };
