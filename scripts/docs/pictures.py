@@ -107,8 +107,8 @@ MADE = [
     ("Plan", "Graph", "krates", "stored"),
     ("Metadata", "Division", "krates_drawing", "divide"),
     ("Division", "Graph", "krates_queries", "from_package"),
-    ("Graph", "Krates", "krates_queries", "new"),
-    ("KeptStep", "Krates", "krates_queries", "new"),
+    ("Graph", "Krates", "krates_queries", "krates_of"),
+    ("KeptStep", "Krates", "krates_queries", "krates_of"),
 ]
 
 

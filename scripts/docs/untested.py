@@ -67,7 +67,7 @@ SHOWN_BY = {
     # the graph of a build: its outline, nodes and edges, and how they are stored
     "build_with_metadata": (
         "NumberedOutline::of NumberedOutline::plan_nodes NumberedOutline::plan"
-        " store_edges in_order Krates::new divide handed_over"
+        " store_edges in_order starts_of divide handed_over"
     ).split(),
     # the steps that a build keeps, and those of them that lead to a node
     "facts": ("KeptTables::kept_steps",),

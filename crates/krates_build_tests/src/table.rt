@@ -1,6 +1,7 @@
 //! Tables of questions that run a program.
 
-use krates_samples::table::{Row, compare};
+use krates_samples::failures::Failures;
+use krates_samples::table::Row;
 use krates_text::text::Text;
 use std::test::Fail;
 
@@ -10,17 +11,18 @@ pub(crate) trait Question {
     fn tell(told: &mut Text, rt: &HostRuntime, line: &str) -> Result<(), Fail>;
 }
 
-/// Compares the answer to each line with the one that is known; fails at the first row where they differ, and names it.
+/// Compares the answer to each line with the one that is known; names each row where they differ.
 pub(crate) fn hold_runs<Q: Question>(rt: &HostRuntime, rows: &[Row]) -> Result<(), Fail> {
+    let mut failures = Failures::new(rt.alloc());
     for &(line, answer) in rows {
-        hold_run::<Q>(rt, line, answer)?;
+        failures.compare(line, answer_to::<Q>(rt, line), answer)?;
     }
-    Ok(())
+    failures.reported()
 }
 
-/// Compares the answer to one line with the one that is known.
-fn hold_run<Q: Question>(rt: &HostRuntime, line: &str, answer: &str) -> Result<(), Fail> {
-    let mut text = Text::new(rt.alloc());
-    Q::tell(&mut text, rt, line)?;
-    compare(line, text.whole()?.as_str(), answer)
+/// The answer to a line.
+fn answer_to<Q: Question>(rt: &HostRuntime, line: &str) -> Result<String, Fail> {
+    let mut told = Text::new(rt.alloc());
+    Q::tell(&mut told, rt, line)?;
+    Ok(told.whole()?)
 }
