@@ -41,7 +41,7 @@ abbrev keys : List (Group (Match Package)) → List Text
 keys groups = map (λ g. g.key) groups
 
 module _ (crates : List (Match Package)) where
-  crates_under : (q : Text) → items_under q (map with_name crates) ≡ crates_named q crates
+  pub crates_under : (q : Text) → items_under q (map with_name crates) ≡ crates_named q crates
   crates_under q =
       items_under-keyed name_of q crates
       ∙ filter_agree (λ (m : Match Package). bytes_eq q (name_of m)) (is_named (λ (pkg : Package). text_view pkg.name) q) (λ m. nat_list_eq_equiv.symm q (name_of m)) crates

@@ -17,7 +17,7 @@ module _ {T U : Type 0} (view : T → U) where
   seen_step p more others true e = ap (λ us. view p.1 ∷ us) e
   seen_step p more others false e = e
 
-  items_under-seen : (q : Text) (items : List (Text × T)) → map view (items_under q items) ≡ items_under q (map (seen_item view) items)
+  pub items_under-seen : (q : Text) (items : List (Text × T)) → map view (items_under q items) ≡ items_under q (map (seen_item view) items)
   items_under-seen q [] = refl
   items_under-seen q (p ∷ ps) = seen_step p (filter (λ p. bytes_eq q p.0) ps) (filter (λ p. bytes_eq q p.0) (map (seen_item view) ps)) (bytes_eq q p.0) (items_under-seen q ps)
 

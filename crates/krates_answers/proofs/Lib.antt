@@ -1,3 +1,4 @@
+pub mod ChangedLemmas
 pub mod DependentNumbers
 pub mod DifferenceLemmas
 pub mod DuplicateLemmas

@@ -1,3 +1,4 @@
+pub mod Changed
 pub mod Difference
 pub mod Duplicates
 pub mod Fitting

@@ -1,6 +1,11 @@
 //! Names under which versions changed.
 
+ghost use Rattle.std.specs.Prelude.{IfOk, map};
+ghost use Rattle.krates_queries.specs.KrateNodes.{match_view};
+ghost use Rattle.krates_answers.specs.Changed.{AreChanges, HoldsVersions, change_view};
+
 use crate::grouped::put_under;
+use crate::pushing::push;
 use krates::semver::Version;
 use krates::{KrateMatch, Package};
 use std::alloc::{AllocError, Global};
@@ -24,7 +29,9 @@ type Versions<'a> = BTreeMap<&'a str, Vec<&'a Version>>;
 fn versions_of<'a>(
     alloc: Global,
     krates: &[KrateMatch<'a, Package>],
-) -> Result<Versions<'a>, AllocError> {
+) -> Result<Versions<'a>, AllocError>
+    ensures { IfOk result (HoldsVersions (map match_view krates.now)) }
+{
     let mut versions = BTreeMap::new(alloc);
     for found in krates {
         put_under(
@@ -37,17 +44,23 @@ fn versions_of<'a>(
 }
 
 impl<'a> Changed<'a> {
-    /// The names that crates of both lists have, in order. The only refusal is running out of memory. Time O(n log n).
+    /// The names that crates of both lists have, in the order of their bytes, each with its versions in the one and in the other. The
+    /// only refusal is running out of memory. Time O(n log n) for n crates of both.
     pub fn between(
         alloc: Global,
         removed: &[KrateMatch<'a, Package>],
         added: &[KrateMatch<'a, Package>],
-    ) -> Result<Vec<Changed<'a>>, AllocError> {
-        let mut came = versions_of(alloc, added)?;
+    ) -> Result<Vec<Changed<'a>>, AllocError>
+        ensures { IfOk result (λ changed. AreChanges (map match_view removed.now) (map match_view added.now)
+            (map change_view changed.items)) }
+    {
+        let gone = versions_of(alloc, removed)?;
+        let came = versions_of(alloc, added)?;
         let mut changed = Vec::new(alloc);
-        for (name, from) in versions_of(alloc, removed)? {
-            if let Some(to) = came.remove(&name) {
-                changed.push(Changed { name, from, to })?;
+        for (name, from) in gone {
+            if let Some(to) = came.get(&name) {
+                let to = to.clone()?;
+                push(&mut changed, Changed { name, from, to })?;
             }
         }
         Ok(changed)
