@@ -123,7 +123,7 @@ fn in_fixed_order(alloc: Global, mut info: TargetInfo) -> Result<String, AllocEr
 }
 
 /// The description that a line's target has, in fixed order.
-fn described(alloc: Global, line: &str) -> Result<String, Fail> {
+fn description_of(alloc: Global, line: &str) -> Result<String, Fail> {
     let (info, _) = target_of(alloc, line)?;
     Ok(in_fixed_order(alloc, info)?)
 }
@@ -142,7 +142,7 @@ fn describes_as_the_table(rt: HostRuntime) -> Result<(), Fail> {
     let mut failures = Failures::new(rt.alloc());
     for (line, _) in IN_THE_TABLE {
         let known = in_table(rt.alloc(), *line)?;
-        failures.compare(*line, described(rt.alloc(), *line), known.as_str())?;
+        failures.compare(*line, description_of(rt.alloc(), *line), known.as_str())?;
     }
     failures.reported()
 }
