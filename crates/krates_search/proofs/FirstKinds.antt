@@ -1,8 +1,9 @@
 -- The first places of kinds and targets, gone over place by place.
-use Rattle.std.proofs.Common.{◌≡◌, ◌↔◌, ℕ, ◌+◌, ◌<◌, ◌≤◌, List, [], ◌∷◌, ◌++◌, length, get_or, map, Bool, true, false, cond, IsTrue, Some, option_map, Ordering, Less, Equal, Greater, Contains, inl, inr, refl, sym, ap, ◌∙◌, subst, arith}
+use Rattle.std.proofs.Common.{◌≡◌, ◌↔◌, ℕ, ◌+◌, ◌<◌, ◌≤◌, List, [], ◌∷◌, ◌++◌, length, get_or, map, Bool, true, false, cond, IsTrue, Some, option_map, Ordering, Less, Equal, Greater, AllPairs, Contains, inl, inr, refl, sym, ap, ◌∙◌, subst, arith}
 use Rattle.std.proofs.lemmas.Bool.{cases_lt}
 use Rattle.std.proofs.lemmas.List.{length-map}
 use Rattle.std.proofs.lemmas.List.Elements.{Contains-append_left, Contains-push, Contains-push_cases}
+use Rattle.std.proofs.lemmas.List.Quantifiers.{all_pairs_push}
 use Rattle.std.proofs.lemmas.Option.{slice_get-get_or, slice_get-map, slice_get_read, slice_get_within, same_Some}
 use Rattle.std.specs.BTreeMap.{is_at}
 use Rattle.std.specs.BTreeSet.{BTreeSet, contains}
@@ -14,6 +15,7 @@ use Rattle.krates_questions.specs.NodeEntry.{IsFirstInfo}
 use Rattle.krates_search.specs.Found.{IsAmongPlaces, IsFirstKind, kind_cmp, kind_view, AreFirstKinds}
 use Rattle.krates_search.specs.declared.found.KindKey.{KindKey}
 use Rattle.krates_search.proofs.KindOrder.{kind_from, kind_to}
+use Rattle.krates_rules.proofs.Elements.{contains_or}
 use Rattle.krates_rules.proofs.PutElements.{none_there}
 use Rattle.krates_rules.specs.DeclaredDependency.{FirstAt}
 
@@ -63,11 +65,15 @@ seen_more ks i k old new at grown h q =
 pub record AreFirstBelow (ks : List DepKindInfoModel) (i : ℕ) (places : List ℕ) : Type 0 where
   pub first : (place : ℕ) → Contains places place → IsFirstKind ks place
   pub each : (k : DepKindInfoModel) → StandsBelow ks i k → IsAmongPlaces ks places k
+  pub below : (place : ℕ) → Contains places place → place < i
+  pub ascending : AllPairs ◌<◌ places
 
 pub none_first : (ks : List DepKindInfoModel) (places : List ℕ) → places ≡ [] → AreFirstBelow ks 0 places
 none_first ks places e = record {
   first = λ place among. absurd (none_there place (subst (λ (ps : List ℕ). Contains ps place) e among));
   each = λ k w. absurd (omega (arith, w.1));
+  below = λ place among. absurd (none_there place (subst (λ (ps : List ℕ). Contains ps place) e among));
+  ascending = subst (AllPairs ◌<◌) (sym e) (λ i j d lt within. absurd (omega (arith, within)));
 }
 
 -- a kind and target that wasn't seen is added
@@ -94,6 +100,11 @@ first_put ks i k seen old new at fresh tells more h =
             let same : w.0 ≡ i = omega (arith, le, w.1) in
             (i, subst (λ (ps : List ℕ). Contains ps i) (sym more) (Contains-push old i), subst (λ (n : ℕ). slice_get ks n ≡ Some y) same w.2))
       ];
+      below = λ place among. elim (Contains-push_cases old i place (subst (λ (ps : List ℕ). Contains ps place) more among)) [
+        | inl before ↦ omega (arith, h.below place before)
+        | inr same ↦ omega (arith, same)
+      ];
+      ascending = subst (AllPairs ◌<◌) (sym more) (all_pairs_push ◌<◌ old i h.ascending (λ j d lt. h.below (get_or old j d) (contains_or old j d lt)));
     }
 
 -- one that was seen is passed over
@@ -107,12 +118,15 @@ first_stays ks i k seen places at known tells h = record {
         let is : k ≡ y = same_Some k y (sym at ∙ ap (λ (n : ℕ). slice_get ks n) same ∙ w.2) in
         subst (IsAmongPlaces ks places) is (h.each k (tells.0 known)))
   ];
+  below = λ place among. omega (arith, h.below place among);
+  ascending = h.ascending;
 }
 
 pub all_first : (ks : List DepKindInfoModel) (i : ℕ) (places : List ℕ) → length ks ≤ i → AreFirstBelow ks i places → AreFirstKinds ks places
 all_first ks i places le h = record {
   first = h.first;
   each = λ k among. h.each k (among.0, omega (arith, among.1, le), slice_get-get_or ks among.0 k among.1 ∙ ap (λ (x : DepKindInfoModel). Some x) among.2);
+  ascending = h.ascending;
 }
 
 -- of one alone it is the first place
@@ -127,6 +141,7 @@ one_first (k ∷ []) places one is = record {
       let zero_th : among.0 ≡ 0 = omega (arith, among.1) in
       let there = slice_get-get_or (k ∷ []) among.0 y among.1 ∙ ap (λ (x : DepKindInfoModel). Some x) among.2 in
       (0, subst (λ (ps : List ℕ). Contains ps 0) (sym is) (Contains-push [] 0), subst (λ (n : ℕ). slice_get (k ∷ []) n ≡ Some y) zero_th there));
+  ascending = subst (AllPairs ◌<◌) (sym is) (λ i j d lt within. absurd (omega (arith, lt, within)));
 }
 one_first (k ∷ j ∷ ks) places one is = absurd (omega (arith, one))
 

@@ -141,8 +141,13 @@ marked_back x y place index p i n was is h same m = elim (h.back p i m.link m.at
   | inr e ↦ record { link = was; at = moved_at x p i place index was e.0 e.1 h.before; kept = sym same ∙ ap (λ (l : Link). l.kept) (sym e.2) ∙ m.kept }
 ]
 
-pub asked_now : (x y : Links) (place index : ℕ) (was is : Link) → IsReplaced x y place index was is → is.kept ≡ was.kept → is.waiting ≡ was.waiting → NotesAsked x y place index
-asked_now x y place index was is h same_kept same = record {
+pub asked_now : (x y : Links) (place index : ℕ) (was is : Link) → IsReplaced x y place index was is → is.kept ≡ was.kept → is.waiting ≡ was.waiting → is.is_asked ≡ true → NotesAsked x y place index
+asked_now x y place index was is h same_kept same noted = record {
+  asked = record { link = is; at = h.after; is_asked = noted };
+  stays = λ p i m. elim (h.forth p i m.link m.at) [
+    | inl o ↦ record { link = m.link; at = o; is_asked = m.is_asked }
+    | inr e ↦ record { link = is; at = moved_at y p i place index is e.0 e.1 h.after; is_asked = noted }
+  ];
   from = λ p i m. elim (h.back p i m.link m.at) [
     | inl o ↦ inl (record { link = m.link; at = o; is_asked = m.is_asked })
     | inr e ↦ inr (e.0, e.1)

@@ -8,7 +8,7 @@ use Rattle.krates_search.specs.declared.found.FoundEdge.{FoundEdge}
 use Rattle.krates_questions.specs.declared.context.Context.{Context}
 use Rattle.krates_questions.specs.Context.{document_of, IsNodeAt}
 use Rattle.krates_search.specs.declared.found.FoundToggle.{FoundToggle}
-use Rattle.std.specs.Prelude.{◌≡◌, ℕ, List, Contains, Some, option_map, slice_get}
+use Rattle.std.specs.Prelude.{◌≡◌, ◌<◌, ℕ, AllPairs, List, Contains, Some, option_map, slice_get}
 use Rattle.std.specs.declared.cmp.Ordering.{Ordering}
 use Rattle.krates_questions.specs.NodeEntry.{IsFirstInfo}
 use Rattle.krates_questions.specs.declared.node_entry.EntryEdge.{EntryEdge}
@@ -54,10 +54,11 @@ IsFirstKind ks place = (k : DepKindInfoModel) × FirstAt (λ j. j ≡ k) ks plac
 abbrev pub IsAmongPlaces : List DepKindInfoModel → List ℕ → DepKindInfoModel → Type 0
 IsAmongPlaces ks places k = (place : ℕ) × Contains places place × (slice_get ks place ≡ Some k)
 
--- the places are those at which some kind and target comes first, and each has one
+-- the places are those at which some kind and target comes first, each once and in order, and each kind and target has one
 pub record AreFirstKinds (ks : List DepKindInfoModel) (places : List ℕ) : Type 0 where
   pub first : (place : ℕ) → Contains places place → IsFirstKind ks place
   pub each : (k : DepKindInfoModel) → Contains ks k → IsAmongPlaces ks places k
+  pub ascending : AllPairs ◌<◌ places
 
 -- the kind and target of the edge comes first at the place
 abbrev pub IsFirstOf : EntryEdge → ℕ → Type 0

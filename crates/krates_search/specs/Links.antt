@@ -73,6 +73,8 @@ pub record AreNew (links : Links) : Type 0 where
 
 -- the edges by the dependency have been asked for now, and nothing else is changed
 pub record NotesAsked (old new : Links) (place index : ℕ) : Type 0 where
+  pub asked : WasAsked new place index
+  pub stays : (p i : ℕ) → WasAsked old p i → WasAsked new p i
   pub from : (p i : ℕ) → WasAsked new p i → WasAsked old p i ⊎ ((p ≡ place) × (i ≡ index))
   pub marks : (p i n : ℕ) → IsMarkedBy old p i n ↔ IsMarkedBy new p i n
   pub waits : (p i : ℕ) (w : Waiting) → IsWaiter old p i w ↔ IsWaiter new p i w

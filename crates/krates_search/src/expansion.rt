@@ -8,6 +8,7 @@ ghost use Rattle.std.specs.Prelude.{◌≡◌, ◌<◌, IfErr, IfOk, OnOk, Some,
 ghost use Rattle.krates_cm.specs.Document.{DepKindInfoModel};
 ghost use Rattle.krates_search.specs.SearchState.{IsAny, TakenWhen, HasExpanded, IsKrateStep, IsSound, Advances, MayTry, HasTried};
 ghost use Rattle.krates_search.specs.Found.{IsFirstOf};
+ghost use Rattle.krates_search.specs.Links.{WasAsked};
 
 use crate::enabling::{Keeping, keep};
 use crate::found::{first_kinds, info_at};
@@ -81,13 +82,14 @@ pub fn expand_entry<'a>(
         → FindsEdge context.now found.old reason (edge_for entry.now k) (TakenWhen asked) }
     ensures advanced { OnOk result (Advances context.now found.old found.new) }
     ensures tried { OnOk result (HasTriedEntry context.now found.new entry.now (TakenWhen asked)) }
+    ensures noted { asked ≡ true → OnOk result (WasAsked found.new.links entry.now.place.index
+        entry.now.index) }
     ensures refused { IfErr result (Refuses context.now) }
 {
     context.document.agrees();
     laws::one_reading();
     let places = context.document.places_for(entry);
-    let document = context.document;
-    let number = document.child_number_at(entry.place, entry.index);
+    let number = context.document.child_number_at(entry.place, entry.index);
     let availability = context.availability_at(&found.excluded, number);
     let infos = entry.dep.dep_kinds.as_slice();
     let kinds = first_kinds(context.alloc, infos)?;
@@ -135,6 +137,7 @@ fn expand_edge<'a>(
     ensures advanced { OnOk result (Advances context.now found.old found.new) }
     ensures tried { OnOk result (HasTried context.now found.new (edge_of edge.now) (TakenWhen trial.now.asked)) }
     ensures whole { IfOk result (λ whole. whole ≡ true → HasTried context.now found.new (edge_of edge.now) IsAny) }
+    ensures all_tried { trial.now.asked ≡ true → IfOk result (λ whole. whole ≡ true) }
     ensures refused { IfErr result (Refuses context.now) }
 {
     context.document.agrees();

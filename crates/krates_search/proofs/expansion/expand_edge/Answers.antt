@@ -37,6 +37,9 @@ returns-then-declared_at-clause-tried c =
     let is = optional_declared c.args.edge.now.entry.now k c.in-Some.declared d.0 c.declared_at.result.now d.1 c.declared_at.ensures true c.if-declared_at.true in
     optional_tried c.args.context.now c.args.found.now c.args.edge.now.entry.now k c.args.trial.now.asked c.in-Some.declared d.0 c.agrees.ensures.distinct c.requires.entry d.1 c.if-not-trial.true is
 
+pub returns-then-declared_at-clause-all_tried : goal.returns-then-declared_at-clause-all_tried
+returns-then-declared_at-clause-all_tried c so = absurd (cc (so, c.if-not-trial.true))
+
 pub returns-then-not-passes-clause-tried : goal.returns-then-not-passes-clause-tried
 returns-then-not-passes-clause-tried c =
     let k = dep_kind_info_view c.args.edge.now.info.now in

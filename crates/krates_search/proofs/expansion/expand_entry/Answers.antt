@@ -1,4 +1,4 @@
-use Rattle.std.proofs.Common.{◌≡◌, ℕ, ◌<◌, List, Contains, length, get_or, map, subst, arith}
+use Rattle.std.proofs.Common.{◌≡◌, ℕ, ◌<◌, List, Contains, length, get_or, map, refl, subst, arith}
 use Rattle.std.proofs.lemmas.List.{get_or_default}
 use Rattle.krates_cm.specs.Document.{dep_kind_info_view}
 use Rattle.krates_cm.specs.declared.resolve.DepKindInfo.{DepKindInfo}
@@ -17,7 +17,7 @@ use Rattle.krates_search.specs.Found.{AreFirstKinds}
 use Rattle.krates_search.proofs.expansion.expand_entry.Goals as goal
 
 pub loop-kind-init : goal.loop-kind-init
-loop-kind-init c = (advances_refl c.args.context.now c.args.found.now c.requires.sound, λ k d lt. absurd (omega (arith, lt)), λ so k d lt. absurd (omega (arith, lt)))
+loop-kind-init c = (advances_refl c.args.context.now c.args.found.now c.requires.sound, λ k d lt. absurd (omega (arith, lt)), λ so k d lt. absurd (omega (arith, lt)), λ so. refl)
 
 -- the place that was taken
 kinds_there : (kinds items : List ℕ) (i : ℕ) → items ≡ kinds → i < length items → Contains kinds (get_or items i 0)
@@ -103,6 +103,7 @@ loop-kind-preserved c =
       λ so. (
           let parts = both c.loop-kind.whole c.in_ok-tried.tried so in
           kinds_more b x y entry IsAny list at kind (dep_kind_info_view info) step.advanced.grows c.loop-kind-test.true is here (inv.2 parts.0) (step.whole parts.1)),
+      λ so. rw (inv.3 so, step.all_tried so) refl,
     )
 
 pub returns-then-not-whole-clause-advanced : goal.returns-then-not-whole-clause-advanced
@@ -115,6 +116,9 @@ returns-then-not-whole-clause-tried c =
     let kinds = c.in_ok-kinds.kinds.items in
     let first = same_infos c.as_slice-infos.result.now entry.dep.now.dep_kinds.items kinds c.as_slice-infos.ensures.value c.in_ok-kinds.ensures in
     kinds_whole b c.loop-kind.found entry (TakenWhen c.args.asked) c.as_slice-kind-items.result.now kinds c.loop-kind.kind-index first c.as_slice-kind-items.ensures.value (omega arith) c.loop-kind.invariant.1
+
+pub returns-then-not-whole-clause-noted : goal.returns-then-not-whole-clause-noted
+returns-then-not-whole-clause-noted c so = absurd (cc (c.loop-kind.invariant.3 so, c.if-not-whole.true))
 
 pub note_asked-requires : goal.note_asked-requires
 note_asked-requires c =
@@ -143,3 +147,6 @@ returns-clause-tried c k among =
     let tried =
     kinds_whole b c.loop-kind.found entry (TakenWhen c.args.asked) c.as_slice-kind-items.result.now kinds c.loop-kind.kind-index first c.as_slice-kind-items.ensures.value (omega arith) c.loop-kind.invariant.1 k among in
     record { kept = tried.kept; has_package = tried.has_package; has_node = tried.has_node; declared = tried.declared }
+
+pub returns-clause-noted : goal.returns-clause-noted
+returns-clause-noted c so = c.note_asked.ensures.asked
