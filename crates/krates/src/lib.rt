@@ -75,6 +75,8 @@ pub mod index {
 pub mod resolve {
     pub use krates_resolve::{
         Availability, Document, EnabledFeature, Ids, KeptEdge, Need, NodePlace, NumberedFact,
-        NumberedStep, Reason, Selection, Setting, ToggledFeature, Work, admit, select,
+        NumberedStep, Reason, Referent, RootChoice, Selection, Setting, ToggledFeature, Work,
+        admit, select,
     };
+    pub use krates_rules::Uses;
 }

@@ -10,7 +10,7 @@ use Rattle.std.specs.BTreeMap.{get}
 use Rattle.std.specs.declared.alloc.Global.{Global}
 use Rattle.krates_questions.specs.declared.feature_table.FeatureTable.{FeatureTable}
 use Rattle.krates_rules.specs.Facts.{Id}
-use Rattle.krates_rules.specs.Features.{LacksFeature, HasReference}
+use Rattle.krates_rules.specs.Features.{LacksFeature, ListsFeature, HasReference}
 use Rattle.std.specs.Option.{unwrap_or}
 use Rattle.krates_ids.specs.Correction.{named}
 use Rattle.krates_text.specs.FeatureReference.{Reference, IsReference}
@@ -26,6 +26,10 @@ features_from place (n ∷ ns) = features_of_node place n.features ++ features_f
 
 abbrev pub listed_features : Resolved → List (ℕ × Text)
 listed_features r = features_from 0 r.graph.nodes
+
+-- these are the features that the crate lists whose node is at the place
+abbrev pub AreFeaturesAt : Resolved → ℕ → List Text → Type 0
+AreFeaturesAt r place names = (i : Id) → NodeAt r i place → (f : Text) → ListsFeature r i f ↔ Contains names f
 
 -- ---- how they compare: by the place of their node, then by name
 

@@ -9,7 +9,7 @@ ghost use Rattle.krates_rules.specs.Resolved.{id_of};
 ghost use Rattle.krates_rules.specs.Roots.{IsRoot};
 
 use crate::questions::{Document, is_same};
-use crate::root_choice::RootChoice;
+use crate::root_choice::{RootChoice, is_root_member};
 use krates_document::setting::Setting;
 use krates_ids::{Kid, laws};
 
@@ -22,7 +22,7 @@ impl<'a> Document<'a> {
         match self.root_choice(setting) {
             RootChoice::Root(root) => is_same(root, krate),
             RootChoice::Members { all } => {
-                self.is_member(krate) && self.is_root_member(setting, all, krate)
+                self.is_member(krate) && is_root_member(self, setting, all, krate)
             }
         }
     }

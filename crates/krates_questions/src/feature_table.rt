@@ -1,8 +1,8 @@
 //! The features that nodes list, by number.
 
-ghost use Rattle.std.specs.Prelude.{◌≡◌, IfOk, OnOk, map};
+ghost use Rattle.std.specs.Prelude.{◌≡◌, ◌<◌, IfOk, OnOk, Some, length, map, slice_get};
 ghost use Rattle.krates_cm.specs.Document.{node_view, text_view};
-ghost use Rattle.krates_questions.specs.FeatureTable.{AreNumbered, ListsMore, listed_in, listed_view, features_from, AreNamed, AreValuesOf, TellsNumber, TellsOwn};
+ghost use Rattle.krates_questions.specs.FeatureTable.{AreNumbered, ListsMore, listed_in, listed_features, listed_view, features_from, AreFeaturesAt, TellsNumber, TellsOwn};
 ghost use Rattle.krates_questions.specs.Lookup.{IsLookup, resolved_view};
 ghost use Rattle.krates_rules.specs.Resolved.{id_of};
 
@@ -90,4 +90,22 @@ impl<'a> Document<'a> {
             .get(&ListedFeature { place, name })
             .copied()
     }
+}
+
+/// The features that the node at a place lists, in the order of the document. Time O(1).
+pub fn features_at<'a>(document: &Document<'a>, place: NodePlace) -> &'a [String]
+    requires within { place.index < length (resolved_view document.now).graph.nodes }
+    ensures { AreFeaturesAt (resolved_view document.now) place.index (map text_view result.now) }
+{
+    document.lookup.resolve.nodes[place.index]
+        .features
+        .as_slice()
+}
+
+/// The listed feature of a number: its name, and the place of the node that lists it. Time O(1).
+pub fn listed_feature<'a>(document: &Document<'a>, number: usize) -> ListedFeature<'a>
+    requires within { number < length (listed_features (resolved_view document.now)) }
+    ensures { slice_get (listed_features (resolved_view document.now)) number ≡ Some (listed_view result) }
+{
+    document.lookup.features.listed[number]
 }

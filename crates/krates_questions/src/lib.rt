@@ -21,3 +21,5 @@ pub use krates_document::{Ids, Setting, admit};
 pub use krates_rules::{DepKind, Scope, laws};
 pub use lookup::NodePlace;
 pub use questions::Document;
+pub use referent::Referent;
+pub use root_choice::RootChoice;

@@ -110,7 +110,7 @@ pub fn at_number(places: &[Option<usize>], number: Option<usize>) -> Option<usiz
 
 impl<'a> Document<'a> {
     /// The place of the package of the crate with the number. None where it has none. Time O(1).
-    pub fn package_place_at(&self, number: Option<usize>) -> Option<usize>
+    pub(crate) fn package_place_at(&self, number: Option<usize>) -> Option<usize>
         requires number { IsNumber self.now number }
         ensures { (i : Id) → IsNumberIn self.now i number → IsPackagePlace (resolved_view self.now) i result }
     {
@@ -119,7 +119,7 @@ impl<'a> Document<'a> {
     }
 
     /// The package of the crate with the number. None where it has none. Time O(1).
-    pub fn package_at(&self, number: Option<usize>) -> Option<&'a Package>
+    pub(crate) fn package_at(&self, number: Option<usize>) -> Option<&'a Package>
         requires number { IsNumber self.now number }
         ensures { (i : Id) → IsNumberIn self.now i number → TellsPackage (resolved_view self.now) i result }
     {
@@ -128,7 +128,7 @@ impl<'a> Document<'a> {
     }
 
     /// The place of the node of the crate with the number. None where it has none. Time O(1).
-    pub fn node_place_at(&self, number: Option<usize>) -> Option<NodePlace>
+    pub(crate) fn node_place_at(&self, number: Option<usize>) -> Option<NodePlace>
         requires number { IsNumber self.now number }
         ensures { (i : Id) → IsNumberIn self.now i number → IsNodePlace (resolved_view self.now) i result }
     {

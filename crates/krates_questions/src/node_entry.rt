@@ -2,9 +2,10 @@
 
 ghost use Rattle.std.specs.Prelude.{◌≡◌, ◌<◌, ◌↔◌, IfSome, IsTrue, length, map, Some, slice_get};
 ghost use Rattle.std.specs.Option.{IsSome};
-ghost use Rattle.krates_cm.specs.Document.{NodeModel, dependency_view, dep_kind_info_view};
+ghost use Rattle.krates_cm.specs.Document.{NodeModel, dependency_view, dep_kind_info_view, text_view};
+ghost use Rattle.krates_questions.specs.FeatureTable.{AreNamed, AreValuesOf};
 ghost use Rattle.krates_questions.specs.Lookup.{IsLookup, IsNodePlace, IsNumber, IsNumberIn, resolved_view};
-ghost use Rattle.krates_questions.specs.NodeEntry.{AreDeclaredBy, AreParts, HasItsPlaces, HasItsVersion, IsEntry, IsEntryOf, TellsDeclaredPlaces, TellsItsDeclared, child_of, parent_of};
+ghost use Rattle.krates_questions.specs.NodeEntry.{AreDeclaredBy, AreParts, HasItsPlaces, HasItsVersion, IsEntry, IsEntryOf, TellsDeclaredPlaces, TellsItsDeclared, child_of, krate_of, parent_of};
 ghost use Rattle.krates_rules.specs.Facts.{Id};
 ghost use Rattle.krates_rules.specs.Resolved.{DepAt, HasNode, NodeAt, id_of};
 
@@ -67,23 +68,42 @@ pub struct NodeParts<'a> {
     pub is_member: bool,
 }
 
-impl<'a> Document<'a> {
-    /// The node at a place, taken apart. Time O(1).
-    pub fn parts_of(&self, place: NodePlace) -> NodeParts<'a>
-        requires within { place.index < length (resolved_view self.now).graph.nodes }
-        ensures { AreParts (resolved_view self.now) place.index result }
-    {
-        let parent = &self.lookup.ids.nodes[place.index];
-        let number = self.node_number(place);
-        NodeParts {
-            parent,
-            declared: self.declared_by(number),
-            deps: &self.lookup.resolve.nodes[place.index].deps,
-            children: &self.lookup.ids.deps[place.index],
-            versions: &self.lookup.ids.versions[place.index],
-            place,
-            is_member: self.is_member_at(number),
-        }
+/// The node at a place, taken apart. Time O(1).
+pub fn parts_of<'a>(document: &Document<'a>, place: NodePlace) -> NodeParts<'a>
+    requires within { place.index < length (resolved_view document.now).graph.nodes }
+    ensures { AreParts (resolved_view document.now) place.index result }
+{
+    let parent = &document.lookup.ids.nodes[place.index];
+    let number = node_number(document, place);
+    NodeParts {
+        parent,
+        declared: document.declared_by(number),
+        deps: &document.lookup.resolve.nodes[place.index].deps,
+        children: &document.lookup.ids.deps[place.index],
+        versions: &document.lookup.ids.versions[place.index],
+        place,
+        is_member: document.is_member_at(number),
+    }
+}
+
+/// The references of a feature of the crate whose node was taken apart, as its package has them, in its order; none where it lacks
+/// the feature. The package is found by the place of the node.
+///
+/// Time: O(log n) in the features of the package.
+pub fn values_at<'a>(document: &Document<'a>, parts: &NodeParts<'a>, name: &str) -> &'a [String]
+    requires parts { AreParts (resolved_view document.now) parts.now.place.index parts.now }
+    ensures references { AreValuesOf (resolved_view document.now) (krate_of parts.now) name.now
+        (map text_view result.now) }
+    ensures named { AreNamed (resolved_view document.now) (krate_of parts.now) name.now
+        (map text_view result.now) }
+{
+    document.agrees();
+    let Some(pkg) = document.package_at(node_number(document, parts.place)) else {
+        return &[];
+    };
+    match pkg.features.get(name) {
+        Some(values) => values,
+        None => &[],
     }
 }
 
@@ -152,51 +172,51 @@ impl<'a> Document<'a> {
             None => &[],
         }
     }
+}
 
-    /// The number of the crate whose node is at the place; it has one. Time O(1).
-    pub fn node_number(&self, place: NodePlace) -> Option<usize>
-        requires within { place.index < length (resolved_view self.now).graph.nodes }
-        ensures number { (i : Id) → NodeAt (resolved_view self.now) i place.index
-            → IsNumberIn self.now i result }
-        ensures has_one { (i : Id) → NodeAt (resolved_view self.now) i place.index → IsSome result }
-    {
-        laws::one_reading();
-        self.lookup.ids.table.node_numbers[place.index]
-    }
+/// The number of the crate whose node is at the place; it has one. Time O(1).
+pub fn node_number(document: &Document<'_>, place: NodePlace) -> Option<usize>
+    requires within { place.index < length (resolved_view document.now).graph.nodes }
+    ensures number { (i : Id) → NodeAt (resolved_view document.now) i place.index
+        → IsNumberIn document.now i result }
+    ensures has_one { (i : Id) → NodeAt (resolved_view document.now) i place.index → IsSome result }
+{
+    laws::one_reading();
+    document.lookup.ids.table.node_numbers[place.index]
+}
 
-    /// The number of the crate that a dependency of a node leads to, by the places of both. None where that has neither
-    /// package nor node and is no member. Time O(1).
-    pub fn child_number_at(&self, place: NodePlace, index: usize) -> Option<usize>
-        requires there { (parent : Id) × (child : Id)
-            × DepAt (resolved_view self.now) parent child place.index index }
-        ensures number { (parent : Id) (child : Id)
-            → DepAt (resolved_view self.now) parent child place.index index
-            → IsNumberIn self.now child result }
-        ensures has_one { (parent : Id) (child : Id)
-            → DepAt (resolved_view self.now) parent child place.index index
-            → (n : NodeModel) × HasNode (resolved_view self.now) child n → IsSome result }
-    {
-        laws::one_reading();
-        self.lookup.ids.table.dep_numbers[place.index][index]
-    }
+/// The number of the crate that a dependency of a node leads to, by the places of both. None where that has neither
+/// package nor node and is no member. Time O(1).
+pub fn child_number_at(document: &Document<'_>, place: NodePlace, index: usize) -> Option<usize>
+    requires there { (parent : Id) × (child : Id)
+        × DepAt (resolved_view document.now) parent child place.index index }
+    ensures number { (parent : Id) (child : Id)
+        → DepAt (resolved_view document.now) parent child place.index index
+        → IsNumberIn document.now child result }
+    ensures has_one { (parent : Id) (child : Id)
+        → DepAt (resolved_view document.now) parent child place.index index
+        → (n : NodeModel) × HasNode (resolved_view document.now) child n → IsSome result }
+{
+    laws::one_reading();
+    document.lookup.ids.table.dep_numbers[place.index][index]
+}
 
-    /// The place of the node of the crate that a dependency leads to. None where it has none. Time O(1).
-    pub fn child_place(&self, entry: &NodeEntry<'_>) -> Option<NodePlace>
-        requires entry { IsEntry (resolved_view self.now) entry.now }
-        ensures { IsNodePlace (resolved_view self.now) (child_of entry.now) result }
-    {
-        self.node_place_at(self.child_number_at(entry.place, entry.index))
-    }
+/// The place of the node of the crate that a dependency leads to. None where it has none. Time O(1).
+pub fn child_place(document: &Document<'_>, entry: &NodeEntry<'_>) -> Option<NodePlace>
+    requires entry { IsEntry (resolved_view document.now) entry.now }
+    ensures { IsNodePlace (resolved_view document.now) (child_of entry.now) result }
+{
+    document.node_place_at(child_number_at(document, entry.place, entry.index))
+}
 
-    /// Where what the package of a dependency's parent declares is found by name. Nothing where it has no package. Time O(1).
-    pub fn places_for(&self, entry: &NodeEntry<'_>) -> &[NamedPlace<'a>]
-        requires entry { IsEntry (resolved_view self.now) entry.now }
-        ensures { TellsDeclaredPlaces (resolved_view self.now) (parent_of entry.now) result.now }
-    {
-        match self.package_place_at(self.node_number(entry.place)) {
-            Some(place) => &self.lookup.names.declared[place],
-            None => &[],
-        }
+/// Where what the package of a dependency's parent declares is found by name. Nothing where it has no package. Time O(1).
+pub fn places_for<'a, 's>(document: &'s Document<'a>, entry: &NodeEntry<'_>) -> &'s [NamedPlace<'a>]
+    requires entry { IsEntry (resolved_view document.now) entry.now }
+    ensures { TellsDeclaredPlaces (resolved_view document.now) (parent_of entry.now) result.now }
+{
+    match document.package_place_at(node_number(document, entry.place)) {
+        Some(place) => &document.lookup.names.declared[place],
+        None => &[],
     }
 }
 

@@ -15,9 +15,9 @@ mod contents;
 
 use crate::dependency_questions::Need;
 use crate::lookup::{Lookup, lookup_of};
-use crate::node_entry::{EntryEdge, NodeEntry, NodeParts, is_same_info};
-use crate::referent::Referent;
-use crate::root_choice::RootChoice;
+use crate::node_entry::{EntryEdge, NodeEntry, NodeParts, is_same_info, parts_of, places_for};
+use crate::referent::{Referent, referents_of};
+use crate::root_choice::{RootChoice, is_root_member};
 use krates_cm::{DepKindInfo, Metadata, NodeDep};
 use krates_document::ids::Ids;
 use krates_document::named_places::{NamedPlace, places_under};
@@ -111,7 +111,7 @@ impl<'a> Document<'a> {
         match self.parts_for(krate) {
             Some(parts) => {
                 let all = setting.is_all_named();
-                self.referents_of(alloc, &parts, name, all)
+                referents_of(self, alloc, &parts, name, all)
             }
             None => Ok(Vec::new(alloc)),
         }
@@ -192,7 +192,7 @@ impl<'a> Document<'a> {
         let Some(place) = self.node_place(krate) else {
             return None;
         };
-        Some(self.parts_of(place))
+        Some(parts_of(self, place))
     }
 
     /// The place of a node's dependency on a crate: of those whose package has its name, which are found by binary search, that with its id.
@@ -264,7 +264,7 @@ impl<'a> Document<'a> {
     {
         let mut roots = Vec::new(alloc);
         for member in members {
-            if self.is_root_member(setting, all, member) {
+            if is_root_member(self, setting, all, member) {
                 roots.push(member)?;
             }
         }
@@ -297,7 +297,7 @@ impl<'a> Document<'a> {
         let edge = EntryEdge {
             entry,
             info,
-            places: self.places_for(entry),
+            places: places_for(self, entry),
         };
         edge.declared()
     }

@@ -25,34 +25,34 @@ pub struct Referent<'a> {
     pub place: usize,
 }
 
-impl<'a> Document<'a> {
-    /// All that a name means in a reference of a crate, in the order of ids: the dependencies of its node that answer to it, as
-    /// `referent_of` has it, or the least of them alone.
-    ///
-    /// Only those are looked at that may answer, which are found by binary search. The only error is running out of memory.
-    /// Time: O(log n + k log k) for n dependencies, of which k have the name.
-    pub fn referents_of(
-        &self,
-        alloc: Global,
-        parts: &NodeParts<'a>,
-        name: &str,
-        all: bool,
-    ) -> Result<Vec<Referent<'a>>, AllocError>
-        requires parts { AreParts (resolved_view self.now) parts.now.place.index parts.now }
-        ensures { IfOk result (λ found. AreReferentsIn (resolved_view self.now) all parts.now name.now
-            found.items) }
-    {
-        if all {
-            return self.all_referents(alloc, parts, name);
-        }
-        let mut referents = Vec::new(alloc);
-        if let Some(place) = self.referent_of(parts, name) {
-            let id = &parts.children[place];
-            referents.push(Referent { id, place })?;
-        }
-        Ok(referents)
+/// All that a name means in a reference of a crate, in the order of ids: the dependencies of its node that answer to it, as
+/// `referent_of` has it, or the least of them alone.
+///
+/// Only those are looked at that may answer, which are found by binary search. The only error is running out of memory.
+/// Time: O(log n + k log k) for n dependencies, of which k have the name.
+pub fn referents_of<'a>(
+    document: &Document<'a>,
+    alloc: Global,
+    parts: &NodeParts<'a>,
+    name: &str,
+    all: bool,
+) -> Result<Vec<Referent<'a>>, AllocError>
+    requires parts { AreParts (resolved_view document.now) parts.now.place.index parts.now }
+    ensures { IfOk result (λ found. AreReferentsIn (resolved_view document.now) all parts.now name.now
+        found.items) }
+{
+    if all {
+        return document.all_referents(alloc, parts, name);
     }
+    let mut referents = Vec::new(alloc);
+    if let Some(place) = document.referent_of(parts, name) {
+        let id = &parts.children[place];
+        referents.push(Referent { id, place })?;
+    }
+    Ok(referents)
+}
 
+impl<'a> Document<'a> {
     /// All dependencies of a node that answer to a name, in the order of ids.
     fn all_referents(
         &self,
@@ -104,7 +104,7 @@ impl<'a> Document<'a> {
     /// found by binary search.
     ///
     /// Time: O(log n + k) for n dependencies, of which k have the name.
-    pub fn referent_of(&self, parts: &NodeParts<'a>, name: &str) -> Option<usize>
+    pub(crate) fn referent_of(&self, parts: &NodeParts<'a>, name: &str) -> Option<usize>
         requires parts { AreParts (resolved_view self.now) parts.now.place.index parts.now }
         ensures { TellsReferent (resolved_view self.now) parts.now name.now result }
     {

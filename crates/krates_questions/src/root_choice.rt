@@ -52,17 +52,22 @@ fn asks_for_workspace(manifests: &[String], workspace_root: &str) -> bool
     }
 }
 
-impl<'a> Document<'a> {
-    /// Whether a member is a root, where all are, or those with one of the manifests. Time O(log n) in the crates, and
-    /// the manifests that the setting asks for.
-    pub fn is_root_member(&self, setting: &Setting, all: bool, member: &'a Kid) -> bool
-        requires asks { AsksFor (resolved_view self.now) setting.now all }
-        requires member { IsMember (resolved_view self.now) (id_of member.now) }
-        ensures { IsTrue result ↔ IsRoot (resolved_view self.now) setting.now (id_of member.now) }
-    {
-        all || self.has_manifest(setting, member)
-    }
+/// Whether a member is a root, where all are, or those with one of the manifests. Time O(log n) in the crates, and the manifests
+/// that the setting asks for.
+pub fn is_root_member<'a>(
+    document: &Document<'a>,
+    setting: &Setting,
+    all: bool,
+    member: &'a Kid,
+) -> bool
+    requires asks { AsksFor (resolved_view document.now) setting.now all }
+    requires member { IsMember (resolved_view document.now) (id_of member.now) }
+    ensures { IsTrue result ↔ IsRoot (resolved_view document.now) setting.now (id_of member.now) }
+{
+    all || document.has_manifest(setting, member)
+}
 
+impl<'a> Document<'a> {
     /// Whether the package of a crate has one of the manifests that are asked for.
     fn has_manifest(&self, setting: &Setting, id: &'a Kid) -> bool
         ensures { IsTrue result ↔ HasManifest (resolved_view self.now) setting.now (id_of id.now) }

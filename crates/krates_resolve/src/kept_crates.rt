@@ -5,6 +5,7 @@ ghost use Rattle.krates_questions.specs.Lookup.{resolved_view};
 ghost use Rattle.krates_resolve.specs.KeptCrates.{AreKept, AreNodePlaces};
 
 use krates_ids::Kid;
+use krates_questions::node_entry::node_number;
 use krates_questions::{Document, NodePlace};
 use std::alloc::{AllocError, Global};
 
@@ -63,7 +64,7 @@ fn places_by_number(
     let mut kept: Vec<Option<NodePlace>> = vec![in alloc; None; document.crate_ids().len()]?;
     for index in places {
         let place = NodePlace { index: *index };
-        if let Some(number) = document.node_number(place) {
+        if let Some(number) = node_number(document, place) {
             kept[number] = Some(place);
         }
     }

@@ -10,7 +10,8 @@ mod roots;
 mod saturation;
 
 pub use krates_questions::{
-    Availability, DepKind, Document, Ids, Need, NodePlace, Scope, Setting, admit, laws,
+    Availability, DepKind, Document, Ids, Need, NodePlace, Referent, RootChoice, Scope, Setting,
+    admit, laws,
 };
 pub use krates_selection::{
     EnabledFeature, KeptEdge, NumberedFact, NumberedStep, Reason, Selection, ToggledFeature, Work,

@@ -15,7 +15,9 @@ ghost use Rattle.krates_resolve.specs.Saturation.{TakenHasReferences};
 use krates_graph::agenda::Taken;
 use krates_ids::{Error, laws};
 use krates_questions::context::Context;
-use krates_questions::node_entry::NodeParts;
+use krates_questions::feature_table::listed_feature;
+use krates_questions::node_entry::{NodeParts, child_place, parts_of, values_at};
+use krates_questions::referent::referents_of;
 use krates_search::enabling::{KeptNode, NamedFeature, enable, toggle};
 use krates_search::expansion::expand_entry;
 use krates_search::links::Waiting;
@@ -55,9 +57,9 @@ pub(crate) fn follow_references<'a>(
     ensures refused { IfErr result (Refuses context.now) }
 {
     laws::one_reading();
-    let feature = context.document.listed_feature(taken.number());
-    let parts = context.document.parts_of(feature.place);
-    let values = context.document.values(parts.parent, feature.name);
+    let feature = listed_feature(context.document, taken.number());
+    let parts = parts_of(context.document, feature.place);
+    let values = values_at(context.document, &parts, feature.name);
     let referrer = Referrer {
         context: *context,
         parts,
@@ -136,10 +138,8 @@ impl<'a> Referrer<'a, '_> {
         laws::one_reading();
         let name = name_in(reference);
         let all = self.context.setting.is_all_named();
-        let referents = self
-            .context
-            .document
-            .referents_of(self.context.alloc, &self.parts, name, all)?;
+        let alloc = self.context.alloc;
+        let referents = referents_of(self.context.document, alloc, &self.parts, name, all)?;
         for referent in &referents {
             self.follow_at(reference, referent.place, found)?;
         }
@@ -229,7 +229,7 @@ impl<'a> Referrer<'a, '_> {
     {
         laws::one_reading();
         let entry = self.parts.entry_at(index);
-        let Some(place) = self.context.document.child_place(&entry) else {
+        let Some(place) = child_place(self.context.document, &entry) else {
             unreachable!()
         };
         let by = KeptNode {

@@ -13,7 +13,8 @@ use krates_graph::agenda::Agenda;
 use krates_ids::{Error, Kid, Lost, laws};
 use krates_questions::Availability;
 use krates_questions::context::Context;
-use krates_questions::root_choice::RootChoice;
+use krates_questions::feature_table::features_at;
+use krates_questions::root_choice::{RootChoice, is_root_member};
 use krates_search::enabling::{KeptNode, NamedFeature, enable};
 use krates_search::search_state::{SearchState, put_krate};
 use krates_selection::trace::Reason;
@@ -80,10 +81,7 @@ fn put_member<'a>(
     ensures each { OnOk result (HasRootedEach context.now found.new places.new) }
     ensures refused { IfErr result (Refuses context.now) }
 {
-    if context
-        .document
-        .is_root_member(context.setting, all, member)
-    {
+    if is_root_member(context.document, context.setting, all, member) {
         return put_root(context, member, places, found);
     }
     Ok(())
@@ -156,7 +154,7 @@ fn enable_listed<'a>(
     ensures refused { IfErr result (Refuses context.now) }
 {
     context.document.agrees();
-    for name in context.document.features(node.id) {
+    for name in features_at(context.document, node.place) {
         let feature = NamedFeature {
             name: name.as_str(),
             reason: Reason::by_nothing(1),

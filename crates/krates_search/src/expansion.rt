@@ -16,7 +16,7 @@ use crate::search_state::SearchState;
 use krates_graph::agenda::Taken;
 use krates_ids::{Error, Lost, laws};
 use krates_questions::context::Context;
-use krates_questions::node_entry::{EntryEdge, NodeEntry};
+use krates_questions::node_entry::{EntryEdge, NodeEntry, child_number_at, parts_of, places_for};
 use krates_questions::{Availability, NodePlace};
 use krates_selection::trace::Reason;
 
@@ -43,7 +43,7 @@ pub fn expand<'a>(
     let place = NodePlace {
         index: taken.number(),
     };
-    let parts = context.document.parts_of(place);
+    let parts = parts_of(context.document, place);
     for index in 0..parts.children.len() {
         let entry = parts.entry_at(index);
         expand_entry(context, &entry, false, Reason::by_one(5, step), found)?;
@@ -88,8 +88,8 @@ pub fn expand_entry<'a>(
 {
     context.document.agrees();
     laws::one_reading();
-    let places = context.document.places_for(entry);
-    let number = context.document.child_number_at(entry.place, entry.index);
+    let places = places_for(context.document, entry);
+    let number = child_number_at(context.document, entry.place, entry.index);
     let availability = context.availability_at(&found.excluded, number);
     let infos = entry.dep.dep_kinds.as_slice();
     let kinds = first_kinds(context.alloc, infos)?;

@@ -9,6 +9,7 @@ ghost use Rattle.krates_questions.specs.FeatureTable.{listed_features};
 use crate::found::{FoundEdge, FoundToggle};
 use krates_document::sorted::in_order;
 use krates_ids::laws;
+use krates_questions::feature_table::listed_feature;
 use krates_selection::kept_tables::KeptTables;
 use krates_selection::selection::{EnabledFeature, KeptEdge, ToggledFeature};
 use std::alloc::AllocError;
@@ -62,7 +63,7 @@ pub fn kept_features(
     let alloc = tables.context.alloc;
     let mut features = Vec::with_capacity(alloc, found.len())?;
     for number in found {
-        let feature = tables.context.document.listed_feature(*number);
+        let feature = listed_feature(tables.context.document, *number);
         features.push(EnabledFeature {
             krate: tables.crate_at(feature.place),
             name: String::from_str(alloc, feature.name)?,

@@ -14,7 +14,9 @@ use krates_cm::DepKindInfo;
 use krates_ids::{Kid, laws};
 use krates_questions::NodePlace;
 use krates_questions::context::Context;
+use krates_questions::feature_table::listed_feature;
 use krates_questions::lookup::at_number;
+use krates_questions::node_entry::{child_number_at, node_number};
 use krates_rules::DepKind;
 use std::alloc::AllocError;
 
@@ -100,7 +102,7 @@ impl<'a, 's> KeptTables<'a, 's> {
         ensures { IsNumberAt self.now place.index result }
     {
         laws::one_reading();
-        let number = self.context.document.node_number(place);
+        let number = node_number(self.context.document, place);
         let Some(kept) = at_number(self.numbers, number) else {
             unreachable!()
         };
@@ -113,7 +115,7 @@ impl<'a, 's> KeptTables<'a, 's> {
         ensures { IsChildAt self.now place.index index result }
     {
         laws::one_reading();
-        let number = self.context.document.child_number_at(place, index);
+        let number = child_number_at(self.context.document, place, index);
         let Some(kept) = at_number(self.numbers, number) else {
             unreachable!()
         };
@@ -125,7 +127,7 @@ impl<'a, 's> KeptTables<'a, 's> {
         requires kept { IsKeptFeature self.now number }
         ensures { IsFeatureIn self.now number result }
     {
-        let feature = self.context.document.listed_feature(number);
+        let feature = listed_feature(self.context.document, number);
         FeatureKey {
             krate: self.crate_at(feature.place),
             name: feature.name,

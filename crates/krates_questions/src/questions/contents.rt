@@ -1,12 +1,11 @@
 //! What a document has for a crate: its package and its node.
 
-ghost use Rattle.std.specs.Prelude.{◌≡◌, ◌<◌, Some, length, option_map, slice_get};
+ghost use Rattle.std.specs.Prelude.{◌≡◌, length, option_map};
 ghost use Rattle.krates_cm.specs.Document.{node_view, package_view};
 ghost use Rattle.krates_questions.specs.Lookup.{IsPackageOf, resolved_view, IsNodeOf};
-ghost use Rattle.krates_questions.specs.FeatureTable.{listed_view, listed_features};
+ghost use Rattle.krates_questions.specs.FeatureTable.{listed_features};
 ghost use Rattle.krates_rules.specs.Resolved.{id_of};
 
-use crate::feature_table::ListedFeature;
 use crate::questions::Document;
 use krates_cm::{Node, Package};
 use krates_ids::Kid;
@@ -71,13 +70,5 @@ impl<'a> Document<'a> {
         ensures { result ≡ length (listed_features (resolved_view self.now)) }
     {
         self.lookup.features.listed.len()
-    }
-
-    /// The listed feature of a number: its name, and the place of the node that lists it. Time O(1).
-    pub fn listed_feature(&self, number: usize) -> ListedFeature<'a>
-        requires within { number < length (listed_features (resolved_view self.now)) }
-        ensures { slice_get (listed_features (resolved_view self.now)) number ≡ Some (listed_view result) }
-    {
-        self.lookup.features.listed[number]
     }
 }

@@ -13,6 +13,7 @@ use Rattle.krates_questions.proofs.FeatureValues.{value_at}
 use Rattle.krates_rules.proofs.Seen.{seen_more, each_seen}
 use Rattle.krates_rules.proofs.Zips.{zip_all}
 use Rattle.krates_questions.specs.Context.{document_of, IsFeatureAt}
+use Rattle.krates_questions.specs.NodeEntry.{AreParts}
 use Rattle.krates_search.specs.SearchContext.{IsValueStep}
 use Rattle.krates_resolve.proofs.references.follow_references.Goals as goal
 
@@ -26,8 +27,14 @@ parts_of-parts-requires c =
     let at = c.listed_feature-feature.ensures in
     record { within = listed_place (document_of b) c.number.result feature.place.index feature.name.now at }
 
+pub values_at-values-requires : goal.values_at-values-requires
+values_at-values-requires c =
+    let parts = c.parts_of-parts.result in
+    let p = c.parts_of-parts.ensures in
+    record { parts = subst (λ (n : ℕ). AreParts (document_of c.args.context.now) n parts) (sym p.place_is) p }
+
 pub loop-text-init : goal.loop-text-init
-loop-text-init c = (advances_refl c.args.context.now c.args.found.now c.requires.sound, λ k d lt. absurd (omega (arith, lt)), none_counted c.args.context.now (id_of c.parts_of-parts.result.parent.now) c.values-values.result.now)
+loop-text-init c = (advances_refl c.args.context.now c.args.found.now c.requires.sound, λ k d lt. absurd (omega (arith, lt)), none_counted c.args.context.now (id_of c.parts_of-parts.result.parent.now) c.values_at-values.result.now)
 
 pub follow-requires-clause-sound : goal.follow-requires-clause-sound
 follow-requires-clause-sound c = c.loop-text.invariant.0.sound
@@ -52,10 +59,10 @@ follow-requires-clause-value c =
     let i = id_of c.parts_of-parts.result.parent.now in
     let at = c.listed_feature-feature.ensures in
     let enabled = listed_found b x c.args.taken c.number.result i feature.place.index f c.requires.put c.number.ensures at c.parts_of-parts.ensures.at in
-    let texts = c.values-values.result.now in
+    let texts = c.values_at-values.result.now in
     let among = value_at texts c.loop-text.text-index c.text-item.result c.loop-text-test.true c.text-item.is in
     subst (λ (t : Text). IsValueOfEnabled b i t) (sym c.as_str.ensures.value)
-    (value_of_enabled b i f (map text_view texts) (string_bytes c.text-item.result) (c.requires.sound.derivable (Feature i f) enabled) c.values-values.ensures.references among)
+    (value_of_enabled b i f (map text_view texts) (string_bytes c.text-item.result) (c.requires.sound.derivable (Feature i f) enabled) c.values_at-values.ensures.references among)
 
 pub follow-requires-clause-step : goal.follow-requires-clause-step
 follow-requires-clause-step c =
@@ -68,10 +75,10 @@ follow-requires-clause-step c =
     let at = c.listed_feature-feature.ensures in
     let numbered : IsFeatureAt b i f c.number.result = record { place = feature.place.index; at = at; node = c.parts_of-parts.ensures.at } in
     let here = c.requires.step i f (subst (λ (n : ℕ). IsFeatureAt b i f n) c.number.ensures numbered) in
-    let texts = c.values-values.result.now in
+    let texts = c.values_at-values.result.now in
     let among = value_at texts c.loop-text.text-index c.text-item.result c.loop-text-test.true c.text-item.is in
     subst (λ (t : Text). IsValueStep b trace c.args.step i t) (sym c.as_str.ensures.value)
-    (value_of_step b trace c.args.step i f (map text_view texts) (string_bytes c.text-item.result) (c.loop-text.invariant.0.grows.steps c.args.step (Feature i f) here) c.values-values.ensures.references among)
+    (value_of_step b trace c.args.step i f (map text_view texts) (string_bytes c.text-item.result) (c.loop-text.invariant.0.grows.steps c.args.step (Feature i f) here) c.values_at-values.ensures.references among)
 
 pub loop-text-preserved : goal.loop-text-preserved
 loop-text-preserved c =
@@ -83,9 +90,9 @@ loop-text-preserved c =
     let step = c.in_ok-counts.ensures in
     let followed = subst (λ (t : Text). (reference : Reference) → IsReference t reference → HasFollowed b y i reference) c.as_str.ensures.value step.followed in (
       advances_trans b c.args.found.now x y inv.0 step.advanced,
-      seen_more (λ (text : String Global). (reference : Reference) → IsReference (string_bytes text) reference → HasFollowed b y i reference) c.values-values.result.now c.loop-text.text-index c.text-item.result c.loop-text-test.true
+      seen_more (λ (text : String Global). (reference : Reference) → IsReference (string_bytes text) reference → HasFollowed b y i reference) c.values_at-values.result.now c.loop-text.text-index c.text-item.result c.loop-text-test.true
           c.text-item.is (λ k d lt reference is. followed_grows b x y i reference step.advanced.grows.found step.advanced.grows.waits (inv.1 k d lt reference is)) followed,
-      one_counted b i c.values-values.result.now c.loop-text.text-index c.loop-text.references c.in_ok-counts.counts _ c.text-item.result c.loop-text-test.true c.text-item.is (subst (λ (t : Text). CountsText (document_of b) b.setting.now.all_named i t c.in_ok-counts.counts) c.as_str.ensures.value step.counted) c.saturating_add-references.ensures inv.2,
+      one_counted b i c.values_at-values.result.now c.loop-text.text-index c.loop-text.references c.in_ok-counts.counts _ c.text-item.result c.loop-text-test.true c.text-item.is (subst (λ (t : Text). CountsText (document_of b) b.setting.now.all_named i t c.in_ok-counts.counts) c.as_str.ensures.value step.counted) c.saturating_add-references.ensures inv.2,
     )
 
 pub returns-clause-advanced : goal.returns-clause-advanced
@@ -100,9 +107,9 @@ returns-clause-followed_all c krate f there =
     let i = id_of c.parts_of-parts.result.parent.now in
     let at = c.listed_feature-feature.ensures in
     let same = one_feature c.one_reading.ensures.once (document_of b) i krate feature.place.index number feature.name.now f c.parts_of-parts.ensures.at at (subst (λ (n : ℕ). IsFeatureAt b krate f n) (sym c.number.ensures) there) in
-    let texts = c.values-values.result.now in
+    let texts = c.values_at-values.result.now in
     let each = each_seen text_view (λ (t : Text). (reference : Reference) → IsReference t reference → HasFollowed b x i reference) texts texts c.loop-text.text-index refl (omega arith) c.loop-text.invariant.1 in
-    let followed_all : HasFollowedReferences b x i feature.name.now = followed_all_here b x i feature.name.now (map text_view texts) c.values-values.ensures.references each in
+    let followed_all : HasFollowedReferences b x i feature.name.now = followed_all_here b x i feature.name.now (map text_view texts) c.values_at-values.ensures.references each in
     subst (λ (j : Id). HasFollowedReferences b x j f) same.0 (subst (λ (g : Text). HasFollowedReferences b x i g) same.1 followed_all)
 
 pub returns-clause-counted : goal.returns-clause-counted
@@ -115,10 +122,10 @@ returns-clause-counted c =
     let at = c.listed_feature-feature.ensures in
     let enabled = listed_found b x c.args.taken number i feature.place.index feature.name.now c.requires.put c.number.ensures at c.parts_of-parts.ensures.at in
     let so_far = c.loop-text.invariant.2 in
-    let texts = c.values-values.result.now in
+    let texts = c.values_at-values.result.now in
     let each = zip_all (CountsText (document_of b) b.setting.now.all_named i) text_view texts c.loop-text.text-index so_far.counts (omega arith) so_far.each in
     let n = sum so_far.counts in
-    let here = references_here b i feature.name.now (map text_view texts) so_far.counts (c.requires.sound.derivable (Feature i feature.name.now) enabled) c.values-values.ensures.named each in
+    let here = references_here b i feature.name.now (map text_view texts) so_far.counts (c.requires.sound.derivable (Feature i feature.name.now) enabled) c.values_at-values.ensures.named each in
     record {
       number = n;
       has = λ krate f there. (

@@ -1,5 +1,7 @@
 use Rattle.std.proofs.Common.{refl, String, Global, sym, subst, arith, string_bytes}
+use Rattle.std.proofs.lemmas.Option.{slice_get_within}
 use Rattle.krates_cm.specs.Document.{Text, text_view}
+use Rattle.krates_questions.specs.Context.{document_of}
 use Rattle.krates_rules.specs.Facts.{Crate, Feature}
 use Rattle.krates_search.specs.SearchState.{HasFound, HasEnabled, MayEnable}
 use Rattle.krates_rules.specs.Resolved.{id_of}
@@ -8,6 +10,11 @@ use Rattle.krates_search.proofs.Growing.{advances_refl, advances_trans}
 use Rattle.krates_questions.proofs.FeatureValues.{value_at}
 use Rattle.krates_rules.proofs.Seen.{seen_more, each_seen}
 use Rattle.krates_resolve.proofs.roots.enable_listed.Goals as goal
+
+pub features_at-name-items-requires : goal.features_at-name-items-requires
+features_at-name-items-requires c =
+    let at = c.requires.node.at in
+    record { within = slice_get_within (document_of c.args.context.now).graph.nodes c.args.node.place.index at.node at.at }
 
 pub loop-name-init : goal.loop-name-init
 loop-name-init c = (advances_refl c.args.context.now c.args.found.now c.requires.sound, λ k d lt. absurd (omega (arith, lt)))
@@ -23,8 +30,8 @@ enable-requires-clause-may c =
     let b = c.args.context.now in
     let i = id_of c.args.node.id.now in
     let f = string_bytes c.name-item.result in
-    let texts = c.features-name-items.result.now in
-    let names = c.features-name-items.ensures f in
+    let texts = c.features_at-name-items.result.now in
+    let names = c.features_at-name-items.ensures i c.requires.node.at f in
     let among = value_at texts c.loop-name.name-index c.name-item.result c.loop-name-test.true c.name-item.is in
     subst (λ (t : Text). MayEnable b i t) (sym c.as_str.ensures.value) (record { enabled = c.requires.may f; listed = λ lacks. absurd (lacks (names.1 among)) })
 
@@ -45,8 +52,8 @@ loop-name-preserved c =
     let y = c.enable.new.found in
     let inv = c.loop-name.invariant in
     let step = c.in_ok-enable.ensures in
-    let texts = c.features-name-items.result.now in
-    let names = c.features-name-items.ensures f in
+    let texts = c.features_at-name-items.result.now in
+    let names = c.features_at-name-items.ensures i c.requires.node.at f in
     let among = value_at texts c.loop-name.name-index c.name-item.result c.loop-name-test.true c.name-item.is in
     let named = subst (λ (t : Text). HasEnabled b y i t) c.as_str.ensures.value step.named in (
       advances_trans b c.args.found.now x y inv.0 step.advanced,
@@ -61,6 +68,6 @@ pub returns-clause-enabled : goal.returns-clause-enabled
 returns-clause-enabled c f lists =
     let b = c.args.context.now in
     let i = id_of c.args.node.id.now in
-    let texts = c.features-name-items.result.now in
-    let names = c.features-name-items.ensures f in
+    let texts = c.features_at-name-items.result.now in
+    let names = c.features_at-name-items.ensures i c.requires.node.at f in
     each_seen text_view (λ (t : Text). HasFound b c.loop-name.found (Feature i t)) texts texts c.loop-name.name-index refl (omega arith) c.loop-name.invariant.1 f (names.0 lists)

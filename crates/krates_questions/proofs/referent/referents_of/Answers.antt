@@ -4,15 +4,15 @@ use Rattle.std.proofs.lemmas.Result.{IfOk-weaker}
 use Rattle.krates_questions.specs.Lookup.{resolved_view}
 use Rattle.krates_questions.specs.ReferentPlace.{AreReferentsIn}
 use Rattle.krates_questions.proofs.AllReferents.{none_in, one_in}
-use Rattle.krates_questions.proofs.questions.Document.referents_of.Goals.{in-Some+in_ok-push, in_default}
-use Rattle.krates_questions.proofs.questions.Document.referents_of.Goals as goal
+use Rattle.krates_questions.proofs.referent.referents_of.Goals.{in-Some+in_ok-push, in_default}
+use Rattle.krates_questions.proofs.referent.referents_of.Goals as goal
 
 pub returns-then-all : goal.returns-then-all
-returns-then-all c = IfOk-weaker c.all_referents.result _ _ (λ xs told. subst (λ (b : Bool). AreReferentsIn (resolved_view c.args.self.now) b c.args.parts.now c.args.name.now xs.items) (sym c.if-all.true) told) c.all_referents.ensures
+returns-then-all c = IfOk-weaker c.all_referents.result _ _ (λ xs told. subst (λ (b : Bool). AreReferentsIn (resolved_view c.args.document.now) b c.args.parts.now c.args.name.now xs.items) (sym c.if-all.true) told) c.all_referents.ensures
 
 pub returns : goal.returns
 returns c =
-    let r = resolved_view c.args.self.now in
+    let r = resolved_view c.args.document.now in
     let parts = c.args.parts.now in
     let name = c.args.name.now in
     rw c.if-all.false (elim c.match-referent_of.branch [
