@@ -42,25 +42,25 @@ SHOWN_BY = {
     # as what an edge is declared: by name, version and source
     "Document::declared": (
         "version_of declared_of is_name_of folded_order named_places places_under NodeEntry::declared_at"
-        " Document::places_for NodeParts::entry_at Document::parts_of is_same_info"
+        " places_for NodeParts::entry_at parts_of is_same_info"
     ).split(),
     # a document that is asked looks its crates, features and names up
     "Document::new": ("lookup_of", "at_number"),
     "Document::is_open": (
-        "Document::node_place Document::child_place Document::crate_number Document::node_number"
-        " Document::child_number_at Document::package_place_at Document::package_at Document::node_place_at"
+        "Document::node_place child_place Document::crate_number node_number child_number_at"
     ).split(),
-    "Document::is_root": ("Document::is_member", "Document::is_root_member", "is_same"),
-    "Document::lists": ("Document::feature_number",),
-    "Document::referent": ("Document::referent_of", "is_library_rename"),
-    "Document::referents": ("Document::referents_of",),
+    "Document::is_root": ("Document::is_member", "is_root_member", "is_same"),
+    "Document::lists": ("Document::feature_number", "features_at", "listed_feature"),
+    "Document::values": ("values_at",),
+    "Document::referent": ("is_library_rename",),
+    "Document::referents": ("referents_of",),
     "Document::roots": ("Document::root_choice",),
     # a selection is made of what a document has
     "select": (
         "select_in Context::exclusions Context::availability_at Work::new Work::count_krate"
         " Work::count_feature Reason::by_nothing Reason::by_one Reason::by_two put_krate enable toggle"
         " Document::packages Document::nodes Document::node_ids Document::crate_ids Document::feature_count Document::agrees"
-        " Document::listed_feature"
+        ""
         " expand expand_entry links_of Links::kept Links::is_asked Links::let_wait kept_edges kept_features"
         " kept_toggled KeptTables::crate_at KeptTables::new"
     ).split(),
