@@ -21,7 +21,7 @@ use Rattle.krates_foreign.specs.CallRefusalText.{BuildErrorBecomes, ListingError
 use Rattle.krates_foreign.specs.declared.refusal.CallRefusal.{CallRefusal}
 use Rattle.krates_foreign.specs.declared.refusal.CallRefusal.TheVariants as refusals
 
--- ---- words and documents that aren't read
+-- ---- words, ids and documents that aren't read
 
 pub unasked : (bytes words : Text) (e : CallRefusal) → IsUnasked words e → ReadRefusal bytes words e
 unasked bytes words refusals.Words h = h
@@ -33,32 +33,32 @@ unasked bytes words (refusals.NotKept _) h = absurd h
 unasked bytes words (refusals.Certificate _) h = absurd h
 unasked bytes words refusals.Memory h = tt
 
-pub no_document : (bytes words : Text) (e : CallRefusal) → IsNoDocumentIn bytes e → ReadRefusal bytes words e
-no_document bytes words refusals.Words h = absurd h
-no_document bytes words refusals.Id h = absurd h
-no_document bytes words refusals.Utf8 h = h
-no_document bytes words (refusals.Parse _) h = h
-no_document bytes words (refusals.Build _) h = absurd h
-no_document bytes words (refusals.NotKept _) h = absurd h
-no_document bytes words (refusals.Certificate _) h = absurd h
-no_document bytes words refusals.Memory h = tt
+pub no_document : (bytes words : Text) (o : OptionsModel) → AsksFor words o → (e : CallRefusal) → IsNoDocumentIn bytes e → ReadRefusal bytes words e
+no_document bytes words o asks refusals.Words h = absurd h
+no_document bytes words o asks refusals.Id h = absurd h
+no_document bytes words o asks refusals.Utf8 h = ((o, asks), h)
+no_document bytes words o asks (refusals.Parse _) h = ((o, asks), h)
+no_document bytes words o asks (refusals.Build _) h = absurd h
+no_document bytes words o asks (refusals.NotKept _) h = absurd h
+no_document bytes words o asks (refusals.Certificate _) h = absurd h
+no_document bytes words o asks refusals.Memory h = tt
 
 -- so no call has an answer
 pub no_listing : (bytes words : Text) (e : CallRefusal) → ReadRefusal bytes words e → ListRefusal bytes words e
 no_listing bytes words refusals.Words h = h
-no_listing bytes words refusals.Id h = absurd h
+no_listing bytes words refusals.Id h = absurd h.1
 no_listing bytes words refusals.Utf8 h = h
 no_listing bytes words (refusals.Parse _) h = h
-no_listing bytes words (refusals.Build _) h = absurd h
-no_listing bytes words (refusals.NotKept _) h = absurd h
-no_listing bytes words (refusals.Certificate _) h = absurd h
+no_listing bytes words (refusals.Build _) h = absurd h.1
+no_listing bytes words (refusals.NotKept _) h = h
+no_listing bytes words (refusals.Certificate _) h = h
 no_listing bytes words refusals.Memory h = tt
 
-pub no_reason : (bytes words id : Text) (e : CallRefusal) → ReadRefusal bytes words e → WhyRefusal bytes words id e
+pub no_reason : (bytes words id : Text) (e : CallRefusal) → IsUnasked words e → WhyRefusal bytes words id e
 no_reason bytes words id refusals.Words h = h
 no_reason bytes words id refusals.Id h = absurd h
-no_reason bytes words id refusals.Utf8 h = h
-no_reason bytes words id (refusals.Parse _) h = h
+no_reason bytes words id refusals.Utf8 h = absurd h
+no_reason bytes words id (refusals.Parse _) h = absurd h
 no_reason bytes words id (refusals.Build _) h = absurd h
 no_reason bytes words id (refusals.NotKept _) h = absurd h
 no_reason bytes words id (refusals.Certificate _) h = absurd h
@@ -66,23 +66,23 @@ no_reason bytes words id refusals.Memory h = tt
 
 pub no_verdict : (bytes words certificate : Text) (e : CallRefusal) → ReadRefusal bytes words e → CheckRefusal bytes words certificate e
 no_verdict bytes words certificate refusals.Words h = h
-no_verdict bytes words certificate refusals.Id h = absurd h
+no_verdict bytes words certificate refusals.Id h = h
 no_verdict bytes words certificate refusals.Utf8 h = h
 no_verdict bytes words certificate (refusals.Parse _) h = h
-no_verdict bytes words certificate (refusals.Build _) h = absurd h
-no_verdict bytes words certificate (refusals.NotKept _) h = absurd h
-no_verdict bytes words certificate (refusals.Certificate _) h = absurd h
+no_verdict bytes words certificate (refusals.Build _) h = h
+no_verdict bytes words certificate (refusals.NotKept _) h = h
+no_verdict bytes words certificate (refusals.Certificate _) h = absurd h.1
 no_verdict bytes words certificate refusals.Memory h = tt
 
-pub no_id : (bytes words id : Text) (e : CallRefusal) → IsNoId id e → WhyRefusal bytes words id e
-no_id bytes words id refusals.Words h = absurd h
-no_id bytes words id refusals.Id h = h
-no_id bytes words id refusals.Utf8 h = absurd h
-no_id bytes words id (refusals.Parse _) h = absurd h
-no_id bytes words id (refusals.Build _) h = absurd h
-no_id bytes words id (refusals.NotKept _) h = absurd h
-no_id bytes words id (refusals.Certificate _) h = absurd h
-no_id bytes words id refusals.Memory h = tt
+pub no_id : (bytes words id : Text) (o : OptionsModel) → AsksFor words o → (e : CallRefusal) → IsNoId id e → WhyRefusal bytes words id e
+no_id bytes words id o asks refusals.Words h = absurd h
+no_id bytes words id o asks refusals.Id h = ((o, asks), h)
+no_id bytes words id o asks refusals.Utf8 h = absurd h
+no_id bytes words id o asks (refusals.Parse _) h = absurd h
+no_id bytes words id o asks (refusals.Build _) h = absurd h
+no_id bytes words id o asks (refusals.NotKept _) h = absurd h
+no_id bytes words id o asks (refusals.Certificate _) h = absurd h
+no_id bytes words id o asks refusals.Memory h = tt
 
 -- ---- listings
 
@@ -114,8 +114,8 @@ lists bytes words lines o asks (m, document, listing) =
 pub list_refused : (bytes words : Text) (o : OptionsModel) → AsksFor words o → (e : CallRefusal) → IsUnlistedIn (request_of o) bytes e → ListRefusal bytes words e
 list_refused bytes words o asks refusals.Words h = absurd h
 list_refused bytes words o asks refusals.Id h = absurd h
-list_refused bytes words o asks refusals.Utf8 h = h
-list_refused bytes words o asks (refusals.Parse _) h = h
+list_refused bytes words o asks refusals.Utf8 h = ((o, asks), h)
+list_refused bytes words o asks (refusals.Parse _) h = ((o, asks), h)
 list_refused bytes words o asks (refusals.Build cause) h = (o, asks, h)
 list_refused bytes words o asks (refusals.NotKept krate) h = absurd (none-some krate (sym asks.alone.no_crate ∙ h.2.asked))
 list_refused bytes words o asks (refusals.Certificate _) h = absurd h
@@ -135,9 +135,9 @@ lacks bytes words id o krate same is asks names (m, document, h) =
 pub why_refused : (bytes words id : Text) (o : OptionsModel) (krate : Identity) → AsksFor words o → NamesCrate id krate → (e : CallRefusal) → IsUnlistedIn (request_of (explaining o krate)) bytes e → WhyRefusal bytes words id e
 why_refused bytes words id o krate asks names refusals.Words h = absurd h
 why_refused bytes words id o krate asks names refusals.Id h = absurd h
-why_refused bytes words id o krate asks names refusals.Utf8 h = h
-why_refused bytes words id o krate asks names (refusals.Parse _) h = h
-why_refused bytes words id o krate asks names (refusals.Build cause) h = (o, asks, h)
+why_refused bytes words id o krate asks names refusals.Utf8 h = ((krate, names), ((o, asks), h))
+why_refused bytes words id o krate asks names (refusals.Parse _) h = ((krate, names), ((o, asks), h))
+why_refused bytes words id o krate asks names (refusals.Build cause) h = ((krate, names), (o, asks, h))
 why_refused bytes words id o krate asks names (refusals.NotKept same) h = lacks bytes words id o krate same (sym (same_Some krate same h.2.asked)) asks names h
 why_refused bytes words id o krate asks names (refusals.Certificate _) h = absurd h
 why_refused bytes words id o krate asks names refusals.Memory h = tt
@@ -169,8 +169,8 @@ undrawn s bytes refusals.Memory h = tt
 pub graph_refused : (bytes words : Text) (o : OptionsModel) → AsksFor words o → (e : CallRefusal) → IsUndrawnIn (setting_of o) bytes e → ListRefusal bytes words e
 graph_refused bytes words o asks refusals.Words h = absurd h
 graph_refused bytes words o asks refusals.Id h = absurd h
-graph_refused bytes words o asks refusals.Utf8 h = h
-graph_refused bytes words o asks (refusals.Parse _) h = h
+graph_refused bytes words o asks refusals.Utf8 h = ((o, asks), h)
+graph_refused bytes words o asks (refusals.Parse _) h = ((o, asks), h)
 graph_refused bytes words o asks (refusals.Build cause) h = (o, asks, h)
 graph_refused bytes words o asks (refusals.NotKept _) h = absurd h
 graph_refused bytes words o asks (refusals.Certificate _) h = absurd h

@@ -42,15 +42,15 @@ unbuilt law a bytes lines e cause is has (n, document, h) =
 -- a listing under the options, and a refusal about the words and the document
 refused : ListsOrRefuses → AskOnce → (a : Request) (bytes words lines : Text) (o : OptionsModel) (e : CallRefusal) → a.setting ≡ setting_of o → AsksFor words o → HasListing a bytes lines → ListRefusal bytes words e → IsOutside e
 refused law once a bytes words lines o refusals.Words same asks has h = absurd (h o asks)
-refused law once a bytes words lines o refusals.Utf8 same asks has h = absurd (h has.1.is_text)
-refused law once a bytes words lines o (refusals.Parse cause) same asks has h = absurd (law a bytes lines (runs.Parse cause) h.0 (listing_in a bytes lines has) h)
+refused law once a bytes words lines o refusals.Utf8 same asks has h = absurd (h.1 has.1.is_text)
+refused law once a bytes words lines o (refusals.Parse cause) same asks has h = absurd (law a bytes lines (runs.Parse cause) h.1.0 (listing_in a bytes lines has) h.1)
 refused law once a bytes words lines o (refusals.Build cause) same asks has h =
     let unbuilt_of = λ (s : SettingModel). OfDocument bytes (λ m. IsUnbuilt s m cause) in
     unbuilt law a bytes lines (refusals.Build cause) cause refl has (subst unbuilt_of (sym same) (under once words o unbuilt_of asks h))
 refused law once a bytes words lines o refusals.Memory same asks has h = tt
-refused law once a bytes words lines o refusals.Id same asks has h = absurd h
-refused law once a bytes words lines o (refusals.NotKept _) same asks has h = absurd h
-refused law once a bytes words lines o (refusals.Certificate _) same asks has h = absurd h
+refused law once a bytes words lines o refusals.Id same asks has h = absurd h.1
+refused law once a bytes words lines o (refusals.NotKept _) same asks has h = absurd h.1
+refused law once a bytes words lines o (refusals.Certificate _) same asks has h = absurd h.1
 
 pub listed_refused : ListsOrRefuses → AskOnce → (bytes words lines : Text) (e : CallRefusal) → Lists bytes words lines → ListRefusal bytes words e → IsOutside e
 listed_refused law once bytes words lines e (o, asks, has) h = refused law once (record { setting = setting_of o; explaining = None }) bytes words lines o e refl asks has h
@@ -70,13 +70,13 @@ kept law once bytes words lines o krate asks has lacks =
     law a bytes lines (runs.NotKept krate) w.1.is_text (listing_in a bytes lines has) (w.1.is_text, record { metadata = w.0; document = w.1.document; unkept = w.2 })
 
 pub explained_refused : ListsOrRefuses → AskOnce → ReadsOnce → (bytes words id lines : Text) (e : CallRefusal) → Explains bytes words id lines → WhyRefusal bytes words id e → IsOutside e
-explained_refused law once reads bytes words id lines refusals.Id (krate, names, rest) h = absurd (h krate names)
+explained_refused law once reads bytes words id lines refusals.Id (krate, names, rest) h = absurd (h.1 krate names)
 explained_refused law once reads bytes words id lines (refusals.NotKept other) (krate, names, (o, asks, has)) (also, lacks) =
     let that = reads id other krate also.1 names.1 in
     absurd (kept law once bytes words lines o krate asks has (subst (λ (k : Identity). Under words (λ s. OfDocument bytes (λ m. IsUnkept (record { setting = s; explaining = Some k }) m k))) that lacks))
 explained_refused law once reads bytes words id lines refusals.Words (krate, names, (o, asks, has)) h = refused law once (record { setting = setting_of o; explaining = Some krate }) bytes words lines o refusals.Words refl asks has h
-explained_refused law once reads bytes words id lines refusals.Utf8 (krate, names, (o, asks, has)) h = refused law once (record { setting = setting_of o; explaining = Some krate }) bytes words lines o refusals.Utf8 refl asks has h
-explained_refused law once reads bytes words id lines (refusals.Parse cause) (krate, names, (o, asks, has)) h = refused law once (record { setting = setting_of o; explaining = Some krate }) bytes words lines o (refusals.Parse cause) refl asks has h
-explained_refused law once reads bytes words id lines (refusals.Build cause) (krate, names, (o, asks, has)) h = refused law once (record { setting = setting_of o; explaining = Some krate }) bytes words lines o (refusals.Build cause) refl asks has h
+explained_refused law once reads bytes words id lines refusals.Utf8 (krate, names, (o, asks, has)) h = refused law once (record { setting = setting_of o; explaining = Some krate }) bytes words lines o refusals.Utf8 refl asks has h.1
+explained_refused law once reads bytes words id lines (refusals.Parse cause) (krate, names, (o, asks, has)) h = refused law once (record { setting = setting_of o; explaining = Some krate }) bytes words lines o (refusals.Parse cause) refl asks has h.1
+explained_refused law once reads bytes words id lines (refusals.Build cause) (krate, names, (o, asks, has)) h = refused law once (record { setting = setting_of o; explaining = Some krate }) bytes words lines o (refusals.Build cause) refl asks has h.1
 explained_refused law once reads bytes words id lines refusals.Memory (krate, names, (o, asks, has)) h = tt
-explained_refused law once reads bytes words id lines (refusals.Certificate _) (krate, names, (o, asks, has)) h = absurd h
+explained_refused law once reads bytes words id lines (refusals.Certificate _) (krate, names, (o, asks, has)) h = absurd h.1.1

@@ -26,6 +26,10 @@ pub record AsksFor (words : Text) (o : OptionsModel) : Type 0 where
 abbrev pub Under : Text → (SettingModel → Type 0) → Type 0
 Under words P = (o : OptionsModel) × AsksFor words o × P (setting_of o)
 
+-- They give one.
+abbrev pub AskForOne : Text → Type 0
+AskForOne words = (o : OptionsModel) × AsksFor words o
+
 -- They give none.
 abbrev pub AskForNone : Text → Type 0
 AskForNone words = (o : OptionsModel) → AsksFor words o → ⊥

@@ -3,7 +3,7 @@ use Rattle.std.specs.Prelude.{◌≡◌, IsUtf8, Some, ⊤}
 use Rattle.krates_cm.specs.Document.{Text, metadata_view}
 use Rattle.krates_cm.specs.declared.metadata.Metadata.{Metadata}
 use Rattle.krates_cli.specs.Listing.{ExplainsCrate, IsListingOf, ListsPackages}
-use Rattle.krates_cli.specs.ListingRefusals.{IsUnbuilt, IsUnkept, ParseRefusal}
+use Rattle.krates_cli.specs.ListingRefusals.{IsUnbuilt, IsUnkept}
 use Rattle.krates_cli.specs.Options.{OptionsModel, setting_of}
 use Rattle.krates_cli.specs.Request.{Request}
 use Rattle.krates_ids.specs.Identity.{Identity, Reads}
@@ -14,7 +14,7 @@ use Rattle.krates_verdict.specs.Subject.{SubjectModel}
 use Rattle.krates_verdict.specs.VerdictText.{verdict_line}
 use Rattle.krates_verdict.specs.declared.refusal.Refusal.TheVariants as verdicts
 use Rattle.krates_verdict.specs.declared.verdict.Verdict.{Verdict}
-use Rattle.krates_foreign.specs.Asked.{AskForNone, AsksFor, Under, setting_words}
+use Rattle.krates_foreign.specs.Asked.{AskForNone, AskForOne, AsksFor, Under, setting_words}
 use Rattle.krates_foreign.specs.Documents.{IsNoDocumentIn, OfDocument}
 use Rattle.krates_foreign.specs.DrawnLines.{DrawsPackages}
 use Rattle.krates_foreign.specs.declared.refusal.CallRefusal.{CallRefusal}
@@ -34,6 +34,14 @@ Draws bytes words lines = Under words (λ s. OfDocument bytes (λ m. DrawsPackag
 abbrev pub NamesCrate : Text → Identity → Type 0
 NamesCrate id krate = IsUtf8 id × Reads id krate
 
+-- they are the id of a crate
+abbrev pub NamesOne : Text → Type 0
+NamesOne id = (krate : Identity) × NamesCrate id krate
+
+-- they are no crate's id
+abbrev pub NamesNone : Text → Type 0
+NamesNone id = (krate : Identity) → NamesCrate id krate → ⊥
+
 -- The lines of a derivation of the crate that is named.
 abbrev pub Explains : Text → Text → Text → Text → Type 0
 Explains bytes words id lines =
@@ -52,15 +60,13 @@ abbrev pub Checks : Text → Text → Text → Text → Type 0
 Checks bytes words certificate line =
     (o : OptionsModel) × AsksFor words o × OfDocument bytes (λ m. Upholds (subject_of m o) certificate line)
 
--- ---- refusals; memory may always run out
+-- ---- refusals: each cause counts only where those before it aren't true; memory may always run out
 
--- no setting is read from the words, or no document from the bytes
+-- no setting is read from the words; or one is, and no document from the bytes
 abbrev pub ReadRefusal : Text → Text → CallRefusal → Type 0
 ReadRefusal bytes words refusals.Words = AskForNone words
-ReadRefusal bytes words refusals.Utf8 = IsUtf8 bytes → ⊥
-ReadRefusal bytes words (refusals.Parse cause) = IsUtf8 bytes × ParseRefusal bytes cause
 ReadRefusal bytes words refusals.Memory = ⊤
-ReadRefusal bytes words _ = ⊥
+ReadRefusal bytes words refusal = AskForOne words × IsNoDocumentIn bytes refusal
 
 abbrev pub ListRefusal : Text → Text → CallRefusal → Type 0
 ListRefusal bytes words (refusals.Build cause) = Under words (λ s. OfDocument bytes (λ m. IsUnbuilt s m cause))
@@ -71,10 +77,13 @@ abbrev pub LacksCrate : Text → Text → Text → Identity → Type 0
 LacksCrate bytes words id krate = NamesCrate id krate
     × Under words (λ s. OfDocument bytes (λ m. IsUnkept (record { setting = s; explaining = Some krate }) m krate))
 
+-- the id counts after the words, and before the document
 abbrev pub WhyRefusal : Text → Text → Text → CallRefusal → Type 0
-WhyRefusal bytes words id refusals.Id = (krate : Identity) → NamesCrate id krate → ⊥
+WhyRefusal bytes words id refusals.Words = AskForNone words
+WhyRefusal bytes words id refusals.Id = AskForOne words × NamesNone id
 WhyRefusal bytes words id (refusals.NotKept krate) = LacksCrate bytes words id krate
-WhyRefusal bytes words id refusal = ListRefusal bytes words refusal
+WhyRefusal bytes words id refusals.Memory = ⊤
+WhyRefusal bytes words id refusal = NamesOne id × ListRefusal bytes words refusal
 
 abbrev pub CheckRefusal : Text → Text → Text → CallRefusal → Type 0
 CheckRefusal bytes words certificate (refusals.Certificate cause) =
@@ -105,7 +114,7 @@ IsUndrawnIn s bytes (refusals.Build cause) = OfDocument bytes (λ m. IsUnbuilt s
 IsUndrawnIn s bytes refusal = IsNoDocumentIn bytes refusal
 
 abbrev pub IsNoId : Text → CallRefusal → Type 0
-IsNoId id refusals.Id = (krate : Identity) → NamesCrate id krate → ⊥
+IsNoId id refusals.Id = NamesNone id
 IsNoId id refusals.Memory = ⊤
 IsNoId id _ = ⊥
 

@@ -134,9 +134,9 @@ pub fn check(
         (λ line. Checks document.now words.now certificate.now (string_bytes line)) }
     ensures refused { IfErr result (CheckRefusal document.now words.now certificate.now) }
 {
-    let options = options_in(alloc, words)?;
-    let metadata = document_in(alloc, document)?;
-    let told = judged(alloc, &options, &metadata, certificate);
-    metadata.let_go();
+    let asked = options_in(alloc, words)?;
+    let document = document_in(alloc, document)?;
+    let told = judged(alloc, &asked, &document, certificate);
+    document.let_go();
     told
 }

@@ -121,6 +121,11 @@ const LISTED: &[Row] = &[
         "1 38 the options are not those of a setting",
     ),
     ("list 30 < no text", "3 25 the document is not UTF-8....."),
+    // of several faults the first counts: here that of the words
+    (
+        "list 38 --cargo cargo < no text",
+        "1 38 the options are not those of a setting",
+    ),
     (
         "list 60 < a / no graph",
         "5 32 no resolution graph was provided............................",
@@ -141,6 +146,12 @@ const EXPLAINED: &[Row] = &[
         "8 32 ...............................",
     ),
     ("why 30 < a / id b", "2 28 the text is not a package id.."),
+    // the words count before the id, and the id before the document
+    (
+        "why 38 --cargo cargo < a / id b",
+        "1 38 the options are not those of a setting",
+    ),
+    ("why 28 < no text", "2 28 the text is not a package id"),
 ];
 
 const DRAWN: &[Row] = &[
@@ -182,6 +193,11 @@ const JUDGED: &[Row] = &[
         "7 53 something follows from the facts and isn't among them",
     ),
     ("check 25 < no text", "3 25 the document is not UTF-8"),
+    // the words count before the document
+    (
+        "check 38 --cargo cargo < no text",
+        "1 38 the options are not those of a setting",
+    ),
 ];
 
 const STATUSES: &[(Status, u32)] = &[
