@@ -1,5 +1,5 @@
 -- How an answer is put into the room that the caller lends.
-use Rattle.std.specs.Prelude.{◌≡◌, ◌⊎◌, ◌++◌, ◌<◌, ◌≤◌, [], IfSome, Ok, Err, Result, String, drop, length, string_bytes}
+use Rattle.std.specs.Prelude.{◌≡◌, ◌⊎◌, ◌++◌, ◌<◌, ◌≤◌, [], IfOk, IfSome, Ok, Err, Result, String, drop, length, string_bytes}
 use Rattle.std.specs.declared.alloc.Global.{Global}
 use Rattle.krates_cm.specs.Document.{Text}
 use Rattle.krates_foreign.specs.CallRefusalText.{refusal_text}
@@ -48,3 +48,7 @@ pub data Tells (Answers : Text → Type 0) (Refuses : CallRefusal → Type 0) : 
 -- the same for the result of a call
 abbrev pub TellsOf : Result (String Global) CallRefusal → Status → Text → Type 0
 TellsOf told = Tells (λ text. (s : String Global) × (told ≡ Ok s) × (string_bytes s ≡ text)) (λ refusal. told ≡ Err refusal)
+
+-- Where a call has an answer, its text was handed over, and nothing else.
+abbrev pub HandsText : Result (String Global) CallRefusal → Answer → Text → Text → Type 0
+HandsText told answer old new = IfOk told (λ text. IsHanded statuses.Answered (string_bytes text) answer old new)

@@ -1,7 +1,7 @@
 //! How an answer is given to the caller, who lends the room for it.
 
 ghost use Rattle.std.specs.Prelude.{Err, IfErr, IfOk, length, string_bytes};
-ghost use Rattle.krates_foreign.specs.Handing.{Hands, IsHanded, TellsOf, TellsRefusal};
+ghost use Rattle.krates_foreign.specs.Handing.{Hands, HandsText, IsHanded, TellsOf, TellsRefusal};
 
 use crate::refusal::CallRefusal;
 use crate::status::Status;
@@ -35,20 +35,23 @@ fn hand(status: Status, text: &[u8], room: &mut [u8]) -> Answer
 /// it was. The answer has the status and the length of the text.
 ///
 /// Where the room is too short for the text, it is as it was, the status is that of `TooShort`, and the length is the room that the text
-/// needs. Where memory runs out, it is as it was, the status is that of `Memory`, and the length 0. Time O(length of the text).
+/// needs. Memory can run out only in printing a refusal: then the room is as it was, the status is that of `Memory`, and the length 0.
+/// Time O(length of the text).
 ///
 /// ```text
 /// let answer = hand_over(alloc, list(alloc, document, words), &mut room);
 /// ```
 pub fn hand_over(alloc: Global, told: Result<String, CallRefusal>, room: &mut [u8]) -> Answer
-    ensures { Hands (TellsOf told) result room.old room.new }
+    ensures told { Hands (TellsOf told) result room.old room.new }
+    ensures answered { HandsText told result room.old room.new }
 {
     hand_result(alloc, &told, room)
 }
 
 /// The same for a borrowed result, so that it is dropped in one place.
 fn hand_result(alloc: Global, told: &Result<String, CallRefusal>, room: &mut [u8]) -> Answer
-    ensures { Hands (TellsOf told.now) result room.old room.new }
+    ensures told { Hands (TellsOf told.now) result room.old room.new }
+    ensures answered { HandsText told.now result room.old room.new }
 {
     match told {
         Ok(text) => hand(Status::Answered, text.as_bytes(), room),
