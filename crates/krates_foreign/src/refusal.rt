@@ -13,7 +13,7 @@ use std::alloc::AllocError;
 use std::fmt;
 
 /// Why a call has no answer. Of several that are true the first counts, but memory may run out at each of them.
-#[derive(Debug, Drop)]
+#[derive(Debug, Drop, thiserror::Error)]
 pub enum CallRefusal {
     /// The words aren't UTF-8, or aren't options, or say more than a setting.
     Words,
@@ -64,6 +64,7 @@ impl CallRefusal {
     }
 }
 
+// By hand, since a clause says what is printed, and what a derive writes has none.
 impl fmt::Display for CallRefusal {
     ghost output = { refusal_text };
 
@@ -80,8 +81,6 @@ impl fmt::Display for CallRefusal {
         }
     }
 }
-
-impl std::error::Error for CallRefusal {}
 
 impl From<ParseError> for CallRefusal {
     ghost use Rattle.krates_foreign.specs.CallRefusalText.{ParseErrorBecomes};

@@ -4,39 +4,26 @@ use krates::Error;
 use krates::derive::CheckError;
 use krates_answers::naming::NamingError;
 use std::alloc::{AllocError, AllocFailed};
-use std::fmt;
 
 /// Why what is asked isn't answered.
-#[derive(Debug, Drop)]
+#[derive(Debug, Drop, thiserror::Error)]
 pub enum ReportError {
     /// The document can't be built.
+    #[error("{0}")]
     Build(Error),
     /// A word doesn't mean one package.
+    #[error("{0}")]
     Naming(NamingError),
     /// The checker doesn't say yes.
+    #[error("the checker refuses the facts of the build: {0}")]
     Check(CheckError),
     /// A second document is required, and there is none.
+    #[error("there is no second document")]
     NoOther,
     /// Memory ran out.
+    #[error("out of memory")]
     Memory,
 }
-
-impl fmt::Display for ReportError {
-    fn fmt<W: fmt::Write>(&self, f: &mut fmt::Formatter<W>) -> fmt::Result {
-        match self {
-            ReportError::Build(cause) => write!(f, "{cause}"),
-            ReportError::Naming(cause) => write!(f, "{cause}"),
-            ReportError::Check(cause) => write!(
-                f,
-                "the checker refuses the facts of the build: {cause}"
-            ),
-            ReportError::NoOther => f.write_str("there is no second document"),
-            ReportError::Memory => f.write_str("out of memory"),
-        }
-    }
-}
-
-impl std::error::Error for ReportError {}
 
 impl From<AllocError> for ReportError {
     fn from(_: AllocError) -> ReportError {
