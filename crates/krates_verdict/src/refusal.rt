@@ -91,7 +91,6 @@ impl fmt::Display for Objection {
 }
 
 // By hand, since a clause says what is printed, and what a derive writes has none.
-// By hand, since a clause says what is printed, and what a derive writes has none.
 impl fmt::Display for Refusal {
     ghost output = { refusal_text };
 
