@@ -104,13 +104,18 @@ fn parent_of<'a>(
 
 /// The dependency of a crate on another.
 fn dependency_of<'a>(
-    parent: KrateMatch<'a, Package>,
+    parent: &KrateMatch<'a, Package>,
     child: &KrateMatch<'a, Package>,
 ) -> DependencyEdge<'a>
-    ensures { dependency_view result ≡ record { parent = match_view parent; child = match_view child.now } }
+    ensures { dependency_view result
+        ≡ record { parent = match_view parent.now; child = match_view child.now } }
 {
     DependencyEdge {
-        parent,
+        parent: KrateMatch {
+            krate: parent.krate,
+            kid: parent.kid,
+            node_id: parent.node_id,
+        },
         child: KrateMatch {
             krate: child.krate,
             kid: child.kid,
@@ -137,7 +142,7 @@ fn push_if_lost<'a>(
     if there.has_dependency(parent.kid, child.kid) {
         return Ok(());
     }
-    push(lost, dependency_of(parent, child))
+    push(lost, dependency_of(&parent, child))
 }
 
 /// Adds those of the direct dependencies on a crate that the other graph lacks.
