@@ -1,3 +1,4 @@
 pub mod CargoWords
 pub mod Choice
 pub mod SettingWords
+pub mod Stated

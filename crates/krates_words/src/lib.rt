@@ -10,6 +10,7 @@ mod error;
 mod found;
 mod known;
 mod setting_words;
+mod stated;
 mod together;
 mod values;
 
@@ -19,6 +20,7 @@ pub use cargo::CargoWords;
 pub use check_words::{CheckWords, check_words_of};
 pub use choice::Choice;
 pub use error::WordsError;
+pub use stated::StatedSetting;
 use std::alloc::Global;
 
 /// What a run is asked for.
