@@ -1,4 +1,5 @@
 pub mod CargoWords
 pub mod Choice
+pub mod Errors
 pub mod SettingWords
 pub mod Stated

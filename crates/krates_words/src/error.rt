@@ -1,5 +1,9 @@
 //! Why words can't be answered.
 
+ghost use Rattle.std.specs.Prelude.{◌≡◌};
+ghost use Rattle.krates_words.specs.Errors.{IsWrongOrMemory, error_of, words_error_text};
+ghost use Rattle.krates_words.specs.declared.error.WordsError.TheVariants.{Memory};
+
 use clap::error::ErrorKind;
 use std::alloc::{AllocError, AllocFailed, Global};
 use std::fmt;
@@ -25,7 +29,9 @@ impl WordsError {
     }
 
     /// The refusal of this kind with this text.
-    fn of_kind(kind: ErrorKind, text: String) -> WordsError {
+    fn of_kind(kind: ErrorKind, text: String) -> WordsError
+        ensures { result ≡ error_of kind text }
+    {
         match kind {
             ErrorKind::DisplayHelp | ErrorKind::DisplayVersion => WordsError::Asked(text),
             ErrorKind::OutOfMemory => WordsError::Memory,
@@ -34,7 +40,9 @@ impl WordsError {
     }
 
     /// The words are wrong for this reason.
-    pub(crate) fn wrong(alloc: Global, reason: impl fmt::Display + Drop) -> WordsError {
+    pub(crate) fn wrong(alloc: Global, reason: impl fmt::Display + Drop) -> WordsError
+        ensures { IsWrongOrMemory result }
+    {
         match format!(in alloc; "error: {reason}\n\nFor more information, try '--help'.\n") {
             Ok(text) => WordsError::Wrong(text),
             Err(_) => WordsError::Memory,
@@ -44,6 +52,8 @@ impl WordsError {
 
 /// The text.
 impl fmt::Display for WordsError {
+    ghost output = { words_error_text };
+
     fn fmt<W: fmt::Write>(&self, f: &mut fmt::Formatter<W>) -> fmt::Result {
         match self {
             WordsError::Asked(text) | WordsError::Wrong(text) => f.write_str(text.as_str()),
@@ -55,12 +65,16 @@ impl fmt::Display for WordsError {
 impl std::error::Error for WordsError {}
 
 impl From<AllocError> for WordsError {
+    ghost from_gives = { λ _ e. e ≡ Memory };
+
     fn from(_error: AllocError) -> WordsError {
         WordsError::Memory
     }
 }
 
 impl<T: Drop> From<AllocFailed<T>> for WordsError {
+    ghost from_gives = { λ _ e. e ≡ Memory };
+
     fn from(_error: AllocFailed<T>) -> WordsError {
         WordsError::Memory
     }
