@@ -8,11 +8,10 @@
 mod failure;
 
 use crate::failure::CheckFailure;
-use krates_cm::Metadata;
 use krates_host::program::{NO, refuse_asked, refuse_words, words_of};
 use krates_host::{document, said, targets};
-use krates_verdict::{CertificateSubject, run};
-use krates_words::{CheckWords, Choice, check_words_of};
+use krates_verdict::run_under;
+use krates_words::{CheckWords, check_words_of};
 use std::io::IsTerminal;
 use std::process::ExitCode;
 
@@ -23,26 +22,16 @@ fn check(rt: &HostRuntime, mut asked: CheckWords) -> Result<(), CheckFailure> {
     if rt.stdin().is_terminal() {
         said::note(rt, "reading a certificate from standard input");
     }
-    let told = check_against(rt, &asked.choice, &metadata);
+    let (mut input, mut output) = (rt.reader(), rt.stdout());
+    let told = run_under(
+        rt.alloc(),
+        &asked.choice,
+        &metadata,
+        &mut input,
+        &mut output,
+    );
     metadata.let_go();
-    told
-}
-
-/// The same, of the document that was read.
-fn check_against(
-    rt: &HostRuntime,
-    choice: &Choice,
-    metadata: &Metadata,
-) -> Result<(), CheckFailure> {
-    let setting = choice.setting(rt.alloc(), &[])?;
-    let words = choice.words(rt.alloc())?;
-    let subject = CertificateSubject {
-        metadata,
-        setting: &setting,
-        words: &words,
-    };
-    run(rt.alloc(), &subject, &mut rt.reader(), &mut rt.stdout())?;
-    Ok(())
+    Ok(told?)
 }
 
 /// Does what the words say.

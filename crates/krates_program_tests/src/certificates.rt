@@ -3,7 +3,7 @@
 use crate::asked::{Answered, add_targets, answered_of, document_of};
 use crate::listing::words_of;
 use krates_samples::table::{Question, Row, hold};
-use krates_verdict::{CertificateSubject, run};
+use krates_verdict::run_under;
 use krates_words::{CheckWords, check_words_of};
 use std::alloc::Global;
 use std::test::Fail;
@@ -34,26 +34,9 @@ fn written(
     certificate: &[u8],
 ) -> Result<String, Fail> {
     add_targets(alloc, &mut asked.choice)?;
-    let setting = asked.choice.setting(alloc, &[])?;
-    let words = asked.choice.words(alloc)?;
     let metadata = document_of(alloc, document)?;
-    let subject = CertificateSubject {
-        metadata: &metadata,
-        setting: &setting,
-        words: &words,
-    };
-    judged(alloc, &subject, certificate)
-}
-
-/// What is written where a certificate holds, or why it doesn't.
-fn judged(
-    alloc: Global,
-    subject: &CertificateSubject<'_>,
-    certificate: &[u8],
-) -> Result<String, Fail> {
-    let mut input = certificate;
-    let mut output = Vec::new(alloc);
-    match run(alloc, subject, &mut input, &mut output) {
+    let (mut input, mut output) = (certificate, Vec::new(alloc));
+    match run_under(alloc, &asked.choice, &metadata, &mut input, &mut output) {
         Ok(()) => Ok(String::from_utf8(output)?),
         Err(refusal) => Ok(format!(in alloc; "refused: {refusal}")?),
     }

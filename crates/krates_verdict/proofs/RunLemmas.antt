@@ -1,15 +1,19 @@
 -- What is known of bytes, and of what was read, where there is no verdict.
-use Rattle.std.proofs.Common.{◌≡◌, ◌⊎◌, IfErr, IfSome, IsUtf8, None, [], Option, Result, Some, Ok, Err, inl, inr, refl, subst, sym}
-use Rattle.krates_cm.specs.Document.{Text}
+use Rattle.std.proofs.Common.{◌≡◌, ◌∙◌, ◌⊎◌, IfErr, IfSome, IsUtf8, OnOk, None, [], Option, Result, Some, Ok, Err, inl, inr, refl, subst, sym}
+use Rattle.krates_cm.specs.Document.{MetadataModel, Text}
+use Rattle.krates_rules.specs.Setting.{SettingModel}
 use Rattle.krates_certificate.specs.CertificateRefusals.{IsMemory, fault_of}
 use Rattle.krates_certificate.specs.CertificateTables.{IsCertificateText, TextFault}
 use Rattle.krates_certificate.specs.CertificateViews.{certificate_told}
 use Rattle.krates_certificate.specs.declared.certificate.Certificate.{Certificate}
 use Rattle.krates_certificate.specs.declared.certificate_error.CertificateError.{CertificateError}
+use Rattle.krates_words.specs.Choice.{IsSettingOf}
+use Rattle.krates_words.specs.Stated.{IsStatedBy, StatedModel}
+use Rattle.krates_words.specs.declared.choice.Choice.{Choice}
 use Rattle.krates_verdict.specs.RefusalText.{CertificateErrorBecomes}
 use Rattle.krates_verdict.specs.VerdictRefusals.{IsOfReader, JudgeRefusal}
-use Rattle.krates_verdict.specs.VerdictRunning.{IsRefusalOf, IsUnheld, RunRefusal}
-use Rattle.krates_verdict.specs.Subject.{SubjectModel}
+use Rattle.krates_verdict.specs.VerdictRunning.{ChosenRefusal, IsRefusalOf, IsUnheld, OfChoice, RunRefusal}
+use Rattle.krates_verdict.specs.Subject.{IsSubjectOf, SubjectModel}
 use Rattle.krates_verdict.specs.declared.refusal.Refusal.{Refusal}
 use Rattle.krates_verdict.specs.declared.refusal.Refusal.TheVariants as refusals
 
@@ -71,3 +75,32 @@ unwritten s bytes (refusals.Write _) h = absurd h
 -- and so is one over bytes that are refused
 pub run_refused : (s : SubjectModel) (left : Option Text) (bytes : Text) (e same : Refusal) → IfSome left (λ known. bytes ≡ known) → IsUnheld s bytes e → same ≡ e → RunRefusal s left same
 run_refused s left bytes e same all h is = subst (RunRefusal s left) (sym is) (record { bytes = bytes; all = all; so = unwritten s bytes e h })
+
+-- ---- under what a command line chooses
+
+-- a document, with the setting and the words that a choice states
+pub stated_subject : (c : Choice) (stated : StatedModel) (s : SubjectModel) → IsStatedBy c stated → s.setting ≡ stated.setting → s.words ≡ stated.words → IsSubjectOf c s.metadata s
+stated_subject c stated s is same_setting same_words = record {
+  metadata = refl;
+  setting = subst (λ (setting : SettingModel). IsSettingOf c [] setting) (sym same_setting) is.setting;
+  words = same_words ∙ is.words;
+}
+
+-- what a run wrote over the subject of a choice
+pub chosen_written : {A : Type 0} (c : Choice) (m : MetadataModel) (s : SubjectModel) (P : SubjectModel → Type 0) (r : Result A Refusal) → IsSubjectOf c m s → OnOk r (P s) → OnOk r (OfChoice c m P)
+chosen_written c m s P (Ok x) is h = (s, (is, h))
+chosen_written c m s P (Err e) is h = h
+
+one_chosen : (c : Choice) (m : MetadataModel) (s : SubjectModel) (left : Option Text) (e : Refusal) → IsSubjectOf c m s → RunRefusal s left e → ChosenRefusal c m left e
+one_chosen c m s left (refusals.Read cause) is h = (s, (is, h))
+one_chosen c m s left refusals.Utf8 is h = (s, (is, h))
+one_chosen c m s left (refusals.Certificate cause) is h = (s, (is, h))
+one_chosen c m s left (refusals.Setting claimed) is h = (s, (is, h))
+one_chosen c m s left (refusals.Check cause) is h = (s, (is, h))
+one_chosen c m s left (refusals.Write cause) is h = (s, (is, h))
+one_chosen c m s left refusals.Memory is h = tt
+
+-- and why it wrote nothing
+pub chosen_refused : {A : Type 0} (c : Choice) (m : MetadataModel) (s : SubjectModel) (left : Option Text) (r : Result A Refusal) → IsSubjectOf c m s → IfErr r (RunRefusal s left) → IfErr r (ChosenRefusal c m left)
+chosen_refused c m s left (Ok x) is h = h
+chosen_refused c m s left (Err e) is h = one_chosen c m s left e is h

@@ -1,14 +1,15 @@
 -- What a run reads, what it then writes, and why it writes nothing.
 use Rattle.std.specs.Prelude.{◌≡◌, IfSome, IsUtf8, Option, ⊤}
 use Rattle.std.specs.Io.KnownBytes.{Appends}
-use Rattle.krates_cm.specs.Document.{Text}
+use Rattle.krates_cm.specs.Document.{MetadataModel, Text}
 use Rattle.krates_certificate.specs.CertificateRefusals.{fault_of}
 use Rattle.krates_certificate.specs.CertificateTables.{IsCertificateText, TextFault}
 use Rattle.krates_certificate.specs.CertificateViews.{certificate_told}
 use Rattle.krates_certificate.specs.declared.certificate.Certificate.{Certificate}
+use Rattle.krates_words.specs.declared.choice.Choice.{Choice}
 use Rattle.krates_verdict.specs.Holding.{Holds}
 use Rattle.krates_verdict.specs.VerdictRefusals.{JudgeRefusal}
-use Rattle.krates_verdict.specs.Subject.{SubjectModel}
+use Rattle.krates_verdict.specs.Subject.{IsSubjectOf, SubjectModel}
 use Rattle.krates_verdict.specs.VerdictText.{verdict_line}
 use Rattle.krates_verdict.specs.declared.refusal.Refusal.{Refusal}
 use Rattle.krates_verdict.specs.declared.refusal.Refusal.TheVariants as refusals
@@ -59,6 +60,19 @@ pub record WritesVerdict (s : SubjectModel) (left old new : Option Text) : Type 
 -- What was read has no verdict that is written, for this reason.
 abbrev pub RunRefusal : SubjectModel → Option Text → Refusal → Type 0
 RunRefusal s left cause = OfAllRead left (λ bytes. IsRefusalOf s bytes cause)
+
+-- ---- under what a command line chooses
+
+-- This holds of what a certificate is judged against: the document, under the setting that the choice means, by its words.
+abbrev pub OfChoice : Choice → MetadataModel → (SubjectModel → Type 0) → Type 0
+OfChoice c m P = (s : SubjectModel) × IsSubjectOf c m s × P s
+
+-- Why no verdict was written then. Memory may run out before the words are made.
+abbrev pub ChosenRefusal : Choice → MetadataModel → Option Text → Refusal → Type 0
+ChosenRefusal c m left refusals.Memory = ⊤
+ChosenRefusal c m left cause = OfChoice c m (λ s. RunRefusal s left cause)
+
+-- ---- what is left, and whose the cause is
 
 -- the writer is as it was, unless it failed
 abbrev pub Leaves : {W : Type 0} → W → W → Refusal → Type 0

@@ -2,13 +2,16 @@
 
 ghost use Rattle.std.specs.Prelude.{IfErr, IfOk, IfSome, OnOk, ◌≡◌};
 ghost use Rattle.std.specs.Io.KnownBytes.{IsAtEnd};
+ghost use Rattle.krates_cm.specs.Document.{metadata_view};
 ghost use Rattle.krates_verdict.specs.VerdictRefusals.{IsOfReader};
 ghost use Rattle.krates_verdict.specs.VerdictRunning.{Leaves};
-ghost use Rattle.krates_verdict.specs.VerdictRunning.{RunRefusal, WritesVerdict};
+ghost use Rattle.krates_verdict.specs.VerdictRunning.{ChosenRefusal, OfChoice, RunRefusal, WritesVerdict};
 ghost use Rattle.krates_verdict.specs.Subject.{subject_view};
 
 use crate::refusal::Refusal;
 use crate::subject::CertificateSubject;
+use krates_cm::Metadata;
+use krates_words::Choice;
 use std::alloc::Global;
 use std::io::{Read, Write};
 
@@ -43,6 +46,37 @@ pub fn run<R: Read, W: Write>(
         Ok(()) => Ok(()),
         Err(cause) => Err(Refusal::Write(cause)),
     }
+}
+
+/// The same for what a command line chooses: the certificate is judged against the document under the setting that the choice means, and
+/// has to have the words that mean it.
+///
+/// It may also return `Memory` before anything is read; otherwise it is refused as `run` is. Time: that of `Choice::stated` and `run`.
+///
+/// ```text
+/// run_under(rt.alloc(), &asked.choice, &metadata, &mut rt.reader(), &mut rt.stdout())?;
+/// ```
+pub fn run_under<R: Read, W: Write>(
+    alloc: Global,
+    choice: &Choice,
+    metadata: &Metadata,
+    input: &mut R,
+    output: &mut W,
+) -> Result<(), Refusal>
+    ensures written { OnOk result (OfChoice choice.now (metadata_view metadata.now)
+        (λ s. WritesVerdict s (R.remaining input.old) (W.contents output.old) (W.contents output.new))) }
+    ensures refused { IfErr result
+        (ChosenRefusal choice.now (metadata_view metadata.now) (R.remaining input.old)) }
+    ensures unwritten { IfErr result (Leaves output.old output.new) }
+    ensures read { OnOk result (IsAtEnd (R.remaining input.new)) }
+{
+    let stated = choice.stated(alloc)?;
+    let subject = CertificateSubject {
+        metadata,
+        setting: stated.setting(),
+        words: stated.words(),
+    };
+    run(alloc, &subject, input, output)
 }
 
 /// The bytes that the input has up to its end. It is refused as `Read` or `Memory`.

@@ -9,7 +9,7 @@ pub mod refusal;
 pub mod subject;
 pub mod verdict;
 
-pub use judging::run;
+pub use judging::{run, run_under};
 pub use refusal::Refusal;
 pub use subject::CertificateSubject;
 pub use verdict::Verdict;
