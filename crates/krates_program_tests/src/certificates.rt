@@ -6,6 +6,8 @@ use krates_samples::table::{Question, Row, hold};
 use krates_verdict::run_under;
 use krates_words::{CheckWords, check_words_of};
 use std::alloc::Global;
+use std::io;
+use std::io::{ErrorKind, Read};
 use std::test::Fail;
 
 /// Certificates, as they are written.
@@ -26,27 +28,27 @@ const CERTIFICATES: &[Row] = &[
     ("certify z < a", "refused: no package fits `z`"),
 ];
 
-/// What is written where a certificate holds of what is asked and a document, or why it doesn't.
-fn written(
+/// What is written where the certificate that comes in holds of what is asked and a document, or why it doesn't.
+fn written<R: Read + Drop>(
     alloc: Global,
     asked: &mut CheckWords,
     document: &str,
-    certificate: &[u8],
+    mut input: R,
 ) -> Result<String, Fail> {
     add_targets(alloc, &mut asked.choice)?;
     let metadata = document_of(alloc, document)?;
-    let (mut input, mut output) = (certificate, Vec::new(alloc));
+    let mut output = Vec::new(alloc);
     match run_under(alloc, &asked.choice, &metadata, &mut input, &mut output) {
         Ok(()) => Ok(String::from_utf8(output)?),
         Err(refusal) => Ok(format!(in alloc; "refused: {refusal}")?),
     }
 }
 
-/// What the checker says of a certificate under the words of a line, about the document after `<`.
-fn checked(alloc: Global, line: &str, certificate: &[u8]) -> Result<String, Fail> {
+/// What the checker says of the certificate that comes in under the words of a line, about the document after `<`.
+fn checked<R: Read + Drop>(alloc: Global, line: &str, input: R) -> Result<String, Fail> {
     let (words, document) = line.split_once(" < ").unwrap_or((line, ""));
     match check_words_of(alloc, &words_of(alloc, words)?) {
-        Ok(mut asked) => written(alloc, &mut asked, document, certificate),
+        Ok(mut asked) => written(alloc, &mut asked, document, input),
         Err(error) => Ok(format!(in alloc; "{error}")?),
     }
 }
@@ -85,6 +87,10 @@ const CERTIFIED: &[Row] = &[
         "certify c < a b|b|c => --metadata m < a b|b|c",
         "holds: nothing but these 2 crates can be reached\n",
     ),
+    (
+        "certify b < a b&dev|b => --metadata m < a b&dev|b",
+        "holds: crate path+file:///w/b#0.1.0 is kept, 3 steps\n",
+    ),
     // other words that mean the same setting
     (
         "certify a -e no-dev < a b&dev|b => --metadata m --ignore-kind dev < a b&dev|b",
@@ -112,6 +118,10 @@ const CERTIFIED: &[Row] = &[
         "certify --all -e no-dev --workspace < a b&dev|b => --metadata m < a b&dev|b",
         "refused: the certificate is of another setting: --workspace --ignore-kind=dev",
     ),
+    (
+        "certify --all --target x86_64-pc-windows-msvc < a b|b => --metadata m --target x86_64-unknown-linux-gnu < a b|b",
+        "refused: the certificate is of another setting: --target=x86_64-pc-windows-msvc",
+    ),
     // wrong words
     (
         "certify a < a => --metadata - < a",
@@ -127,12 +137,17 @@ const CERTIFIED: &[Row] = &[
     ),
 ];
 
-/// A certificate, without a name after its document: what the checker says of it about the document `a b|b`.
+/// A certificate, or `no text`, which isn't UTF-8: what the checker says of it about the document `a b|b`.
 struct ByHand;
 
 impl Question for ByHand {
     fn told(alloc: Global, line: &str) -> Result<String, Fail> {
-        checked(alloc, "--metadata m < a b|b", line.as_bytes())
+        let certificate = if line == "no text" {
+            b"\xff".as_slice()
+        } else {
+            line.as_bytes()
+        };
+        checked(alloc, "--metadata m < a b|b", certificate)
     }
 }
 
@@ -169,11 +184,55 @@ const BY_HAND: &[Row] = &[
         r#"{"kind":"closed","setting":[],"facts":[]}"#,
         "refused: something follows from the facts and isn't among them",
     ),
+    ("no text", "refused: the certificate is not UTF-8"),
+    // the first character that can't stand is the 11th of the second line, and the 18th of the first
+    (
+        "{\n  \"kind\": derivation\n}",
+        "refused: this is no certificate: not JSON, at line 2 column 11",
+    ),
+    (
+        "{\"kind\":\"closed\",}\n",
+        "refused: this is no certificate: not JSON, at line 1 column 18",
+    ),
+];
+
+/// A reader that fails.
+#[derive(Drop)]
+struct Failing {
+    kind: ErrorKind,
+}
+
+impl Read for Failing {
+    fn read(&mut self, _buffer: &mut [u8]) -> io::Result<usize> {
+        Err(io::Error::from(self.kind))
+    }
+}
+
+/// What the checker says where the certificate can't be read, for want of memory or for the other cause that a line names.
+struct Unread;
+
+impl Question for Unread {
+    fn told(alloc: Global, line: &str) -> Result<String, Fail> {
+        let kind = match line {
+            "memory" => ErrorKind::OutOfMemory,
+            _ => ErrorKind::PermissionDenied,
+        };
+        checked(alloc, "--metadata m < a", Failing { kind })
+    }
+}
+
+const UNREAD: &[Row] = &[
+    ("memory", "refused: out of memory"),
+    (
+        "permission",
+        "refused: the certificate can't be read: permission denied",
+    ),
 ];
 
 #[test]
-fn certificates_written_checked_and_by_hand(rt: HostRuntime) -> Result<(), Fail> {
+fn certificates_written_checked_by_hand_and_unread(rt: HostRuntime) -> Result<(), Fail> {
     hold::<Answered>(rt.alloc(), CERTIFICATES)?;
     hold::<Certified>(rt.alloc(), CERTIFIED)?;
-    hold::<ByHand>(rt.alloc(), BY_HAND)
+    hold::<ByHand>(rt.alloc(), BY_HAND)?;
+    hold::<Unread>(rt.alloc(), UNREAD)
 }

@@ -7,6 +7,9 @@ use std::alloc::Global;
 use std::str;
 use std::test::Fail;
 
+/// What isn't UTF-8.
+const NO_TEXT: &[u8] = b"\xff";
+
 /// What a line asks: the call, the length of the room, the words, and what comes after `<`.
 #[derive(Clone, Copy)]
 struct Asked<'l> {
@@ -33,6 +36,7 @@ impl<'l> Asked<'l> {
     /// The bytes of a section after the document.
     fn bytes_of(self, name: &str) -> &'l [u8] {
         match section(self.document, name) {
+            Some("no text") => NO_TEXT,
             Some(text) => text.as_bytes(),
             None => b"",
         }
@@ -50,6 +54,9 @@ impl<'l> Asked<'l> {
 
     /// What is handed over for a document.
     fn handed(self, alloc: Global, json: &[u8]) -> Result<String, Fail> {
+        if self.words == "no text" {
+            return room_of(alloc, self.called(alloc, json, NO_TEXT), self.length);
+        }
         let words = lines_of(alloc, self.words)?;
         let told = self.called(alloc, json, words.as_bytes());
         room_of(alloc, told, self.length)
@@ -78,15 +85,15 @@ fn room_of(
     Ok(format!(in alloc; "{} {} {room}", answer.status, answer.length)?)
 }
 
-/// What a call hands over: a line has the call, the length of the room and the words, and after `<` the document, or `no text`, which
-/// isn't UTF-8.
+/// What a call hands over: a line has the call, the length of the room and the words, and after `<` the document. Words, document, id or
+/// certificate may be `no text`, which isn't UTF-8.
 struct Handed;
 
 impl Question for Handed {
     fn told(alloc: Global, line: &str) -> Result<String, Fail> {
         let asked = Asked::of(line);
         if asked.document == "no text" {
-            return asked.handed(alloc, b"\xff");
+            return asked.handed(alloc, NO_TEXT);
         }
         let json = document(alloc, asked.document)?;
         asked.handed(alloc, json.as_bytes())
@@ -118,6 +125,10 @@ const LISTED: &[Row] = &[
     ),
     (
         "list 38 --cargo cargo < a",
+        "1 38 the options are not those of a setting",
+    ),
+    (
+        "list 38 no text < a",
         "1 38 the options are not those of a setting",
     ),
     ("list 30 < no text", "3 25 the document is not UTF-8....."),
@@ -152,6 +163,10 @@ const EXPLAINED: &[Row] = &[
         "1 38 the options are not those of a setting",
     ),
     ("why 28 < no text", "2 28 the text is not a package id"),
+    (
+        "why 28 < a / id no text",
+        "2 28 the text is not a package id",
+    ),
 ];
 
 const DRAWN: &[Row] = &[
@@ -196,6 +211,14 @@ const JUDGED: &[Row] = &[
     // the words count before the document
     (
         "check 38 --cargo cargo < no text",
+        "1 38 the options are not those of a setting",
+    ),
+    (
+        "check 28 < a / certificate no text",
+        "7 28 the certificate is not UTF-8",
+    ),
+    (
+        "check 38 no text < a / certificate {}",
         "1 38 the options are not those of a setting",
     ),
 ];
