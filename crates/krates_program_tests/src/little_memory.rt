@@ -1,6 +1,8 @@
-//! Runs of the program with little memory: from the bytes of a document to the bytes of its lines.
+//! Runs of the program with little memory: from the bytes of a document to the bytes of its lines. And how much a document needs that is
+//! read item by item.
 
 use crate::listing::words_of;
+use krates::cm::MetadataCommand;
 use krates_cli::{Counted, Options, RunError, options_of, run};
 use krates_samples::documents::document;
 use krates_samples::starving::{Call, granted, other_refusal, refused, starved};
@@ -76,4 +78,89 @@ impl Call for Run {
 #[test]
 fn runs(rt: HostRuntime) -> Result<(), Fail> {
     starved(&rt, RUNS)
+}
+
+/// A document, read item by item, and once more with an empty list of packages before its own: a key that stands twice leaves it to
+/// the reader of the whole.
+#[derive(Debug)]
+struct Reading {
+    document: &'static str,
+}
+
+/// The texts of both, which are equally long and have equally many members.
+#[derive(Drop)]
+struct Texts {
+    by_item: String,
+    whole: String,
+}
+
+/// Which of them are read, and whether there is more memory than any budget has.
+#[derive(Drop)]
+struct Reads {
+    by_item: bool,
+    whole: bool,
+    is_ample: bool,
+}
+
+/// The text with an empty list under this key before all that it has.
+fn behind_list(alloc: Global, key: &str, json: &str) -> Result<String, Fail> {
+    let rest = json.strip_prefix("{").unwrap_or("no object");
+    Ok(format!(in alloc; "{{\"{key}\":[],{rest}")?)
+}
+
+/// Whether a document is read.
+fn is_read(alloc: Global, text: &str) -> bool {
+    match MetadataCommand::parse(alloc, text) {
+        Ok(metadata) => {
+            metadata.let_go();
+            true
+        }
+        Err(_) => false,
+    }
+}
+
+/// Whether there is a block of a megabyte.
+fn is_ample(alloc: Global) -> bool {
+    Vec::<u8>::with_capacity(alloc, 1 << 20).is_ok()
+}
+
+const READINGS: &[Reading] = &[Reading {
+    document: "a b c d&dev|b|c|d",
+}];
+
+impl Call for Reading {
+    type Given = Texts;
+
+    type Answer = Reads;
+
+    fn given(&self, alloc: Global) -> Result<Texts, Fail> {
+        let json = document(alloc, self.document)?;
+        let by_item = behind_list(alloc, "no_words", json.as_str())?;
+        let whole = behind_list(alloc, "packages", json.as_str())?;
+        Ok(Texts { by_item, whole })
+    }
+
+    fn answer(&self, alloc: Global, given: &mut Texts) -> Reads {
+        Reads {
+            by_item: is_read(alloc, given.by_item.as_str()),
+            whole: is_read(alloc, given.whole.as_str()),
+            is_ample: is_ample(alloc),
+        }
+    }
+
+    fn is_granted(&self, _alloc: Global, _given: &mut Texts, answer: &Reads) -> Result<bool, Fail> {
+        if answer.is_ample {
+            return granted(answer.by_item && answer.whole);
+        }
+        if answer.whole {
+            return Err(Fail::new("item by item, a document needs no less memory"));
+        }
+        Ok(answer.by_item)
+    }
+}
+
+/// The least memory in which a document is read item by item isn't enough to read it whole.
+#[test]
+fn reads_item_by_item_in_less_memory(rt: HostRuntime) -> Result<(), Fail> {
+    starved(&rt, READINGS)
 }
