@@ -9,7 +9,7 @@ use std::alloc::{AllocError, AllocFailed, Global};
 use std::fmt;
 
 /// Why words can't be answered.
-#[derive(Debug, Drop)]
+#[derive(Debug, Drop, thiserror::Error)]
 pub enum WordsError {
     /// They ask for help or the version, which is this text.
     Asked(String),
@@ -51,6 +51,7 @@ impl WordsError {
 }
 
 /// The text.
+// By hand, since a clause says what is printed, and what a derive writes has none.
 impl fmt::Display for WordsError {
     ghost output = { words_error_text };
 
@@ -61,8 +62,6 @@ impl fmt::Display for WordsError {
         }
     }
 }
-
-impl std::error::Error for WordsError {}
 
 impl From<AllocError> for WordsError {
     ghost from_gives = { λ _ e. e ≡ Memory };
