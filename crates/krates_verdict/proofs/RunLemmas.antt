@@ -88,16 +88,16 @@ stated_subject c stated s is same_setting same_words = record {
 
 -- what a run wrote over the subject of a choice
 pub chosen_written : {A : Type 0} (c : Choice) (m : MetadataModel) (s : SubjectModel) (P : SubjectModel → Type 0) (r : Result A Refusal) → IsSubjectOf c m s → OnOk r (P s) → OnOk r (OfChoice c m P)
-chosen_written c m s P (Ok x) is h = (s, (is, h))
+chosen_written c m s P (Ok x) is h = (s, is, h)
 chosen_written c m s P (Err e) is h = h
 
 one_chosen : (c : Choice) (m : MetadataModel) (s : SubjectModel) (left : Option Text) (e : Refusal) → IsSubjectOf c m s → RunRefusal s left e → ChosenRefusal c m left e
-one_chosen c m s left (refusals.Read cause) is h = (s, (is, h))
-one_chosen c m s left refusals.Utf8 is h = (s, (is, h))
-one_chosen c m s left (refusals.Certificate cause) is h = (s, (is, h))
-one_chosen c m s left (refusals.Setting claimed) is h = (s, (is, h))
-one_chosen c m s left (refusals.Check cause) is h = (s, (is, h))
-one_chosen c m s left (refusals.Write cause) is h = (s, (is, h))
+one_chosen c m s left (refusals.Read cause) is h = (s, is, h)
+one_chosen c m s left refusals.Utf8 is h = (s, is, h)
+one_chosen c m s left (refusals.Certificate cause) is h = (s, is, h)
+one_chosen c m s left (refusals.Setting claimed) is h = (s, is, h)
+one_chosen c m s left (refusals.Check cause) is h = (s, is, h)
+one_chosen c m s left (refusals.Write cause) is h = (s, is, h)
 one_chosen c m s left refusals.Memory is h = tt
 
 -- and why it wrote nothing
