@@ -52,6 +52,8 @@ SHOWN_BY = {
     "Document::is_root": ("Document::is_member", "is_root_member", "is_same"),
     "Document::lists": ("Document::feature_number", "features_at", "listed_feature"),
     "Document::values": ("values_at",),
+    # a certificate is judged under a choice's setting, beside the words that mean it
+    "run_under": "Choice::words Choice::stated StatedSetting::words StatedSetting::agrees".split(),
     "Document::referent": ("is_library_rename",),
     "Document::referents": ("referents_of",),
     "Document::roots": ("Document::root_choice",),
