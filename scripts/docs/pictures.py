@@ -34,8 +34,8 @@ ROOMS = {
     "programs": (
         "#eceff1",
         [
-            "krates_cli", "krates_list", "krates_answers", "krates_words", "krates_report", "krates_host",
-            "cargo_krates", "krates_check", "krates_foreign", "krates_c",
+            "krates_shown", "krates_cli", "krates_list", "krates_answers", "krates_words", "krates_report",
+            "krates_host", "cargo_krates", "krates_check", "krates_foreign", "krates_c",
         ],
     ),
 }

@@ -40,6 +40,8 @@ mod refusals;
 #[cfg(test)]
 mod rustc_cfg;
 #[cfg(test)]
+mod shown_texts;
+#[cfg(test)]
 mod specifications;
 #[cfg(test)]
 mod targets;
