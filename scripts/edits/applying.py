@@ -1,12 +1,12 @@
 """Says whether the edits of crates still apply: each old text is once in its file when its turn comes, and each line of
-an edit is read. Nothing is proved, compiled or run.
+an edit is read. A line `why: ..` is a remark. Nothing is proved, compiled or run.
 
 Prints each edit that doesn't apply with the text at fault, and then how many do.
 """
 import re
 
 FOLDERS = ("must-fail", "wrong-bodies", "must-not-compile")
-LINE = re.compile(r"(file|old|error): (.+)|new:(?: (.*))?$")
+LINE = re.compile(r"(file|old|error|why): (.+)|new:(?: (.*))?$")
 
 
 def fault(at, edit):

@@ -16,7 +16,7 @@ import subprocess
 
 from krates_sources import below, copy_libraries, crates, files
 
-LINE = re.compile(r"file: |old: |new:")
+LINE = re.compile(r"file: |old: |new:|why: ")
 TOLD = re.compile(r"NOT REFUSED|BAD EDIT|says little")
 
 # How `rt must-fail` says that an edit was refused, was refused only by a name, was proved, and couldn't be applied.
