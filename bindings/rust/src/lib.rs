@@ -21,6 +21,7 @@
 
 mod ffi;
 mod graph;
+mod line_feeds;
 mod listing;
 mod options;
 mod refusal;
@@ -30,9 +31,11 @@ pub use listing::Listing;
 pub use options::{DepKind, KNOWN_TARGETS, Options};
 pub use refusal::Refusal;
 
+use line_feeds::has_id_of_several_lines;
+
 /// Which packages of a document are kept, and which aren't.
 ///
-/// It is refused as `Options`, `Utf8`, `Parse` or `Build`, or because memory ran out.
+/// It is refused as `Options`, `Utf8`, `Parse` or `Build`, as `LineFeed` where the id of a package has one, or because memory ran out.
 ///
 /// ```
 /// use krates_proved::{Options, Refusal, list};
@@ -43,6 +46,7 @@ pub fn list(document: &[u8], options: &Options) -> Result<Listing, Refusal> {
     let words = options.words()?;
     let call = |room: &mut [u8]| ffi::list(document, words.as_bytes(), room);
     match ffi::answered(document.len(), call) {
+        Ok(_) if has_id_of_several_lines(document) => Err(Refusal::LineFeed),
         Ok(lines) => Ok(Listing::new(lines)),
         Err(refusal) => Err(options.refused(refusal)),
     }
@@ -50,7 +54,7 @@ pub fn list(document: &[u8], options: &Options) -> Result<Listing, Refusal> {
 
 /// The kept graph of a document.
 ///
-/// It is refused as [`list`] is.
+/// It is refused as `Options`, `Utf8`, `Parse` or `Build`, or because memory ran out.
 ///
 /// ```
 /// use krates_proved::{Options, Refusal, graph};
@@ -68,9 +72,10 @@ pub fn graph(document: &[u8], options: &Options) -> Result<Graph, Refusal> {
 }
 
 /// A derivation of the crate with this package id: a line for each step, with its number, its rule, its fact and the numbers of the
-/// steps that it uses. Where there are several derivations, it may be any.
+/// steps that it uses. Where there are several derivations, it may be any. Names and ids stand there as they are: one with a line feed
+/// makes a line of its own.
 ///
-/// It is refused as [`list`] is, as `Id` where the text isn't a package id, and as `NotKept` where nothing needs the crate.
+/// It is refused as [`graph`] is, as `Id` where the text isn't a package id, and as `NotKept` where nothing needs the crate.
 ///
 /// ```
 /// use krates_proved::{Options, Refusal, why};

@@ -1,6 +1,6 @@
 //! The packages of a document.
 
-/// The packages of a document: those that are kept, and the others, both in the order of their ids.
+/// The packages of a document: those that are kept, and the others, both in the order of their ids. No id has a line feed.
 #[derive(Clone, Debug, PartialEq, Eq)]
 pub struct Listing {
     lines: String,
@@ -27,6 +27,21 @@ impl Listing {
     }
 
     fn marked(&self, mark: &'static str) -> impl Iterator<Item = &str> {
-        self.lines.lines().filter_map(move |line| line.strip_prefix(mark))
+        // not `lines`, which takes a carriage return off the end of an id
+        self.lines
+            .split_terminator('\n')
+            .filter_map(move |line| line.strip_prefix(mark))
+    }
+}
+
+#[cfg(test)]
+mod tests {
+    use super::*;
+
+    #[test]
+    fn ids_are_whole() {
+        let listing = Listing::new("+ a\r\n+  b \n- c\u{2028}\r\r\n- \r\n".to_owned());
+        assert!(listing.kept().eq(["a\r", " b "]));
+        assert!(listing.others().eq(["c\u{2028}\r\r", "\r"]));
     }
 }

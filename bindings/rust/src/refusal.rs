@@ -15,6 +15,8 @@ pub enum Refusal {
     Parse(String),
     /// The document has no graph of crates under the options, for this reason.
     Build(String),
+    /// The id of a package has a line feed, so that a listing has a line that isn't an id. [`graph`](crate::graph) hands such ids over.
+    LineFeed,
     /// The crate that is to be explained is not kept.
     NotKept(String),
     /// The certificate does not hold, for this reason.
@@ -50,6 +52,7 @@ impl fmt::Display for Refusal {
             | Refusal::NotKept(cause)
             | Refusal::Certificate(cause) => f.write_str(cause),
             Refusal::Utf8 => f.write_str("the document is not UTF-8"),
+            Refusal::LineFeed => f.write_str("the id of a package has a line feed"),
             Refusal::Memory => f.write_str("out of memory"),
         }
     }

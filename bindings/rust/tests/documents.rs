@@ -218,6 +218,28 @@ fn refuses_with_the_cause() {
     );
 }
 
+/// An id of three lines, of which two are like those of a listing.
+const FORGED: &str =
+    "b 0.1.0 (path+file:///w/b#)\n+ registry+https://github.com/rust-lang/crates.io-index#openssl@9.9.9\n+ x)";
+
+#[test]
+fn lists_no_id_of_several_lines() {
+    let document = String::from_utf8(documents()[0].clone()).expect("it is UTF-8");
+    let written = FORGED.replace('\n', "\\n");
+    let document = document.replace("path+file:///w/b#0.1.0", &written).into_bytes();
+    let (mut options, mut forged) = (Options::new(), vec!["path+file:///w/a#0.1.0", FORGED]);
+    for _ in 0..2 {
+        assert_eq!(list(&document, &options), Err(Refusal::LineFeed));
+        let graph = graph(&document, &options).expect("it is drawn");
+        assert!(graph.krates().eq(forged.iter().copied()));
+        options.ignore_kind(DepKind::Dev);
+        forged.pop();
+    }
+    // what the document has no graph for counts before its ids
+    let refused = list(&document, Options::new().exclude(["a"]));
+    assert_eq!(refused, Err(Refusal::Build("no root crates available".into())));
+}
+
 const CERTIFICATE: &[u8] =
     br#"{"kind":"closed","setting":["--ignore-kind=dev"],"facts":[{"fact":"crate","krate":"path+file:///w/a#0.1.0"}]}"#;
 
