@@ -1,5 +1,6 @@
 //! The calls of the static library. They are declared by hand: nothing checks that this is what `krates_c` exports.
 
+use crate::memory::lengthen;
 use crate::refusal::Refusal;
 
 /// How a call ended.
@@ -118,14 +119,15 @@ const TOO_SHORT: u32 = 8;
 
 /// The text that a call hands over. Where the room is too short, the call is made again with the room that it needs.
 pub(crate) fn answered(room: usize, mut call: impl FnMut(&mut [u8]) -> Answer) -> Result<String, Refusal> {
-    let mut room = vec![0; room];
-    let mut answer = call(&mut room);
+    let mut bytes = Vec::new();
+    lengthen(&mut bytes, room)?;
+    let mut answer = call(&mut bytes);
     while answer.status == TOO_SHORT {
-        room.resize(answer.length, 0);
-        answer = call(&mut room);
+        lengthen(&mut bytes, answer.length)?;
+        answer = call(&mut bytes);
     }
-    room.truncate(answer.length);
-    let text = String::from_utf8(room).expect("what is handed over is UTF-8");
+    bytes.truncate(answer.length);
+    let text = String::from_utf8(bytes).expect("what is handed over is UTF-8");
     match answer.status {
         0 => Ok(text),
         status => Err(Refusal::of(status, text)),

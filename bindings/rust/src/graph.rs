@@ -1,7 +1,9 @@
 //! The graph of a document, by number.
 
+use crate::memory::push;
 use crate::options::DepKind;
-use std::collections::BTreeSet;
+use crate::reader::{Fault, Line, Reader};
+use crate::refusal::Refusal;
 
 /// The number of a node, counted from 0: the crates come first, by name, version and source, then the enabled features, by crate
 /// and then by name.
@@ -70,22 +72,20 @@ pub struct Graph {
 }
 
 impl Graph {
-    /// The graph of these lines; `None` if they aren't one.
-    pub(crate) fn read(lines: &str) -> Option<Graph> {
-        let mut reader = Reader { rest: lines };
+    /// The graph of these lines.
+    pub(crate) fn read(lines: &str) -> Result<Graph, Fault> {
+        let mut reader = Reader::new(lines);
         let (mut nodes, mut edges, mut krates) = (Vec::new(), Vec::new(), 0);
-        while !reader.rest.is_empty() {
-            match reader.word()? {
-                "crate" => {
-                    nodes.push(reader.krate()?);
-                    krates += 1;
+        while let Some(line) = reader.line()? {
+            match line {
+                Line::Node(node) => {
+                    krates += usize::from(matches!(node, Node::Krate { .. }));
+                    push(&mut nodes, node)?;
                 }
-                "feature" => nodes.push(reader.feature()?),
-                "edge" => edges.push(reader.edge()?),
-                _ => return None,
+                Line::Edge(edge) => push(&mut edges, edge)?,
             }
         }
-        Some(Graph { nodes, edges, krates })
+        Ok(Graph { nodes, edges, krates })
     }
 
     /// How many crates are kept: their nodes are those with numbers below this one.
@@ -142,22 +142,18 @@ impl Graph {
         }
     }
 
-    /// The crates on which a crate depends directly, ascending.
-    pub fn direct_dependencies(&self, krate: NodeId) -> Vec<NodeId> {
+    /// The crates on which a crate depends directly, ascending. It is refused only as `Memory`.
+    pub fn direct_dependencies(&self, krate: NodeId) -> Result<Vec<NodeId>, Refusal> {
         match self.nodes.get(krate) {
-            Some(Node::Krate { dep_mapping, .. }) => {
-                let distinct: BTreeSet<NodeId> = dep_mapping.iter().flatten().copied().collect();
-                distinct.into_iter().collect()
-            }
-            _ => Vec::new(),
+            Some(Node::Krate { dep_mapping, .. }) => ascending(dep_mapping.iter().flatten().copied()),
+            _ => Ok(Vec::new()),
         }
     }
 
-    /// The crates with an edge to a node or, for a crate, to a feature of it, ascending.
-    pub fn direct_dependents(&self, node: NodeId) -> Vec<NodeId> {
+    /// The crates with an edge to a node or, for a crate, to a feature of it, ascending. It is refused only as `Memory`.
+    pub fn direct_dependents(&self, node: NodeId) -> Result<Vec<NodeId>, Refusal> {
         let leads = |edge: &&Edge| edge.source < self.krates && self.is_of(edge.target, node);
-        let distinct: BTreeSet<NodeId> = self.edges.iter().filter(leads).map(|edge| edge.source).collect();
-        distinct.into_iter().collect()
+        ascending(self.edges.iter().filter(leads).map(|edge| edge.source))
     }
 
     /// Whether the node is this one, or a feature of it.
@@ -166,95 +162,15 @@ impl Graph {
     }
 }
 
-/// What is left of the lines.
-struct Reader<'t> {
-    rest: &'t str,
-}
-
-impl<'t> Reader<'t> {
-    /// The text before the next of these characters, and which of them it is.
-    fn before(&mut self, ends: [char; 2]) -> Option<(&'t str, char)> {
-        let at = self.rest.find(ends)?;
-        let (text, rest) = self.rest.split_at(at);
-        let end = rest.chars().next()?;
-        self.rest = &rest[end.len_utf8()..];
-        Some((text, end))
+/// The numbers, each once, ascending.
+fn ascending(numbers: impl Iterator<Item = NodeId>) -> Result<Vec<NodeId>, Refusal> {
+    let mut distinct = Vec::new();
+    for number in numbers {
+        push(&mut distinct, number)?;
     }
-
-    /// A word, and the space after it.
-    fn word(&mut self) -> Option<&'t str> {
-        self.before([' ', '\n']).map(|(word, _)| word)
-    }
-
-    /// A number, and the space after it.
-    fn number(&mut self) -> Option<usize> {
-        self.word()?.parse().ok()
-    }
-
-    /// A text after its length.
-    fn text(&mut self) -> Option<String> {
-        let (length, rest) = self.rest.split_once(':')?;
-        let (text, rest) = rest.split_at_checked(length.parse().ok()?)?;
-        self.rest = rest;
-        Some(text.to_owned())
-    }
-
-    /// The end of a line.
-    fn end(&mut self) -> Option<()> {
-        self.rest = self.rest.strip_prefix('\n')?;
-        Some(())
-    }
-
-    fn krate(&mut self) -> Option<Node> {
-        let id = self.text()?;
-        let (entries, _) = self.before(['\n', '\n'])?;
-        let entry = |word: &str| match word {
-            "-" => Some(None),
-            number => number.parse().ok().map(Some),
-        };
-        let dep_mapping = entries.split_ascii_whitespace().map(entry).collect::<Option<_>>()?;
-        Some(Node::Krate { id, dep_mapping })
-    }
-
-    fn feature(&mut self) -> Option<Node> {
-        let (krate_index, name) = (self.number()?, self.text()?);
-        self.end()?;
-        Some(Node::Feature { krate_index, name })
-    }
-
-    fn edge(&mut self) -> Option<Edge> {
-        let (source, target) = (self.number()?, self.number()?);
-        let kind = match self.word()? {
-            "feature" => EdgeKind::Feature,
-            "dep" => {
-                let (kind, cfg) = self.purpose()?;
-                EdgeKind::Dep { kind, cfg }
-            }
-            "depfeature" => {
-                let (kind, cfg) = self.purpose()?;
-                EdgeKind::DepFeature { kind, cfg }
-            }
-            _ => return None,
-        };
-        Some(Edge { source, target, kind })
-    }
-
-    /// The kind of an edge, the target that it is for, and the end of the line.
-    fn purpose(&mut self) -> Option<(DepKind, Option<String>)> {
-        let (kind, end) = self.before([' ', '\n'])?;
-        let kind = match kind {
-            "normal" => DepKind::Normal,
-            "build" => DepKind::Build,
-            "dev" => DepKind::Dev,
-            _ => return None,
-        };
-        if end == '\n' {
-            return Some((kind, None));
-        }
-        let cfg = self.text()?;
-        self.end()?;
-        Some((kind, Some(cfg)))
-    }
+    distinct.sort_unstable();
+    distinct.dedup();
+    Ok(distinct)
 }
 
 #[cfg(test)]
@@ -277,9 +193,9 @@ mod tests {
     }
 
     #[test]
-    fn other_lines_are_none() {
+    fn other_lines_are_refused() {
         for lines in ["crate 3:a\n", "edge 0 1 dep\n", "node 0\n", "feature 0 1:a"] {
-            assert_eq!(Graph::read(lines), None, "{lines:?}");
+            assert_eq!(Graph::read(lines), Err(Fault::Line), "{lines:?}");
         }
     }
 }

@@ -15,7 +15,8 @@
 //! # Ok::<(), Box<dyn std::error::Error>>(())
 //! ```
 //!
-//! Every call may be made by any number of threads at once.
+//! Every call may be made by any number of threads at once. Where memory runs out, it ends as [`Refusal::Memory`]; only to set
+//! [`Options`], and to clone, takes memory as the standard library does, which then ends the process.
 
 #![warn(missing_docs)]
 
@@ -23,7 +24,9 @@ mod ffi;
 mod graph;
 mod line_feeds;
 mod listing;
+mod memory;
 mod options;
+mod reader;
 mod refusal;
 
 pub use graph::{Edge, EdgeKind, Graph, Node, NodeId};
@@ -32,6 +35,7 @@ pub use options::{DepKind, KNOWN_TARGETS, Options};
 pub use refusal::Refusal;
 
 use line_feeds::has_id_of_several_lines;
+use reader::Fault;
 
 /// Which packages of a document are kept, and which aren't.
 ///
@@ -65,9 +69,11 @@ pub fn list(document: &[u8], options: &Options) -> Result<Listing, Refusal> {
 pub fn graph(document: &[u8], options: &Options) -> Result<Graph, Refusal> {
     let words = options.words()?;
     let call = |room: &mut [u8]| ffi::graph(document, words.as_bytes(), room);
-    match ffi::answered(document.len(), call) {
-        Ok(lines) => Ok(Graph::read(&lines).expect("the library writes the lines of a graph")),
-        Err(refusal) => Err(options.refused(refusal)),
+    let lines = ffi::answered(document.len(), call).map_err(|refusal| options.refused(refusal))?;
+    match Graph::read(&lines) {
+        Ok(graph) => Ok(graph),
+        Err(Fault::Memory) => Err(Refusal::Memory),
+        Err(Fault::Line) => unreachable!("the library writes the lines of a graph"),
     }
 }
 
@@ -87,7 +93,7 @@ pub fn why(document: &[u8], options: &Options, id: &str) -> Result<String, Refus
     let words = options.words()?;
     let call = |room: &mut [u8]| ffi::why(document, words.as_bytes(), id.as_bytes(), room);
     ffi::answered(document.len(), call).map_err(|refusal| match refusal {
-        Refusal::Id(cause) => Refusal::Id(format!("{cause}: {id:?}")),
+        Refusal::Id(cause) => Refusal::with(Refusal::Id, format_args!("{cause}: {id:?}")),
         refusal => options.refused(refusal),
     })
 }
@@ -105,8 +111,7 @@ pub fn why(document: &[u8], options: &Options, id: &str) -> Result<String, Refus
 pub fn check(document: &[u8], options: &Options, certificate: &[u8]) -> Result<String, Refusal> {
     let words = options.words()?;
     let call = |room: &mut [u8]| ffi::check(document, words.as_bytes(), certificate, room);
-    match ffi::answered(256, call) {
-        Ok(line) => Ok(line.trim_end_matches('\n').to_owned()),
-        Err(refusal) => Err(options.refused(refusal)),
-    }
+    let mut line = ffi::answered(256, call).map_err(|refusal| options.refused(refusal))?;
+    line.truncate(line.trim_end_matches('\n').len());
+    Ok(line)
 }

@@ -1,5 +1,6 @@
 //! What is asked.
 
+use crate::memory::text_of;
 use crate::refusal::Refusal;
 use std::fmt;
 
@@ -97,48 +98,63 @@ impl Options {
 
     /// The words that mean this, one in each line.
     pub(crate) fn words(&self) -> Result<String, Refusal> {
-        let mut words = String::new();
-        if self.workspace {
-            words.push_str("--workspace\n");
+        if let Some(spec) = self.exclusions.iter().find(|spec| spec.contains(['\n', '\r'])) {
+            let cause = format_args!("an option of several lines: {spec:?}");
+            return Err(Refusal::with(Refusal::Options, cause));
         }
-        if self.all_named {
-            words.push_str("--all-named\n");
+        let is_known = |triple: &String| KNOWN_TARGETS.contains(&triple.as_str());
+        if let Some(triple) = self.targets.iter().find(|triple| !is_known(triple)) {
+            let cause = format_args!("nothing is known of the target {triple:?}");
+            return Err(Refusal::with(Refusal::Options, cause));
         }
-        for kind in &self.ignored {
-            words.push_str(&format!("--ignore-kind\n{kind}\n"));
-        }
-        for spec in &self.exclusions {
-            words.push_str(&format!("--exclude\n{}\n", line_of(spec)?));
-        }
-        for triple in &self.targets {
-            words.push_str(&format!("--target\n{}\n", known(triple)?));
-        }
-        Ok(words)
+        text_of(Words(self))
     }
 
     /// The refusal of these options, which names what may be at fault: only a specification can be.
     pub(crate) fn refused(&self, refusal: Refusal) -> Refusal {
         match refusal {
             Refusal::Options(_) => {
-                Refusal::Options(format!("not a package specification: {}", self.exclusions.join(", ")))
+                let specs = Listed(&self.exclusions);
+                Refusal::with(Refusal::Options, format_args!("not a package specification: {specs}"))
             }
             refusal => refusal,
         }
     }
 }
 
-/// The value, which has to be one line.
-fn line_of(value: &str) -> Result<&str, Refusal> {
-    if value.contains(['\n', '\r']) {
-        return Err(Refusal::Options(format!("an option of several lines: {value:?}")));
+/// The words of options, one in each line.
+struct Words<'o>(&'o Options);
+
+impl fmt::Display for Words<'_> {
+    fn fmt(&self, f: &mut fmt::Formatter<'_>) -> fmt::Result {
+        if self.0.workspace {
+            f.write_str("--workspace\n")?;
+        }
+        if self.0.all_named {
+            f.write_str("--all-named\n")?;
+        }
+        for kind in &self.0.ignored {
+            write!(f, "--ignore-kind\n{kind}\n")?;
+        }
+        for spec in &self.0.exclusions {
+            write!(f, "--exclude\n{spec}\n")?;
+        }
+        for triple in &self.0.targets {
+            write!(f, "--target\n{triple}\n")?;
+        }
+        Ok(())
     }
-    Ok(value)
 }
 
-/// The triple, which has to be known.
-fn known(triple: &str) -> Result<&str, Refusal> {
-    if KNOWN_TARGETS.contains(&triple) {
-        return Ok(triple);
+/// Texts, with commas between.
+struct Listed<'t>(&'t [String]);
+
+impl fmt::Display for Listed<'_> {
+    fn fmt(&self, f: &mut fmt::Formatter<'_>) -> fmt::Result {
+        for (number, text) in self.0.iter().enumerate() {
+            let comma = if number == 0 { "" } else { ", " };
+            write!(f, "{comma}{text}")?;
+        }
+        Ok(())
     }
-    Err(Refusal::Options(format!("nothing is known of the target {triple:?}")))
 }

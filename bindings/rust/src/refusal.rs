@@ -1,5 +1,7 @@
 //! Why there is no answer.
 
+use crate::memory::text_of;
+use std::collections::TryReserveError;
 use std::fmt;
 
 /// Why there is no answer. Each is true of what was asked, except that memory may always run out; the first that is true counts.
@@ -40,6 +42,11 @@ impl Refusal {
             _ => unreachable!("the library has no status {status}"),
         }
     }
+
+    /// The refusal with this cause; that of memory, where there is none for its text.
+    pub(crate) fn with(refusal: fn(String) -> Refusal, cause: fmt::Arguments<'_>) -> Refusal {
+        text_of(cause).map_or_else(|no_memory| no_memory, refusal)
+    }
 }
 
 impl fmt::Display for Refusal {
@@ -59,3 +66,9 @@ impl fmt::Display for Refusal {
 }
 
 impl std::error::Error for Refusal {}
+
+impl From<TryReserveError> for Refusal {
+    fn from(_: TryReserveError) -> Refusal {
+        Refusal::Memory
+    }
+}

@@ -136,7 +136,8 @@ fn number(graph: &Graph, asked: &str) -> usize {
         .expect("it is kept")
 }
 
-fn names(graph: &Graph, numbers: Vec<usize>) -> Vec<&str> {
+fn names(graph: &Graph, numbers: Result<Vec<usize>, Refusal>) -> Vec<&str> {
+    let numbers = numbers.expect("there is memory");
     numbers.into_iter().map(|number| name(graph, number)).collect()
 }
 
