@@ -1,149 +1,156 @@
-/* Refuses each request for memory in turn: of each call, the first, then the second, and so on, until the call makes no more. Each
- * answer has to be that with ample memory, or that memory ran out and nothing was written; past the length the room is as it was,
- * and each block is given back.
+/* Refuses requests for memory: of each call the first, then the second, and so on until it makes no more, that one alone and all from
+ * it on; and then some at random. What a call says has to be what it says with ample memory, or that memory ran out. Past what was
+ * handed over the room has to be as it was, and each block has to be given back.
  *
  *     refused_requests DOCUMENT..
  *
- * The archive's three functions for memory are here, instead of the toolchain's.
+ * The archive's three functions for memory are here, instead of the toolchain's. A block whose size changes always moves, with no more
+ * than has to be kept, and what is given back is overwritten.
  */
-#include "krates.h"
+#include "trials.h"
 
 #include <stdio.h>
 #include <stdlib.h>
 #include <string.h>
 
-static size_t requests, refused_one, blocks;
+/* ---- memory */
 
-static struct krates_block made(void *at) {
-    struct krates_block block = {at != NULL, at != NULL ? at : (void *)&blocks};
-    return block;
+static size_t requests, refused, blocks;
+
+/* Which requests are refused: none; one; all from one on; about every sixteenth. */
+static enum { NONE, ONE, FROM, SOME } refusing;
+static size_t place;
+
+static bool is_refused(void) {
+    static uint32_t state = 1;
+    state = state * 1664525 + 1013904223;
+    requests++;
+    bool is_it = refusing == ONE ? requests == place : refusing == FROM ? requests >= place : refusing == SOME && state >> 28 == 0;
+    refused += is_it;
+    return is_it;
 }
 
-static int is_refused(void) {
-    return ++requests == refused_one;
-}
+/* In front of a block is its size, in as many bytes as the strictest alignment. */
+enum { HEAD = 16, SPOILT = 0x5a };
 
 struct krates_block rattle_alloc(size_t size, size_t align) {
-    void *at = is_refused() ? NULL : malloc(size != 0 ? size : align);
-    blocks += at != NULL;
-    return made(at);
-}
-
-struct krates_block rattle_realloc(void *at, size_t kept, size_t size, size_t align) {
-    (void)kept;
-    return made(is_refused() ? NULL : realloc(at, size != 0 ? size : align));
+    (void)align;
+    uint8_t *at = is_refused() ? NULL : malloc(HEAD + size);
+    if (at == NULL)
+        return (struct krates_block){false, &blocks};
+    blocks++;
+    memcpy(at, &size, sizeof size);
+    return (struct krates_block){true, memset(at + HEAD, SPOILT, size)};
 }
 
 void rattle_dealloc(void *at) {
+    size_t size;
+    memcpy(&size, (uint8_t *)at - HEAD, sizeof size);
+    memset(at, SPOILT, size);
+    free((uint8_t *)at - HEAD);
     blocks--;
-    free(at);
 }
 
-struct asked {
-    const char *call;
-    const uint8_t *document;
-    size_t length;
-    const char *options;
-    const char *more;
-};
-
-static struct krates_answer answer(const struct asked *it, uint8_t *room, size_t length) {
-    const uint8_t *options = (const uint8_t *)it->options, *more = (const uint8_t *)it->more;
-    size_t words = strlen(it->options), extra = strlen(it->more);
-    if (strcmp(it->call, "list") == 0)
-        return krates_list(it->document, it->length, options, words, room, length);
-    if (strcmp(it->call, "graph") == 0)
-        return krates_graph(it->document, it->length, options, words, room, length);
-    if (strcmp(it->call, "why") == 0)
-        return krates_why(it->document, it->length, options, words, more, extra, room, length);
-    return krates_check(it->document, it->length, options, words, more, extra, room, length);
+struct krates_block rattle_realloc(void *at, size_t kept, size_t size, size_t align) {
+    struct krates_block block = rattle_alloc(size, align);
+    if (block.is_there) {
+        memcpy(block.at, at, kept);
+        rattle_dealloc(at);
+    }
+    return block;
 }
 
-enum { ROOM = 1 << 15, FILLED = 0xa5 };
+/* ---- calls */
 
-static void fail(const struct asked *it, const char *why) {
-    fprintf(stderr, "%s %s%s: request %zu: %s\n", it->call, it->options, it->more, refused_one, why);
-    exit(1);
-}
+static size_t calls, made, ended;
 
-static int is_filled(const uint8_t *at, size_t length) {
-    for (size_t i = 0; i < length; i++)
-        if (at[i] != FILLED)
-            return 0;
-    return 1;
-}
-
-/* Makes a call with the n-th request refused, none where n is 0, and says whether a request was. */
-static int make(const struct asked *it, size_t n, struct krates_answer *told, uint8_t *room) {
-    memset(room, FILLED, ROOM);
-    requests = 0;
-    refused_one = n;
-    *told = answer(it, room, ROOM);
+/* Makes a call while requests are refused as it is set: it has to say what it said with ample memory, or that memory ran out. */
+static void make(const struct question *it, size_t room, struct told ample, struct text text) {
+    requests = refused = 0;
+    struct told told = tell(it, room);
     if (blocks != 0)
         fail(it, "a block wasn't given back");
-    if (told->length > ROOM || !is_filled(room + told->length, ROOM - told->length))
-        fail(it, "something was written behind the length");
-    return n != 0 && requests >= n;
+    if (refused != 0 && told.status == KRATES_MEMORY)
+        ended++;
+    else if (told.status != ample.status || told.length != ample.length || !same_text(told.text, text))
+        fail(it, "another answer than with ample memory");
+    made += refused;
 }
 
-/* Refuses each request of a call in turn: how many there were, and how many of them ended as memory that ran out. */
-static void starve(const struct asked *it, size_t *all, size_t *ended) {
-    static uint8_t ample_room[ROOM], room[ROOM];
-    struct krates_answer ample, told;
-    make(it, 0, &ample, ample_room);
-    if (ample.status >= KRATES_TOO_SHORT)
-        fail(it, "with ample memory there is no answer");
-    for (size_t n = 1; make(it, n, &told, room); n++) {
-        ++*all;
-        if (told.status == KRATES_MEMORY && told.length == 0) {
-            ++*ended;
-            continue;
-        }
-        if (told.status != ample.status || told.length != ample.length || memcmp(room, ample_room, ROOM) != 0)
-            fail(it, "another answer than with ample memory");
-    }
+/* Refuses each request of a call in turn, alone or with all behind it, and then some at random. */
+static void starve(const struct question *it, size_t room, bool is_alone) {
+    static uint8_t bytes[LONGEST];
+    refusing = NONE;
+    struct told ample = tell(it, room);
+    struct text text = {memcpy(bytes, ample.text.at, ample.text.length), ample.text.length};
+    calls++;
+    refusing = is_alone ? ONE : FROM;
+    for (place = refused = 1; refused != 0; place++)
+        make(it, room, ample, text);
+    refusing = SOME;
+    for (int i = 0; i < 20; i++)
+        make(it, room, ample, text);
 }
 
-static size_t read_whole(const char *name, uint8_t *bytes, size_t most) {
-    FILE *file = fopen(name, "rb");
-    size_t length = file == NULL ? 0 : fread(bytes, 1, most, file);
-    if (file == NULL || length == most) {
-        fprintf(stderr, "%s can't be read\n", name);
-        exit(2);
-    }
-    fclose(file);
-    return length;
-}
-
-static const char *SETTINGS[] = {
-    "",
-    "--workspace\n--ignore-kind\ndev\n--target\nx86_64-unknown-linux-gnu\n--exclude\nc\n--all-named\n",
-    "--cargo\ncargo\n",
+static const char *settings[][2] = {
+    {"", ""},
+    {"--workspace\n--all-named\n--ignore-kind\nbuild\n--exclude\nc\n--target\nx86_64-unknown-linux-gnu\n",
+     "\"--workspace\",\"--all-named\",\"--ignore-kind=build\",\"--exclude=c\",\"--target=x86_64-unknown-linux-gnu\""},
 };
 
-static const char *CERTIFICATE =
-    "{\"kind\":\"derivation\",\"setting\":[],\"steps\":[{\"fact\":{\"fact\":\"crate\",\"krate\":\"path+file:///w/a#0.1.0\"},"
-    "\"rule\":1,\"uses\":[]}]}";
+static size_t most_steps;
+
+/* The certificate of the longest derivation of a crate. */
+static struct text longest_derivation(struct question it, const struct facts *facts, const char *setting) {
+    struct text longest = text_of("");
+    it.call = WHY;
+    for (size_t i = 0, most = 0, steps; i < facts->crates; i++) {
+        it.more = id_of(&facts->fact[i]);
+        struct text certificate = derivation_certificate(facts, setting, tell_whole(&it, 0).text, &steps);
+        if (steps > most) {
+            longest = certificate;
+            most = steps;
+        }
+        most_steps = steps > most_steps ? steps : most_steps;
+    }
+    return longest;
+}
+
+/* Starves each call about a document that has a graph: in a room that suffices by single requests, in one that lacks a byte by all
+ * from one on. */
+static void starve_all(struct text document, const char *const setting[2]) {
+    static struct facts facts;
+    struct text options = text_of(setting[0]), none = text_of("");
+    const struct question graph = {GRAPH, document, options, none};
+    refusing = NONE;
+    read_facts(&facts, tell_whole(&graph, 0).text);
+    const struct question questions[] = {
+        {LIST, document, options, none},
+        graph,
+        {WHY, document, options, id_of(&facts.fact[facts.crates - 1])},
+        {WHY, document, options, text_of("path+file:///w/z#0.1.0")},
+        {WHY, document, options, text_of("z")},
+        {CHECK, document, options, longest_derivation(graph, &facts, setting[1])},
+        {CHECK, document, options, closed_certificate(&facts, setting[1])},
+        {CHECK, document, options, text_of("{}")},
+        {LIST, document, text_of("--cargo\ncargo\n"), none},
+        {GRAPH, text_of("\xff"), options, none},
+    };
+    for (size_t i = 0; i < sizeof questions / sizeof *questions; i++) {
+        refusing = NONE;
+        size_t length = tell_whole(&questions[i], 0).length;
+        starve(&questions[i], length, true);
+        starve(&questions[i], length - 1, false);
+    }
+}
 
 int main(int count, char **names) {
-    static uint8_t document[1 << 20];
-    size_t calls = 0, all = 0, ended = 0;
     for (int i = 1; i < count; i++) {
-        size_t length = read_whole(names[i], document, sizeof document);
-        for (size_t j = 0; j < sizeof SETTINGS / sizeof *SETTINGS; j++) {
-            const struct asked asked[] = {
-                {"list", document, length, SETTINGS[j], ""},
-                {"graph", document, length, SETTINGS[j], ""},
-                {"why", document, length, SETTINGS[j], "path+file:///w/b#0.1.0"},
-                {"why", document, length, SETTINGS[j], "path+file:///w/z#0.1.0"},
-                {"check", document, length, SETTINGS[j], CERTIFICATE},
-                {"check", document, length, SETTINGS[j], "{}"},
-            };
-            for (size_t k = 0; k < sizeof asked / sizeof *asked; k++, calls++)
-                starve(&asked[k], &all, &ended);
-        }
+        struct text document = read_file(names[i]);
+        for (size_t j = 0; j < sizeof settings / sizeof *settings; j++)
+            starve_all(document, settings[j]);
+        free((void *)document.at);
     }
-    printf("%zu calls: each of %zu requests refused, %zu ended as out of memory, the others as with ample memory\n", calls, all,
-           ended);
-    return calls != 0 && ended != 0 ? 0 : 2;
+    printf("%zu calls: %zu requests refused, %zu times out of memory, otherwise as with ample memory\n", calls, made, ended);
+    return ended != 0 && most_steps > 1 ? 0 : 2;
 }

@@ -3,14 +3,14 @@
 # program that the gate left there.
 #
 # The archive of crates/krates_c and the toolchain's functions for memory come to bindings/out. Then come the tests of bindings/rust, without a network,
-# beside the program krates-list; the example in C; each call with each of its requests for memory refused in turn; and COUNT damaged documents,
-# its word (400,000, a minute). C is compiled with the address sanitizer.
+# beside the program krates-list; the example in C; each call with its requests for memory
+# refused; and COUNT damaged documents, its word (40,000, a minute or two). C is compiled with the address sanitizer.
 #
 # It wants cargo and gcc. The status is 0 where all of it went well.
 
 set -euo pipefail
 cd "$(dirname "$0")/../.."
-count=${1:-400000}
+count=${1:-40000}
 kit=$(dirname "$(dirname "$(realpath "$(command -v rt)")")")
 out=$PWD/bindings/out
 export KRATES_LIST=$PWD/crates/krates_list/out/krates_list
@@ -29,19 +29,21 @@ echo "bindings/out/libkrates_c.a: $(stat -c %s "$out/libkrates_c.a") bytes"
 
 (cd bindings/rust && cargo test --offline --quiet)
 cargo metadata --format-version 1 --offline --locked --manifest-path bindings/rust/tests/workspace/Cargo.toml > "$out/workspace.json"
-documents=(crates/krates_list/stdin crates/krates_check/data/document.json "$out/workspace.json")
+documents=(crates/krates_list/stdin crates/krates_check/data/document.json "$out/workspace.json" scripts/documents/*/metadata.json)
 
-# Compiles a program of bindings/c with these archives.
+# Compiles a program of bindings/c with these files and words.
 compile() {
     local name=$1
     shift
-    gcc -std=c11 -Wall -Wextra -Werror -O1 -g -fsanitize=address,undefined "bindings/c/$name.c" "$@" -o "$out/$name"
+    gcc -std=c11 -Wall -Wextra -Werror -O1 -g "bindings/c/$name.c" "$@" -o "$out/$name"
 }
 
-compile example "$out/libkrates_c.a" "$out/liblibc_c.a"
-compile damaged_documents "$out/libkrates_c.a" "$out/liblibc_c.a"
+sanitized=(-fsanitize=address,undefined)
+archives=("$out/libkrates_c.a" "$out/liblibc_c.a")
+compile example "${sanitized[@]}" "${archives[@]}"
+compile damaged_documents "${sanitized[@]}" bindings/c/trials.c "${archives[@]}"
 # it has the functions for memory itself
-compile refused_requests "$out/libkrates_c.a"
+compile refused_requests "${sanitized[@]}" bindings/c/trials.c "$out/libkrates_c.a"
 for document in "${documents[@]}"; do
     cmp <("$out/example" < "$document") <("$KRATES_LIST" --ignore-kind dev < "$document")
 done
