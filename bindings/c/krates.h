@@ -4,6 +4,10 @@
  * lends. A pointer goes with the length of what it points to in bytes; it is never null, also where that length is 0, and what a
  * room has overlaps nothing else. The library keeps no pointer, and any number of threads may call it at once.
  *
+ * A call needs up to KRATES_STACK bytes of stack, whatever it is given: of what was measured, documents that cargo writes took 64 KiB,
+ * and JSON that is nested 127 deep took 140 KiB; what is deeper is refused. On a thread that has less a call may end the process, at the
+ * guard page of the thread's stack. The main thread mostly has 8 MiB, a thread of musl 128 KiB where nothing else is asked for.
+ *
  * The options are words, one in each line: `--workspace`; `--ignore-kind` and `normal`, `build` or `dev`; `--target` and a triple;
  * `--exclude` and a package specification; `--all-named`. Seven targets are known by their triple, which docs/GUIDE.md lists: of any
  * other triple nothing is known, so that what is under a cfg like `cfg(unix)` is left out.
@@ -21,6 +25,9 @@
 #ifdef __cplusplus
 extern "C" {
 #endif
+
+/* The stack that a call needs at most, in bytes. */
+enum { KRATES_STACK = 256 << 10 };
 
 /* How a call ended. */
 enum krates_status {
@@ -42,7 +49,8 @@ struct krates_answer {
     size_t length;
 };
 
-/* A line for each package, by id: `+ ID` for those that are kept, and then `- ID` for the others. */
+/* A line for each package, by id: `+ ID` for those that are kept, and then `- ID` for the others. The ids stand there as they are, and a
+ * document of cargo has none with a line feed; where one may have, ask `krates_graph`, whose texts come with their lengths. */
 struct krates_answer krates_list(
     const uint8_t *document, size_t document_length,
     const uint8_t *options, size_t options_length,
@@ -63,7 +71,8 @@ struct krates_answer krates_graph(
     const uint8_t *options, size_t options_length,
     uint8_t *room, size_t room_length);
 
-/* A derivation of the crate with this package id, one step in each line, as `krates-list --why ID` writes it. */
+/* A derivation of the crate with this package id, one step in each line, as `krates-list --why ID` writes it. Its ids and names stand
+ * there as they are. */
 struct krates_answer krates_why(
     const uint8_t *document, size_t document_length,
     const uint8_t *options, size_t options_length,

@@ -3,14 +3,14 @@
 # program that the gate left there.
 #
 # The archive of crates/krates_c and the toolchain's functions for memory come to bindings/out. Then come the tests of bindings/rust, without a network,
-# beside the program krates-list; the example in C; each call with its requests for memory
-# refused; and COUNT damaged documents, its word (40,000, a minute or two). C is compiled with the address sanitizer.
+# beside the program krates-list; the example in C; each call on a thread with no more stack than it may need, and with its requests for memory
+# refused; and COUNT damaged documents, its word (30,000, a minute or two). C is compiled with the address sanitizer, but where the stack is measured.
 #
 # It wants cargo and gcc. The status is 0 where all of it went well.
 
 set -euo pipefail
 cd "$(dirname "$0")/../.."
-count=${1:-40000}
+count=${1:-30000}
 kit=$(dirname "$(dirname "$(realpath "$(command -v rt)")")")
 out=$PWD/bindings/out
 export KRATES_LIST=$PWD/crates/krates_list/out/krates_list
@@ -41,11 +41,13 @@ compile() {
 sanitized=(-fsanitize=address,undefined)
 archives=("$out/libkrates_c.a" "$out/liblibc_c.a")
 compile example "${sanitized[@]}" "${archives[@]}"
+compile little_stack bindings/c/trials.c "${archives[@]}" -pthread
 compile damaged_documents "${sanitized[@]}" bindings/c/trials.c "${archives[@]}"
 # it has the functions for memory itself
 compile refused_requests "${sanitized[@]}" bindings/c/trials.c "$out/libkrates_c.a"
 for document in "${documents[@]}"; do
     cmp <("$out/example" < "$document") <("$KRATES_LIST" --ignore-kind dev < "$document")
 done
+"$out/little_stack" crates/krates_check/data/document.json
 "$out/refused_requests" "${documents[@]}"
 "$out/damaged_documents" "$count" 1 "${documents[@]}"
