@@ -1,8 +1,14 @@
 /* krates, proved: which crates of a document of `cargo metadata` are needed, answered by the static library of `crates/krates_c`.
  *
  * Each call takes a document, options and, where it says so, one thing more, and writes its answer to the room that the caller
- * lends. A pointer goes with the length of what it points to in bytes; it is never null, also where that length is 0, and what a
- * room has overlaps nothing else. The library keeps no pointer, and any number of threads may call it at once.
+ * lends. The library keeps no pointer, and any number of threads may call it at once.
+ *
+ * It can't check a pointer or a length, so that these have to be right, and nothing is promised of a call otherwise:
+ *
+ *   - A pointer goes with the length of what it points to in bytes, which is at most PTRDIFF_MAX, as that of any object. It is never
+ *     null; where the length is 0, any other pointer will do.
+ *   - What is only read may overlap, or be the same, and nobody writes there until the call returns.
+ *   - The room overlaps nothing else, and nobody else uses it until then.
  *
  * A call needs up to KRATES_STACK bytes of stack, whatever it is given: of what was measured, documents that cargo writes took 64 KiB,
  * and JSON that is nested 127 deep took 140 KiB; what is deeper is refused. On a thread that has less a call may end the process, at the
