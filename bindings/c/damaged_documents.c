@@ -129,7 +129,7 @@ static struct text certificates[2];
 static struct text kept(size_t number, struct text certificate) {
     static uint8_t bytes[2][LONGEST];
     if (certificate.length > LONGEST)
-        exit(2);
+        stop("the certificate is too long");
     certificates[number] = (struct text){memcpy(bytes[number], certificate.at, certificate.length), certificate.length};
     return certificates[number];
 }
@@ -163,7 +163,8 @@ static void agree(struct question it, const char *setting, bool is_whole) {
     check(it, kept(1, closed_certificate(&facts, setting)), closed_verdict(facts.crates));
 }
 
-/* Checks a damaged certificate, of this document or of one before. */
+/* Checks a damaged certificate, of this document or of one before. Of a document without a graph nothing but a step may hold, unless
+ * nothing at all is needed. */
 static void check_damaged(struct question it, bool is_built) {
     static uint8_t bytes[LONGEST];
     it.call = CHECK;
@@ -172,8 +173,12 @@ static void check_damaged(struct question it, bool is_built) {
     if (told.status != KRATES_ANSWERED)
         return;
     held++;
-    if (is_built ? !is_true(&facts, told.text) : memcmp(told.text.at, "holds: nothing", 14) == 0)
+    bool is_closed = memcmp(told.text.at, "holds: nothing", 14) == 0;
+    if (is_built && !is_true(&facts, told.text))
         fail(&it, "the verdict isn't true");
+    it.call = GRAPH;
+    if (!is_built && is_closed && !same_text(ask(&it).text, text_of("no root crates available")))
+        fail(&it, "a set is closed, though there is no graph");
 }
 
 /* Tries damaged options, and a damaged id. */

@@ -10,7 +10,6 @@
 
 #include <pthread.h>
 #include <stdio.h>
-#include <stdlib.h>
 #include <string.h>
 #include <sys/mman.h>
 #include <unistd.h>
@@ -35,7 +34,7 @@ static uint8_t bytes[2][LONGEST];
 
 static void put(struct text *whole, struct text more) {
     if (whole->length + more.length > LONGEST)
-        exit(2);
+        stop("the document is too long");
     memcpy((uint8_t *)whole->at + whole->length, more.at, more.length);
     whole->length += more.length;
 }
@@ -77,11 +76,11 @@ static void make(struct question it) {
     pthread_attr_t attributes;
     pthread_t thread;
     if (below == MAP_FAILED || mprotect(below, page, PROT_NONE) != 0)
-        exit(2);
+        stop("there is no memory");
     memset(stack, FILLED, KRATES_STACK);
     if (pthread_attr_init(&attributes) != 0 || pthread_attr_setstack(&attributes, stack, KRATES_STACK) != 0 ||
         pthread_create(&thread, &attributes, run, &it) != 0 || pthread_join(thread, NULL) != 0)
-        exit(2);
+        stop("there is no thread");
     while (stack[unused] == FILLED)
         unused++;
     if (KRATES_STACK - unused > most)

@@ -23,14 +23,17 @@ static struct text behind(struct text it, size_t length) {
     return (struct text){it.at + length, it.length - length};
 }
 
+void stop(const char *why) {
+    fprintf(stderr, "%s\n", why);
+    exit(2);
+}
+
 struct text read_file(const char *name) {
     FILE *file = fopen(name, "rb");
     uint8_t *bytes = malloc(LONGEST);
     size_t length = file == NULL || bytes == NULL ? 0 : fread(bytes, 1, LONGEST, file);
-    if (length == 0 || length == LONGEST) {
-        fprintf(stderr, "%s can't be read\n", name);
-        exit(2);
-    }
+    if (length == 0 || length == LONGEST)
+        stop(name);
     fclose(file);
     return (struct text){bytes, length};
 }
@@ -57,7 +60,7 @@ static uint8_t *end_of(size_t number) {
         size_t page = (size_t)sysconf(_SC_PAGESIZE);
         void *at = mmap(NULL, LONGEST + page, PROT_READ | PROT_WRITE, MAP_PRIVATE | MAP_ANONYMOUS, -1, 0);
         if (at == MAP_FAILED || mprotect((uint8_t *)at + LONGEST, page, PROT_NONE) != 0)
-            exit(2);
+            stop("there is no memory");
         ends[number] = (uint8_t *)at + LONGEST;
     }
     return ends[number];
@@ -115,7 +118,7 @@ static size_t used;
 
 static void put(uint8_t byte) {
     if (used == sizeof bytes)
-        exit(2);
+        stop("the texts are too long");
     bytes[used++] = byte;
 }
 
@@ -175,7 +178,7 @@ static struct text measured(struct text *rest) {
 
 static void add(struct facts *facts, const char *said, const char *written, const struct text *texts) {
     if (facts->count == sizeof facts->fact / sizeof *facts->fact)
-        exit(2);
+        stop("there are too many facts");
     facts->fact[facts->count++] = (struct fact){filled(said, false, texts), filled(written, true, texts)};
 }
 
@@ -228,7 +231,7 @@ void read_facts(struct facts *facts, struct text rest) {
             before(&rest, "\n");
         facts->crates += is_crate;
         if (++count == sizeof nodes / sizeof *nodes)
-            exit(2);
+            stop("there are too many nodes");
     }
 }
 

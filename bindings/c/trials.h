@@ -14,6 +14,9 @@ struct text {
 struct text text_of(const char *it);
 bool same_text(struct text a, struct text b);
 
+/* Says why nothing can be tried, and ends the program with status 2. */
+_Noreturn void stop(const char *why);
+
 /* The bytes of a file, up to LONGEST. */
 struct text read_file(const char *name);
 
