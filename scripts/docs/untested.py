@@ -53,7 +53,9 @@ SHOWN_BY = {
     "Document::lists": ("Document::feature_number", "features_at", "listed_feature"),
     "Document::values": ("values_at",),
     # a certificate is judged under a choice's setting, beside the words that mean it
-    "run_under": "Choice::words Choice::stated StatedSetting::words StatedSetting::agrees".split(),
+    "run_under": (
+        "Choice::words Choice::stated StatedSetting::words StatedSetting::agrees CertificateSubject::agrees"
+    ).split(),
     "Document::referent": ("is_library_rename",),
     "Document::referents": ("referents_of",),
     "Document::roots": ("Document::root_choice",),

@@ -1,5 +1,5 @@
 -- The setting that words give, one word per line, and the words that a certificate under this setting has.
-use Rattle.std.specs.Prelude.{◌≡◌, ◌++◌, IsUtf8, List, None, codes, map, ⊤}
+use Rattle.std.specs.Prelude.{◌≡◌, ◌++◌, [], IsUtf8, List, None, codes, map, ⊤}
 use Rattle.std.specs.Str.Lines.{lines}
 use Rattle.krates_cm.specs.Document.{Text}
 use Rattle.krates_cli.specs.Options.{IsCommandLine, OptionsModel, setting_of}
@@ -7,7 +7,10 @@ use Rattle.krates_ids.specs.PackageSpecification.{Specification}
 use Rattle.krates_ids.specs.SpecificationText.{spec_text}
 use Rattle.krates_rules.specs.Setting.{SettingModel}
 use Rattle.krates_text.specs.TargetTable.{printed, target_named}
-use Rattle.krates_words.specs.SettingWords.{flag_words, kind_word}
+use Rattle.krates_words.specs.Choice.{IsSettingOf}
+use Rattle.krates_words.specs.SettingWords.{flag_words, kind_word, words_of}
+use Rattle.krates_words.specs.Stated.{StatedModel}
+use Rattle.krates_words.specs.declared.choice.Choice.{Choice}
 use Rattle.krates_foreign.specs.declared.refusal.CallRefusal.{CallRefusal}
 use Rattle.krates_foreign.specs.declared.refusal.CallRefusal.TheVariants as refusals
 
@@ -62,3 +65,12 @@ setting_words o =
     ++ (map kind_word o.ignored
     ++ (map exclusion_word o.exclusions
     ++ map target_word o.targets)))
+
+-- the setting of the options, with these words
+abbrev pub stated_of : OptionsModel → StatedModel
+stated_of o = record { setting = setting_of o; words = setting_words o }
+
+-- The choice means that setting and no other, and has those words.
+pub record IsChoiceOf (o : OptionsModel) (c : Choice) : Type 0 where
+  pub setting : (s : SettingModel) → IsSettingOf c [] s → s ≡ setting_of o
+  pub words : words_of c ≡ setting_words o

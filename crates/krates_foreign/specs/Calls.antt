@@ -4,17 +4,17 @@ use Rattle.krates_cm.specs.Document.{Text, metadata_view}
 use Rattle.krates_cm.specs.declared.metadata.Metadata.{Metadata}
 use Rattle.krates_cli.specs.Listing.{ExplainsCrate, IsListingOf, ListsPackages}
 use Rattle.krates_cli.specs.ListingRefusals.{IsUnbuilt, IsUnkept}
-use Rattle.krates_cli.specs.Options.{OptionsModel, setting_of}
+use Rattle.krates_cli.specs.Options.{OptionsModel}
 use Rattle.krates_cli.specs.Request.{Request}
 use Rattle.krates_ids.specs.Identity.{Identity, Reads}
 use Rattle.krates_ids.specs.declared.error.Error.TheVariants as build_errors
 use Rattle.krates_rules.specs.Setting.{SettingModel}
 use Rattle.krates_verdict.specs.VerdictRunning.{IsUnheld, IsVerdictOf}
-use Rattle.krates_verdict.specs.Subject.{SubjectModel}
+use Rattle.krates_verdict.specs.Subject.{SubjectModel, judged_under}
 use Rattle.krates_verdict.specs.VerdictText.{verdict_line}
 use Rattle.krates_verdict.specs.declared.refusal.Refusal.TheVariants as verdicts
 use Rattle.krates_verdict.specs.declared.verdict.Verdict.{Verdict}
-use Rattle.krates_foreign.specs.Asked.{AskForNone, AskForOne, AsksFor, Under, setting_words}
+use Rattle.krates_foreign.specs.Asked.{AskForNone, AskForOne, AsksFor, Under, stated_of}
 use Rattle.krates_foreign.specs.Documents.{IsNoDocumentIn, OfDocument}
 use Rattle.krates_foreign.specs.DrawnLines.{DrawsPackages}
 use Rattle.krates_foreign.specs.declared.refusal.CallRefusal.{CallRefusal}
@@ -49,7 +49,7 @@ Explains bytes words id lines =
 
 -- what a certificate is judged against: the document, and the setting with its words
 abbrev pub subject_of : Metadata → OptionsModel → SubjectModel
-subject_of m o = record { metadata = metadata_view m; setting = setting_of o; words = setting_words o }
+subject_of m o = judged_under (metadata_view m) (stated_of o)
 
 -- a certificate holds, and this line says what it says
 abbrev pub Upholds : SubjectModel → Text → Text → Type 0

@@ -2,16 +2,14 @@
 
 ghost use Rattle.std.specs.Prelude.{◌≡◌, IfErr, IfOk, string_bytes};
 ghost use Rattle.krates_cli.specs.Options.{options_view};
-ghost use Rattle.krates_cm.specs.Document.{texts_view};
-ghost use Rattle.krates_foreign.specs.Asked.{setting_words};
+ghost use Rattle.krates_foreign.specs.Asked.{IsChoiceOf, stated_of};
 ghost use Rattle.krates_foreign.specs.Calls.{JudgedRefusal, Upholds, subject_of};
-ghost use Rattle.krates_words.specs.SettingWords.{words_of};
 
 use crate::refusal::CallRefusal;
 use krates::Metadata;
 use krates_cli::{Options, targets_of};
 use krates_verdict::CertificateSubject;
-use krates_words::Choice;
+use krates_words::{Choice, StatedSetting};
 use std::alloc::{AllocError, Global};
 
 /// The line of the verdict on a certificate. It is refused as `Certificate` or `Memory`.
@@ -27,28 +25,26 @@ pub(crate) fn judged(
     ensures refused { IfErr result
         (JudgedRefusal (subject_of metadata.now (options_view options.now)) certificate.now) }
 {
-    let setting = options.setting(alloc)?;
-    let words = words_for(alloc, options)?;
+    let stated = stated_for(alloc, options)?;
     let subject = CertificateSubject {
         metadata,
-        setting: &setting,
-        words: &words,
+        stated: &stated,
     };
     let verdict = subject.judge_bytes(alloc, certificate)?;
     Ok(format!(in alloc; "{verdict}\n")?)
 }
 
-/// The words that mean the setting, as certificates have them.
-fn words_for(alloc: Global, options: &Options) -> Result<Vec<String>, AllocError>
-    ensures { IfOk result (λ words. texts_view words ≡ setting_words (options_view options.now)) }
+/// The setting of the options, with the words that mean it, as certificates have them.
+fn stated_for(alloc: Global, options: &Options) -> Result<StatedSetting, AllocError>
+    ensures { IfOk result (λ stated. stated ≡ stated_of (options_view options.now)) }
 {
     let choice = choice_of(alloc, options)?;
-    choice.words(alloc)
+    choice.stated(alloc)
 }
 
 /// What the options choose.
 fn choice_of(alloc: Global, options: &Options) -> Result<Choice, AllocError>
-    ensures { IfOk result (λ choice. words_of choice ≡ setting_words (options_view options.now)) }
+    ensures { IfOk result (IsChoiceOf (options_view options.now)) }
 {
     let ignored = options.ignored.clone()?;
     let exclusions = options.exclusions.clone()?;

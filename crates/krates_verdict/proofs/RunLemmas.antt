@@ -1,19 +1,17 @@
 -- What is known of bytes, and of what was read, where there is no verdict.
-use Rattle.std.proofs.Common.{◌≡◌, ◌∙◌, ◌⊎◌, IfErr, IfSome, IsUtf8, OnOk, None, [], Option, Result, Some, Ok, Err, inl, inr, refl, subst, sym}
+use Rattle.std.proofs.Common.{◌≡◌, ◌⊎◌, IfErr, IfSome, IsUtf8, OnOk, None, [], Option, Result, Some, Ok, Err, inl, inr, refl, subst, sym}
 use Rattle.krates_cm.specs.Document.{MetadataModel, Text}
-use Rattle.krates_rules.specs.Setting.{SettingModel}
 use Rattle.krates_certificate.specs.CertificateRefusals.{IsMemory, fault_of}
 use Rattle.krates_certificate.specs.CertificateTables.{IsCertificateText, TextFault}
 use Rattle.krates_certificate.specs.CertificateViews.{certificate_told}
 use Rattle.krates_certificate.specs.declared.certificate.Certificate.{Certificate}
 use Rattle.krates_certificate.specs.declared.certificate_error.CertificateError.{CertificateError}
-use Rattle.krates_words.specs.Choice.{IsSettingOf}
 use Rattle.krates_words.specs.Stated.{IsStatedBy, StatedModel}
 use Rattle.krates_words.specs.declared.choice.Choice.{Choice}
 use Rattle.krates_verdict.specs.RefusalText.{CertificateErrorBecomes}
 use Rattle.krates_verdict.specs.VerdictRefusals.{IsOfReader, JudgeRefusal}
 use Rattle.krates_verdict.specs.VerdictRunning.{ChosenRefusal, IsRefusalOf, IsUnheld, OfChoice, RunRefusal}
-use Rattle.krates_verdict.specs.Subject.{IsSubjectOf, SubjectModel}
+use Rattle.krates_verdict.specs.Subject.{IsSubjectOf, SubjectModel, judged_under}
 use Rattle.krates_verdict.specs.declared.refusal.Refusal.{Refusal}
 use Rattle.krates_verdict.specs.declared.refusal.Refusal.TheVariants as refusals
 
@@ -78,13 +76,9 @@ run_refused s left bytes e same all h is = subst (RunRefusal s left) (sym is) (r
 
 -- ---- under what a command line chooses
 
--- a document, with the setting and the words that a choice states
-pub stated_subject : (c : Choice) (stated : StatedModel) (s : SubjectModel) → IsStatedBy c stated → s.setting ≡ stated.setting → s.words ≡ stated.words → IsSubjectOf c s.metadata s
-stated_subject c stated s is same_setting same_words = record {
-  metadata = refl;
-  setting = subst (λ (setting : SettingModel). IsSettingOf c [] setting) (sym same_setting) is.setting;
-  words = same_words ∙ is.words;
-}
+-- a document under what a choice states
+pub stated_subject : (c : Choice) (m : MetadataModel) (stated : StatedModel) → IsStatedBy c stated → IsSubjectOf c m (judged_under m stated)
+stated_subject c m stated is = record { metadata = refl; setting = is.setting; words = is.words }
 
 -- what a run wrote over the subject of a choice
 pub chosen_written : {A : Type 0} (c : Choice) (m : MetadataModel) (s : SubjectModel) (P : SubjectModel → Type 0) (r : Result A Refusal) → IsSubjectOf c m s → OnOk r (P s) → OnOk r (OfChoice c m P)

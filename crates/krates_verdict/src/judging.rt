@@ -73,8 +73,7 @@ pub fn run_under<R: Read, W: Write>(
     let stated = choice.stated(alloc)?;
     let subject = CertificateSubject {
         metadata,
-        setting: stated.setting(),
-        words: stated.words(),
+        stated: &stated,
     };
     run(alloc, &subject, input, output)
 }

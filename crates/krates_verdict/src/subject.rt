@@ -9,7 +9,7 @@ ghost use Rattle.krates_rules.specs.StepViews.{facts_view, steps_view};
 ghost use Rattle.krates_verdict.specs.Holding.{Holds, StepsSay};
 ghost use Rattle.krates_verdict.specs.VerdictRefusals.{IsObjection, IsOtherSetting, JudgeRefusal};
 ghost use Rattle.krates_verdict.specs.VerdictRunning.{IsUnheld, IsVerdictOf};
-ghost use Rattle.krates_verdict.specs.Subject.{subject_view};
+ghost use Rattle.krates_verdict.specs.Subject.{IsOfOneChoice, subject_view};
 ghost use Rattle.krates_verdict.specs.declared.refusal.Refusal.TheVariants as refusals;
 
 use crate::crates_of_facts::count_crates;
@@ -18,23 +18,29 @@ use crate::verdict::Verdict;
 use krates_certificate::Certificate;
 use krates_checkers::{CheckError, check, check_closed};
 use krates_cm::Metadata;
-use krates_document::Setting;
 use krates_rules::{Derivation, Fact, Step};
+use krates_words::StatedSetting;
 use std::alloc::Global;
 use std::str;
 
-/// What a certificate is judged against: a document, a setting, and the words that mean this setting, as a command line has them.
+/// What a certificate is judged against: a document, and a setting with the words that mean it, as a command line has them. There is no
+/// subject whose words mean another setting.
 #[derive(Clone, Copy)]
 pub struct CertificateSubject<'a> {
     /// The document.
     pub metadata: &'a Metadata,
-    /// The setting.
-    pub setting: &'a Setting,
-    /// The words that mean it. A certificate must have the same, in the same order.
-    pub words: &'a [String],
+    /// The setting, with its words. A certificate must have the same, in the same order.
+    pub stated: &'a StatedSetting,
 }
 
 impl CertificateSubject<'_> {
+    /// What always holds: there is a choice that means the setting and has the words.
+    pub fn agrees(&self)
+        ensures { IsOfOneChoice (subject_view self.now) }
+    {
+        self.stated.agrees();
+    }
+
     /// Judges a certificate: it was made under the words of the subject's setting, and the checkers accept its steps or its facts
     /// for the document and the setting. Then it says what its last step says, or how many crates its facts name.
     ///
@@ -104,7 +110,7 @@ impl CertificateSubject<'_> {
     fn has_words(&self, claimed: &[String]) -> bool
         ensures { IsTrue result ↔ (map text_view claimed.now ≡ (subject_view self.now).words) }
     {
-        claimed == self.words
+        claimed == self.stated.words()
     }
 
     /// Refuses a list of steps that the checker refuses.
@@ -115,7 +121,13 @@ impl CertificateSubject<'_> {
             let steps = steps_view derivation.now.steps.items in
             IfErr result (IsObjection (IsCheckRefused s.metadata s.setting steps)) }
     {
-        Ok(check(alloc, self.metadata, self.setting, None, derivation)?)
+        Ok(check(
+            alloc,
+            self.metadata,
+            self.stated.setting(),
+            None,
+            derivation,
+        )?)
     }
 
     /// Refuses a list of facts that the checker refuses.
@@ -125,7 +137,7 @@ impl CertificateSubject<'_> {
         ensures refused { let s = subject_view self.now in
             IfErr result (IsObjection (IsClosedRefused s.metadata s.setting (facts_view facts.now))) }
     {
-        Ok(check_closed(alloc, self.metadata, self.setting, None, facts)?)
+        Ok(check_closed(alloc, self.metadata, self.stated.setting(), None, facts)?)
     }
 }
 
