@@ -2,6 +2,8 @@ pub mod Admitted
 pub mod CountedCrates
 pub mod HeldLemmas
 pub mod JudgeLemmas
+pub mod OwnIds
 pub mod RunLemmas
+pub mod SpokenOf
 pub mod Truth
 pub mod Words

@@ -4,6 +4,7 @@ use Rattle.std.proofs.lemmas.List.{append-nil, append_assoc, take_more}
 use Rattle.std.specs.Cmp.Lexicographic.{pointwise, bytes_decides}
 use Rattle.std.specs.String.{string_eq}
 use Rattle.krates_cm.specs.Document.{Text, text_view}
+use Rattle.krates_shown.specs.Shown.{shown_text}
 use Rattle.krates_verdict.specs.RefusalText.{behind_blanks}
 
 both_true : (a b : Bool) → (a && b) ≡ true → (a ≡ true) × (b ≡ true)
@@ -36,18 +37,22 @@ words_tell xs ys b is = (λ t. words_to xs ys (sym is ∙ t), λ e. is ∙ words
 
 -- ---- printed
 
-blanks_append : (xs : List (String Global)) (x : String Global) → behind_blanks (map text_view (xs ++ x ∷ [])) ≡ behind_blanks (map text_view xs) ++ (codes " " ++ text_view x)
-blanks_append [] x = ap (λ (t : Text). codes " " ++ t) (append-nil (text_view x))
+-- a word as it is shown
+abbrev pub shown_word : String Global → Text
+shown_word word = shown_text (text_view word)
+
+blanks_append : (xs : List (String Global)) (x : String Global) → behind_blanks (map text_view (xs ++ x ∷ [])) ≡ behind_blanks (map text_view xs) ++ (codes " " ++ shown_word x)
+blanks_append [] x = ap (λ (t : Text). codes " " ++ t) (append-nil (shown_word x))
 blanks_append (y ∷ ys) x =
-    let last = codes " " ++ text_view x in
+    let last = codes " " ++ shown_word x in
     let rest = behind_blanks (map text_view ys) in
-    ap (λ (t : Text). codes " " ++ (text_view y ++ t)) (blanks_append ys x)
-    ∙ ap (λ (t : Text). codes " " ++ t) (sym (append_assoc (text_view y) rest last))
-    ∙ sym (append_assoc (codes " ") (text_view y ++ rest) last)
+    ap (λ (t : Text). codes " " ++ (shown_word y ++ t)) (blanks_append ys x)
+    ∙ ap (λ (t : Text). codes " " ++ t) (sym (append_assoc (shown_word y) rest last))
+    ∙ sym (append_assoc (codes " ") (shown_word y ++ rest) last)
 
 -- one more word
 pub blanks_more : (xs : List (String Global)) (i : ℕ) (x : String Global) → i < length xs → x ≡ get_or xs i x
-    → behind_blanks (map text_view (take i xs)) ++ (codes " " ++ text_view x) ≡ behind_blanks (map text_view (take (i + 1) xs))
+    → behind_blanks (map text_view (take i xs)) ++ (codes " " ++ shown_word x) ≡ behind_blanks (map text_view (take (i + 1) xs))
 blanks_more xs i x lt is =
     let more : take (i + 1) xs ≡ take i xs ++ x ∷ [] = take_more xs i x lt ∙ ap (λ (y : String Global). take i xs ++ y ∷ []) (sym is) in
     sym (ap (λ (ys : List (String Global)). behind_blanks (map text_view ys)) more ∙ blanks_append (take i xs) x)

@@ -1,34 +1,37 @@
 -- When a certificate holds of a document and a setting, and what it says then.
 use Rattle.std.specs.Prelude.{◌≡◌, ◌↔◌, ℕ, List, [], ◌∷◌, ◌++◌, Contains, length, ⊤}
-use Rattle.krates_cm.specs.Document.{Text, texts_view}
+use Rattle.krates_cm.specs.Document.{MetadataModel, Text, texts_view}
 use Rattle.krates_certificate.specs.declared.certificate.Certificate.{Certificate}
 use Rattle.krates_certificate.specs.declared.certificate.Certificate.TheVariants as certificates
 use Rattle.krates_rules.specs.Checks.{IsAcceptedFor, IsClosedFor}
 use Rattle.krates_rules.specs.Facts as rules
 use Rattle.krates_rules.specs.Facts.{Crate, Id}
-use Rattle.krates_rules.specs.StepViews.{facts_view, steps_view}
-use Rattle.krates_rules.specs.declared.derivation.Fact.{Fact}
-use Rattle.krates_rules.specs.declared.derivation.Fact.TheVariants as facts
+use Rattle.krates_rules.specs.StepViews.{fact_view, facts_view, steps_view}
 use Rattle.krates_rules.specs.declared.derivation.Step.{Step}
+use Rattle.krates_verdict.specs.NamedFact.{NamesIn}
 use Rattle.krates_verdict.specs.Subject.{SubjectModel}
+use Rattle.krates_verdict.specs.declared.named_fact.NamedFact.{NamedFact}
+use Rattle.krates_verdict.specs.declared.named_fact.NamedFact.TheVariants as named
 use Rattle.krates_verdict.specs.declared.verdict.Verdict.{Verdict}
 use Rattle.krates_verdict.specs.declared.verdict.Verdict.TheVariants as verdicts
 
 -- ---- of a list of steps
 
 -- what this many steps say, the last of which has the fact
-abbrev pub said_last : Fact → ℕ → Verdict
-said_last (facts.Crate krate) steps = verdicts.Kept krate steps
-said_last (facts.Feature krate name) steps = verdicts.Follows (facts.Feature krate name) steps
-said_last (facts.Kept parent child kind cfg) steps = verdicts.Follows (facts.Kept parent child kind cfg) steps
-said_last (facts.Toggled parent child name) steps = verdicts.Follows (facts.Toggled parent child name) steps
+abbrev pub said_last : NamedFact → ℕ → Verdict
+said_last (named.Crate krate) steps = verdicts.Kept krate steps
+said_last (named.Feature krate name) steps = verdicts.Follows (named.Feature krate name) steps
+said_last (named.Kept parent child kind cfg) steps = verdicts.Follows (named.Kept parent child kind cfg) steps
+said_last (named.Toggled parent child name) steps = verdicts.Follows (named.Toggled parent child name) steps
 
--- this is what the steps say: the fact of the last of them, and how many they are
-pub record StepsSay (steps : List Step) (verdict : Verdict) : Type 0 where
+-- This is what the steps say of the document: the fact of the last of them, as the document names it, and how many they are.
+pub record StepsSay (m : MetadataModel) (steps : List Step) (verdict : Verdict) : Type 0 where
   pub before : List Step
   pub last : Step
   pub ends : steps ≡ before ++ last ∷ []
-  pub says : verdict ≡ said_last last.fact (length steps)
+  pub fact : NamedFact
+  pub is_named : NamesIn m (fact_view last.fact) fact
+  pub says : verdict ≡ said_last fact (length steps)
 
 -- ---- of a list of facts
 
@@ -56,13 +59,13 @@ abbrev pub IsAccepted : SubjectModel → Certificate → Type 0
 IsAccepted s (certificates.Derivation words derivation) = IsAcceptedFor s.metadata s.setting (steps_view derivation.steps.items)
 IsAccepted s (certificates.Closed words listed) = IsClosedFor s.metadata s.setting (facts_view listed.items)
 
--- this is what it says
-abbrev pub Says : Certificate → Verdict → Type 0
-Says (certificates.Derivation words derivation) verdict = StepsSay derivation.steps.items verdict
-Says (certificates.Closed words listed) verdict = FactsSay (facts_view listed.items) verdict
+-- this is what it says of the document
+abbrev pub Says : MetadataModel → Certificate → Verdict → Type 0
+Says m (certificates.Derivation words derivation) verdict = StepsSay m derivation.steps.items verdict
+Says m (certificates.Closed words listed) verdict = FactsSay (facts_view listed.items) verdict
 
 -- It is of this setting, by its words, it is accepted, and this is what it says.
 pub record Holds (s : SubjectModel) (certificate : Certificate) (verdict : Verdict) : Type 0 where
   pub same_words : words_of certificate ≡ s.words
   pub accepted : IsAccepted s certificate
-  pub says : Says certificate verdict
+  pub says : Says s.metadata certificate verdict

@@ -1,5 +1,6 @@
 pub mod CratesOfFacts
 pub mod Holding
+pub mod NamedFact
 pub mod RefusalText
 pub mod Subject
 pub mod Truth

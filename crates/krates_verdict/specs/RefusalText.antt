@@ -10,6 +10,7 @@ use Rattle.krates_certificate.specs.contracts.certificate_error.CertificateError
 use Rattle.krates_certificate.specs.declared.certificate_error.CertificateError.{CertificateError}
 use Rattle.krates_checkers.specs.declared.check_error.CheckError.{CheckError}
 use Rattle.krates_checkers.specs.declared.check_error.CheckError.TheVariants as causes
+use Rattle.krates_shown.specs.Shown.{shown_text}
 use Rattle.krates_verdict.specs.declared.refusal.Refusal.{Refusal}
 use Rattle.krates_verdict.specs.declared.refusal.Refusal.TheVariants as refusals
 
@@ -32,10 +33,10 @@ ReadErrorBecomes cause _ = ⊥
 
 -- ---- what is printed
 
--- words, each after a space
+-- words as they are shown, each after a space
 abbrev pub behind_blanks : List Text → Text
 behind_blanks [] = []
-behind_blanks (word ∷ words) = codes " " ++ (word ++ behind_blanks words)
+behind_blanks (word ∷ words) = codes " " ++ (shown_text word ++ behind_blanks words)
 
 -- the words of a setting, after a space
 abbrev pub words_text : List Text → Text

@@ -1,8 +1,13 @@
 -- What is printed of a verdict.
-use Rattle.std.specs.Prelude.{ℕ, [], ◌∷◌, ◌++◌, ◌==◌, codes, if◌then◌else◌}
+use Rattle.std.specs.Prelude.{ℕ, [], ◌∷◌, ◌++◌, ◌==◌, String, codes, if◌then◌else◌, option_map}
 use Rattle.std.specs.Fmt.{decimal}
-use Rattle.krates_cm.specs.Document.{Text}
-use Rattle.krates_rules.specs.DerivationTexts.{fact_text}
+use Rattle.std.specs.declared.alloc.Global.{Global}
+use Rattle.krates_cm.specs.Document.{Text, id_view, text_view}
+use Rattle.krates_cm.specs.declared.package_id.PackageId.{PackageId}
+use Rattle.krates_rules.specs.DerivationTexts.{cfg_suffix, kind_suffix}
+use Rattle.krates_shown.specs.Shown.{shown_text}
+use Rattle.krates_verdict.specs.declared.named_fact.NamedFact.{NamedFact}
+use Rattle.krates_verdict.specs.declared.named_fact.NamedFact.TheVariants as named
 use Rattle.krates_verdict.specs.declared.verdict.Verdict.{Verdict}
 use Rattle.krates_verdict.specs.declared.verdict.Verdict.TheVariants as verdicts
 
@@ -16,10 +21,27 @@ closed_text krates =
     if krates == 1 then codes "nothing but this 1 crate can be reached"
     else codes "nothing but these " ++ (decimal krates ++ codes " crates can be reached")
 
--- a verdict; its ids are shown by their texts
+-- an id text as it is shown
+abbrev pub shown_id : PackageId → Text
+shown_id id = shown_text (id_view id)
+
+-- a name or a target as it is shown
+abbrev pub shown_name : String Global → Text
+shown_name name = shown_text (text_view name)
+
+-- a fact, its crates by their id texts; for a toggled feature its crate comes first
+abbrev pub named_text : NamedFact → Text
+named_text (named.Crate krate) = codes "crate " ++ shown_id krate
+named_text (named.Feature krate name) = codes "feature " ++ (shown_name name ++ (codes " of " ++ shown_id krate))
+named_text (named.Kept parent child kind cfg) =
+    codes "kept " ++ (shown_id parent ++ (codes " -> " ++ (shown_id child ++ (kind_suffix kind ++ cfg_suffix (option_map shown_name cfg)))))
+named_text (named.Toggled parent child name) =
+    codes "toggled " ++ (shown_name name ++ (codes " of " ++ (shown_id child ++ (codes " by " ++ shown_id parent))))
+
+-- a verdict
 abbrev pub verdict_text : Verdict → Text
-verdict_text (verdicts.Kept krate steps) = codes "holds: crate " ++ (krate.text ++ (codes " is kept, " ++ steps_text steps))
-verdict_text (verdicts.Follows fact steps) = codes "holds: " ++ (fact_text fact ++ (codes " follows, " ++ steps_text steps))
+verdict_text (verdicts.Kept krate steps) = codes "holds: crate " ++ (shown_id krate ++ (codes " is kept, " ++ steps_text steps))
+verdict_text (verdicts.Follows fact steps) = codes "holds: " ++ (named_text fact ++ (codes " follows, " ++ steps_text steps))
 verdict_text (verdicts.Closed krates) = codes "holds: " ++ closed_text krates
 
 -- its line

@@ -5,11 +5,13 @@
 mod crates_of_facts;
 pub mod judging;
 pub mod laws;
+pub mod named_fact;
 pub mod refusal;
 pub mod subject;
 pub mod verdict;
 
 pub use judging::{run, run_under};
+pub use named_fact::NamedFact;
 pub use refusal::Refusal;
 pub use subject::CertificateSubject;
 pub use verdict::Verdict;

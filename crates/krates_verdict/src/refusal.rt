@@ -8,6 +8,7 @@ ghost use Rattle.krates_verdict.specs.declared.refusal.Refusal.TheVariants.{Memo
 
 use krates_certificate::CertificateError;
 use krates_checkers::CheckError;
+use krates_shown::Shown;
 use std::alloc::AllocError;
 use std::{fmt, io};
 
@@ -52,7 +53,7 @@ impl Refusal {
 #[derive(Clone, Copy)]
 struct Words<'a>(&'a [String]);
 
-/// Each word after a space, or ` no options` where there are none.
+/// Each word after a space, as it is shown, or ` no options` where there are none.
 impl fmt::Display for Words<'_> {
     ghost output = { λ words. Some (words_text (map text_view words.0.now)) };
 
@@ -61,7 +62,7 @@ impl fmt::Display for Words<'_> {
             return f.write_str(" no options");
         }
         for word in self.0 {
-            write!(f, " {word}")?;
+            write!(f, " {}", Shown(word.as_str()))?;
         }
         Ok(())
     }

@@ -1,9 +1,8 @@
 //! What a certificate is judged against, and how it is judged.
 
-ghost use Rattle.std.specs.Prelude.{◌≡◌, ◌↔◌, [], Err, IfErr, IfOk, IsTrue, IsUtf8, OnOk, map};
+ghost use Rattle.std.specs.Prelude.{◌≡◌, ◌↔◌, Err, IfErr, IfOk, IsTrue, IsUtf8, OnOk, map};
 ghost use Rattle.krates_cm.specs.Document.{text_view, texts_view};
 ghost use Rattle.krates_checkers.specs.CheckRefusals.{IsCheckRefused, IsClosedRefused};
-ghost use Rattle.krates_checkers.specs.declared.check_error.CheckError.TheVariants.{Empty};
 ghost use Rattle.krates_rules.specs.Checks.{IsAcceptedFor, IsClosedFor};
 ghost use Rattle.krates_rules.specs.StepViews.{facts_view, steps_view};
 ghost use Rattle.krates_verdict.specs.Holding.{Holds, StepsSay};
@@ -13,12 +12,13 @@ ghost use Rattle.krates_verdict.specs.Subject.{IsOfOneChoice, subject_view};
 ghost use Rattle.krates_verdict.specs.declared.refusal.Refusal.TheVariants as refusals;
 
 use crate::crates_of_facts::count_crates;
+use crate::named_fact::NamedFact;
 use crate::refusal::Refusal;
 use crate::verdict::Verdict;
 use krates_certificate::Certificate;
-use krates_checkers::{CheckError, check, check_closed};
+use krates_checkers::{check, check_closed};
 use krates_cm::Metadata;
-use krates_rules::{Derivation, Fact, Step};
+use krates_rules::{Derivation, Fact, Step, laws as rules};
 use krates_words::StatedSetting;
 use std::alloc::Global;
 use std::str;
@@ -42,12 +42,13 @@ impl CertificateSubject<'_> {
     }
 
     /// Judges a certificate: it was made under the words of the subject's setting, and the checkers accept its steps or its facts
-    /// for the document and the setting. Then it says what its last step says, or how many crates its facts name.
+    /// for the document and the setting. Then it says what its last step says, with the ids of the document's packages, or how many
+    /// crates its facts name.
     ///
     /// It is refused as `Setting` where its words differ, otherwise as `Check` where a checker says no. It may instead return
     /// `Memory`.
     ///
-    /// Time: that of the checker, and O(n log n) for n facts.
+    /// Time: that of the checker, O(n log n) for n facts, and O(length) for the id texts of the packages.
     ///
     /// ```text
     /// let certificate = Certificate::parse(alloc, text)?;
@@ -64,7 +65,7 @@ impl CertificateSubject<'_> {
             } => {
                 self.expect_words(setting)?;
                 self.expect_steps(alloc, &derivation)?;
-                said_by_steps(derivation.steps)
+                self.said_by_steps(derivation.steps)
             }
             Certificate::Closed { setting, facts } => {
                 self.expect_words(setting)?;
@@ -139,16 +140,21 @@ impl CertificateSubject<'_> {
     {
         Ok(check_closed(alloc, self.metadata, self.stated.setting(), None, facts)?)
     }
-}
 
-/// What the last step says. It is refused, as a derivation without a step, exactly where there is none.
-fn said_by_steps(mut steps: Vec<Step>) -> Result<Verdict, Refusal>
-    ensures says { IfOk result (StepsSay steps.items) }
-    ensures refused { IfErr result (λ e. (e ≡ refusals.Check Empty) × (steps.items ≡ [])) }
-{
-    let count = steps.len();
-    match steps.pop() {
-        Some(last) => Ok(Verdict::of_last(last.fact, count)),
-        None => Err(Refusal::Check(CheckError::Empty)),
+    /// What the last of accepted steps says, as the document names it. The only refusal is `Memory`.
+    fn said_by_steps(&self, mut steps: Vec<Step>) -> Result<Verdict, Refusal>
+        requires { let s = subject_view self.now in IsAcceptedFor s.metadata s.setting (steps_view steps.items) }
+        ensures says { IfOk result (StepsSay (subject_view self.now).metadata steps.items) }
+        ensures refused { IfErr result (λ e. e ≡ refusals.Memory) }
+    {
+        rules::accepted_lists();
+        let count = steps.len();
+        match steps.pop() {
+            Some(last) => {
+                let fact = NamedFact::of(self.metadata, last.fact)?;
+                Ok(Verdict::of_last(fact, count))
+            }
+            None => unreachable!(),
+        }
     }
 }

@@ -4,24 +4,24 @@ ghost use Rattle.std.specs.Prelude.{◌≡◌, Some};
 ghost use Rattle.krates_verdict.specs.Holding.{said_last};
 ghost use Rattle.krates_verdict.specs.VerdictText.{closed_text, steps_text, verdict_text};
 
-use krates_ids::Kid;
-use krates_rules::Fact;
+use crate::named_fact::{NamedFact, shown};
+use krates_cm::PackageId;
 use std::fmt;
 
-/// What a certificate says that holds.
+/// What a certificate says that holds. Its crates are named by the id texts of the document's packages.
 #[derive(Debug, Drop)]
 pub enum Verdict {
     /// The crate is kept: the last step of the derivation says so.
     Kept {
         /// The crate.
-        krate: Kid,
+        krate: PackageId,
         /// How many steps the derivation has.
         steps: usize,
     },
     /// Another fact follows: that of the last step.
     Follows {
         /// The fact.
-        fact: Fact,
+        fact: NamedFact,
         /// How many steps the derivation has.
         steps: usize,
     },
@@ -34,11 +34,11 @@ pub enum Verdict {
 
 impl Verdict {
     /// What is said by a derivation of this many steps that ends in the fact.
-    pub(crate) fn of_last(fact: Fact, steps: usize) -> Verdict
+    pub(crate) fn of_last(fact: NamedFact, steps: usize) -> Verdict
         ensures { result ≡ said_last fact steps }
     {
         match fact {
-            Fact::Crate(krate) => Verdict::Kept { krate, steps },
+            NamedFact::Crate(krate) => Verdict::Kept { krate, steps },
             fact => Verdict::Follows { fact, steps },
         }
     }
@@ -76,7 +76,8 @@ impl fmt::Display for Reachable {
     }
 }
 
-/// `holds: ` and what holds, in one line without its end. An id is printed as its text, a fact as its own `Display` prints it.
+/// `holds: ` and what holds, in one line without its end. An id is that of the document's package, never of the certificate, and each text
+/// is printed as `Shown`, so that none can end the line.
 ///
 /// ```text
 /// holds: crate path+file:///w/b#0.1.0 is kept, 3 steps
@@ -89,6 +90,7 @@ impl fmt::Display for Verdict {
     fn fmt<W: fmt::Write>(&self, f: &mut fmt::Formatter<W>) -> fmt::Result {
         match self {
             Verdict::Kept { krate, steps } => {
+                let krate = shown(krate);
                 write!(f, "holds: crate {krate} is kept, {}", Steps(*steps))
             }
             Verdict::Follows { fact, steps } => {
