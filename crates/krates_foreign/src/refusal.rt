@@ -9,6 +9,7 @@ use crate::status::Status;
 use krates::cm::Error as ParseError;
 use krates::{Error as BuildError, Kid};
 use krates_cli::RunError;
+use krates_shown::Shown;
 use std::alloc::AllocError;
 use std::fmt;
 
@@ -75,7 +76,7 @@ impl fmt::Display for CallRefusal {
             CallRefusal::Utf8 => f.write_str("the document is not UTF-8"),
             CallRefusal::Parse(cause) => write!(f, "{cause}"),
             CallRefusal::Build(cause) => write!(f, "{cause}"),
-            CallRefusal::NotKept(krate) => write!(f, "not kept: {krate}"),
+            CallRefusal::NotKept(krate) => write!(f, "not kept: {}", Shown(krate.repr())),
             CallRefusal::Certificate(cause) => write!(f, "{cause}"),
             CallRefusal::Memory => f.write_str("out of memory"),
         }
