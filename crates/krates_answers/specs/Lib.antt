@@ -1,3 +1,4 @@
+pub mod Builds
 pub mod Changed
 pub mod Difference
 pub mod Duplicates

@@ -5,8 +5,9 @@ ghost use Rattle.krates_queries.specs.KrateNodes.{crates_of, match_view};
 ghost use Rattle.krates_rules.specs.Resolved.{id_of};
 ghost use Rattle.krates_answers.specs.CrateUses.{IsUse};
 
+use crate::builds::Builds;
 use crate::pushing::push;
-use krates::{Kid, KrateMatch, Krates, Package};
+use krates::{Kid, KrateMatch, Package};
 use std::alloc::{AllocError, Global};
 
 /// What a crate is used for.
@@ -29,25 +30,14 @@ pub struct UsedKrate<'a> {
     pub usage: Use,
 }
 
-/// Builds of one document: under a setting, and under the same one with more kinds of dependencies ignored.
-#[derive(Debug, Drop)]
-pub struct Builds {
-    /// Under the setting.
-    pub all: Krates,
-    /// Dev dependencies are ignored too.
-    pub without_dev: Krates,
-    /// Dev and build dependencies are ignored too.
-    pub shipped: Krates,
-}
-
 impl Builds {
     /// What a crate that is kept is used for. Takes no memory. Time O(log n).
     pub fn use_of(&self, kid: &Kid) -> Use
         ensures { IsUse self.now.shipped self.now.without_dev (id_of kid.now) result }
     {
-        if self.shipped.nid_for_kid(kid).is_some() {
+        if self.graphs.shipped.nid_for_kid(kid).is_some() {
             Use::Shipped
-        } else if self.without_dev.nid_for_kid(kid).is_some() {
+        } else if self.graphs.without_dev.nid_for_kid(kid).is_some() {
             Use::Build
         } else {
             Use::Dev
@@ -61,7 +51,7 @@ impl Builds {
             (id_of u.krate.kid.now) u.usage) used.items) }
     {
         let mut used = Vec::new(alloc);
-        for krate in self.all.krate_nodes() {
+        for krate in self.graphs.all.krate_nodes() {
             let usage = self.use_of(krate.kid);
             push(&mut used, UsedKrate { krate, usage })?;
         }

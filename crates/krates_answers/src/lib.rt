@@ -2,6 +2,7 @@
 //! differences, materials, and what can't be reached.
 #![tactic(auto)]
 
+pub mod builds;
 pub mod changed;
 pub mod crate_uses;
 pub mod difference;
@@ -14,5 +15,6 @@ pub mod licences;
 pub mod materials;
 pub mod naming;
 mod pushing;
+pub mod three_graphs;
 pub mod tree;
 pub mod unreachable;

@@ -1,1 +1,3 @@
 pub mod BuildsWithoutIndex
+pub mod OneSetting
+pub mod OthersLemmas

@@ -1,25 +1,38 @@
 -- The builds from which answers are made.
-use Rattle.std.specs.Prelude.{◌↔◌, List, [], ◌∷◌, Contains, map}
-use Rattle.krates.specs.Build.{KeepsCrate}
-use Rattle.krates_answers.specs.declared.crate_uses.Builds.{Builds}
-use Rattle.krates_cm.specs.Document.{MetadataModel}
-use Rattle.krates_queries.specs.Kept.{KeptCrates, ids_of}
-use Rattle.krates_rules.specs.Facts.{Id}
-use Rattle.krates_rules.specs.Resolved.{id_of}
+use Rattle.std.specs.Prelude.{List, [], ◌∷◌}
+use Rattle.krates.specs.Build.{DropsCrate}
+use Rattle.krates_answers.specs.Builds.{IsGraphUnder}
+use Rattle.krates_answers.specs.declared.three_graphs.ThreeGraphs.{ThreeGraphs}
+use Rattle.krates_cm.specs.Document.{MetadataModel, metadata_view}
+use Rattle.krates_cm.specs.declared.metadata.Metadata.{Metadata}
+use Rattle.krates_cm.specs.declared.package.Package.{Package}
+use Rattle.krates_drawing.specs.Listed.{AreThosePackages}
+use Rattle.krates_drawing.specs.declared.edge.Edge.{Edge}
+use Rattle.krates_ids.specs.Identity.{Identity}
+use Rattle.krates_queries.specs.Kept.{KeptCrates}
 use Rattle.krates_rules.specs.Setting.{SettingModel}
 use Rattle.krates_rules.specs.declared.kind.DepKind.{DepKind}
 use Rattle.krates_rules.specs.declared.kind.DepKind.TheVariants.{Build, Dev}
 use Rattle.krates_words.specs.Choice.{IsSettingOf}
 use Rattle.krates_words.specs.declared.choice.Choice.{Choice}
 
--- Exactly the crates that are derivable from the document under the choice are kept, with these kinds ignored too.
-pub record IsBuildOf {N E : Type 0} (m : MetadataModel) (c : Choice) (also_ignored : List DepKind) (k : KeptCrates N E) : Type 0 where
+-- The graph is built of the document under the setting that the choice means, with these kinds ignored too.
+pub record IsBuildOf (m : MetadataModel) (c : Choice) (also_ignored : List DepKind) (k : KeptCrates Package Edge) : Type 0 where
   pub setting : SettingModel
   pub chosen : IsSettingOf c also_ignored setting
-  pub kept : (i : Id) → KeepsCrate m setting i ↔ Contains (map id_of (ids_of k)) i
+  pub graph : IsGraphUnder m setting k
+
+-- The graph is built of the document under the setting that the choice means, and these are the packages of the document that it
+-- doesn't keep, in the order of their ids.
+pub record IsDivisionOf (m : Metadata) (c : Choice) (k : KeptCrates Package Edge) (others : List Package) : Type 0 where
+  pub setting : SettingModel
+  pub chosen : IsSettingOf c [] setting
+  pub graph : IsGraphUnder (metadata_view m) setting k
+  pub ids : List Identity
+  pub not_kept : AreThosePackages m.packages.items (DropsCrate (metadata_view m) setting) ids others
 
 -- the three builds that show what crates are used for
-pub record AreBuildsOf (m : MetadataModel) (c : Choice) (b : Builds) : Type 0 where
+pub record AreBuildsOf (m : MetadataModel) (c : Choice) (b : ThreeGraphs) : Type 0 where
   pub all : IsBuildOf m c [] b.all
   pub without_dev : IsBuildOf m c (Dev ∷ []) b.without_dev
   pub shipped : IsBuildOf m c (Dev ∷ Build ∷ []) b.shipped

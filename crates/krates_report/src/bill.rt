@@ -5,7 +5,8 @@ use crate::json::{JsonObject, Values, ids_json, string};
 use crate::shown::{Shown, pretty};
 use krates::Package;
 use krates::cm::{Source, SourceKind, TargetKind};
-use krates_answers::crate_uses::{Builds, Use};
+use krates_answers::builds::Builds;
+use krates_answers::crate_uses::Use;
 use krates_answers::materials::{Material, materials};
 use krates_text::text::Text;
 use percent_encoding::{AsciiSet, NON_ALPHANUMERIC, utf8_percent_encode};
@@ -39,7 +40,7 @@ pub struct Bill<'a> {
 impl<'a> Bill<'a> {
     /// The bill of these builds. The only refusal is running out of memory. Time: O(n log n + e log e) for n crates and e edges.
     pub fn of(alloc: Global, builds: &'a Builds) -> Result<Bill<'a>, AllocError> {
-        let materials = materials(alloc, &builds.all)?;
+        let materials = materials(alloc, builds.all())?;
         Ok(Bill { builds, materials })
     }
 }
@@ -150,7 +151,7 @@ impl Bill<'_> {
         let needed = &material.depends_on;
         JsonObject::new(alloc)
             .text("ref", material.krate.krate.id.repr.as_str())
-            .put("dependsOn", ids_json(alloc, &self.builds.all, needed))
+            .put("dependsOn", ids_json(alloc, self.builds.all(), needed))
             .object()
     }
 

@@ -6,7 +6,8 @@ ghost use Rattle.krates_report.specs.Builds.{AreBuildsOf, IsBuildOf};
 
 use crate::error::ReportError;
 use krates::{Builder, DepKind, Krates, Metadata, NoneFilter};
-use krates_answers::crate_uses::Builds;
+use krates_answers::builds::Builds;
+use krates_answers::three_graphs::ThreeGraphs;
 use krates_words::Choice;
 use std::alloc::{AllocError, Global};
 
@@ -66,9 +67,10 @@ fn builds_of_copies(
     let all = copy_built(alloc, choice, &[], metadata)?;
     let without_dev = copy_built(alloc, choice, &[DepKind::Dev], metadata)?;
     let shipped = copy_built(alloc, choice, &[DepKind::Dev, DepKind::Build], metadata)?;
-    Ok(Builds {
+    let graphs = ThreeGraphs {
         all,
         without_dev,
         shipped,
-    })
+    };
+    Ok(Builds::of(graphs))
 }

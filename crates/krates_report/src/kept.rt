@@ -1,10 +1,16 @@
 //! The kept crates as they are shown: their list, what they are used for, and their licences.
 
+ghost use Rattle.std.specs.Prelude.{◌≡◌, All, IfOk, map};
+ghost use Rattle.krates_queries.specs.KrateNodes.{crates_of, match_view};
+ghost use Rattle.krates_rules.specs.Resolved.{id_of};
+ghost use Rattle.krates_answers.specs.CrateUses.{IsUse};
+
 use crate::crate_name::ShortName;
 use crate::json::{InJson, JsonObject, Values, list_json};
 use crate::shown::Shown;
 use krates::Krates;
-use krates_answers::crate_uses::{Builds, Use, UsedKrate};
+use krates_answers::builds::Builds;
+use krates_answers::crate_uses::{Use, UsedKrate};
 use krates_answers::licences::Licence;
 use krates_text::text::Text;
 use serde_json::Value;
@@ -51,8 +57,13 @@ pub struct UsedKrates<'a> {
 }
 
 impl<'a> UsedKrates<'a> {
-    /// The crates of these builds with their uses.
-    pub(crate) fn of(alloc: Global, builds: &'a Builds) -> Result<UsedKrates<'a>, AllocError> {
+    /// The kept crates of these builds, by number, each with what it is used for. The only refusal is running out of memory. Time
+    /// O(n log n) for n nodes.
+    pub(crate) fn of(alloc: Global, builds: &'a Builds) -> Result<UsedKrates<'a>, AllocError>
+        ensures crates { IfOk result (λ shown. map (λ u. match_view u.krate) shown.used.items ≡ crates_of builds.now.all) }
+        ensures uses { IfOk result (λ shown. All (λ u. IsUse builds.now.shipped builds.now.without_dev
+            (id_of u.krate.kid.now) u.usage) shown.used.items) }
+    {
         let used = builds.uses(alloc)?;
         Ok(UsedKrates { used })
     }

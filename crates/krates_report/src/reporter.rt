@@ -1,5 +1,10 @@
 //! What is asked of a document, answered.
 
+ghost use Rattle.std.specs.Prelude.{◌≡◌, [], IfOk, IsTrue};
+ghost use Rattle.krates_cm.specs.Document.{metadata_view};
+ghost use Rattle.krates_report.specs.Builds.{IsBuildOf, IsDivisionOf};
+ghost use Rattle.krates_words.specs.Choice.{IsSettingOf};
+
 use crate::bill::Bill;
 use crate::builds::{builds, built};
 use crate::difference::Difference;
@@ -13,7 +18,7 @@ use crate::why::{Certainty, ExplainedFeatures, Why};
 use krates::derive::{Derivation, Fact};
 use krates::resolve::Setting;
 use krates::{Builder, Kid, Krates, Metadata, Node, NodeId, OnFilter, Package, PackageId};
-use krates_answers::crate_uses::Builds;
+use krates_answers::builds::Builds;
 use krates_answers::direct_links::DirectLinks;
 use krates_answers::licences::licences;
 use krates_answers::naming::{Meant, Packages};
@@ -47,7 +52,10 @@ struct Others {
 }
 
 impl OnFilter for Others {
-    ghost filters = { λ _ _ _. Unit {0} };
+    ghost use Rattle.std.specs.Prelude.{◌≡◌, ◌++◌, ◌∷◌, [], IsTrue};
+
+    ghost filters = { λ old pkg new. IsTrue new.is_whole
+        → (IsTrue old.is_whole × (new.packages.items ≡ old.packages.items ++ pkg ∷ [])) };
 
     fn filtered(&mut self, pkg: Package) {
         self.is_whole = self.packages.push(pkg).is_ok() && self.is_whole;
@@ -56,7 +64,10 @@ impl OnFilter for Others {
 
 impl Others {
     /// These and the graph that doesn't keep them, if there was memory for all of them.
-    fn beside(self, krates: Krates) -> Result<Divided, ReportError> {
+    fn beside(self, krates: Krates) -> Result<Divided, ReportError>
+        ensures graph { IfOk result (λ divided. divided.krates ≡ krates) }
+        ensures others { IfOk result (λ divided. IsTrue self.is_whole × (divided.others ≡ self.packages)) }
+    {
         let Others { packages, is_whole } = self;
         if is_whole {
             Ok(Divided {
@@ -191,12 +202,17 @@ impl Reporter<'_> {
     }
 
     /// The graph of a document.
-    fn built(&self, metadata: Metadata) -> Result<Krates, ReportError> {
+    fn built(&self, metadata: Metadata) -> Result<Krates, ReportError>
+        ensures { IfOk result (IsBuildOf (metadata_view metadata) self.now.asked.now.choice []) }
+    {
         built(self.alloc, &self.asked.choice, &[], metadata)
     }
 
     /// The graph of a document and the packages that it doesn't keep.
-    fn divided(&self, metadata: Metadata) -> Result<Divided, ReportError> {
+    fn divided(&self, metadata: Metadata) -> Result<Divided, ReportError>
+        ensures { IfOk result (λ divided. IsDivisionOf metadata self.now.asked.now.choice
+            divided.krates divided.others.items) }
+    {
         let Ok(setting) = self.setting() else {
             metadata.let_go();
             return Err(ReportError::Memory);
@@ -211,7 +227,9 @@ impl Reporter<'_> {
     }
 
     /// What is chosen.
-    fn setting(&self) -> Result<Setting, AllocError> {
+    fn setting(&self) -> Result<Setting, AllocError>
+        ensures { IfOk result (IsSettingOf self.now.asked.now.choice []) }
+    {
         self.asked.choice.setting(self.alloc, &[])
     }
 

@@ -1,5 +1,9 @@
 //! Trees of crates as they are shown.
 
+ghost use Rattle.std.specs.Prelude.{◌≡◌, IfOk, Ok};
+ghost use Rattle.krates_answers.specs.DirectLinks.{IsListed};
+ghost use Rattle.krates_answers.specs.Tree.{IsTree, roots_among};
+
 use crate::crate_name::ShortName;
 use crate::json::{JsonObject, Values};
 use crate::shown::Shown;
@@ -29,7 +33,12 @@ impl<'a> Tree<'a> {
         krates: &'a Krates,
         links: Result<DirectLinks, AllocError>,
         roots: &[NodeId],
-    ) -> Result<Tree<'a>, AllocError> {
+    ) -> Result<Tree<'a>, AllocError>
+        ensures graph { IfOk result (λ tree. tree.krates.now ≡ krates.now) }
+        ensures links { IfOk result (λ tree. links ≡ Ok tree.links) }
+        ensures lines { IfOk result (λ tree. IsTree (IsListed tree.links) (roots_among tree.links roots.now)
+            tree.lines.items) }
+    {
         let links = links?;
         let lines = links.tree(alloc, roots)?;
         Ok(Tree {

@@ -2,7 +2,7 @@ use Rattle.std.proofs.Common.{◌≡◌, All, map}
 use Rattle.krates_queries.specs.KrateNodes.{match_view}
 use Rattle.krates_rules.specs.Resolved.{id_of}
 use Rattle.krates_answers.specs.CrateUses.{IsUse}
-use Rattle.krates_answers.proofs.crate_uses.Builds.uses.Given as goal
+use Rattle.krates_answers.proofs.builds.Builds.uses.Given as goal
 
 -- the crates so far, each with what it is used for
 abbrev pub invariant-loop-krate : goal.invariant-loop-krate

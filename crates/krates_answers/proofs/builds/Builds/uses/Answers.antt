@@ -5,7 +5,7 @@ use Rattle.krates_queries.specs.KrateNodes.{match_view}
 use Rattle.krates_rules.specs.Resolved.{id_of}
 use Rattle.krates_answers.specs.CrateUses.{IsUse}
 use Rattle.krates_answers.specs.declared.crate_uses.UsedKrate.{UsedKrate}
-use Rattle.krates_answers.proofs.crate_uses.Builds.uses.Goals as goal
+use Rattle.krates_answers.proofs.builds.Builds.uses.Goals as goal
 
 pub loop-krate-preserved : goal.loop-krate-preserved
 loop-krate-preserved c =
