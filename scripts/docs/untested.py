@@ -86,6 +86,7 @@ SHOWN_BY = {
         " DirectLinks::dependencies DirectLinks::of DirectLinks::leads DirectLinks::tree Builds::of"
         " Builds::all Builds::agree Builds::use_of Builds::uses Packages::one Packages::any Bill::of"
         " Changed::between Difference::between Duplicates::of licences Tree::of ExplainedFeatures::of"
+        " Bill::text Lines::new Lines::end"
     ).split(),
 }
 

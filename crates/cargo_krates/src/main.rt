@@ -8,17 +8,22 @@ mod failure;
 use crate::failure::AnswerFailure;
 use krates::Package;
 use krates_host::program::{NO, print, refuse_asked, refuse_words, words_of};
-use krates_host::{document, said, targets};
+use krates_host::{Inputs, document, said, targets};
 use krates_report::{Report, Reporter};
+use krates_shown::ShownValue;
 use krates_words::{Asked, Choice, asked_of};
 use std::process::ExitCode;
 
 /// The answer to the question.
 fn answer_of(rt: &HostRuntime, mut asked: Asked) -> Result<Report, AnswerFailure> {
-    asked.choice.targets = targets::targets_of(rt, &asked.choice)?;
+    let inputs = Inputs {
+        rt,
+        max_bytes: asked.max_bytes,
+    };
+    asked.choice.targets = targets::targets_of(&inputs, &asked.choice)?;
     note_host(rt, &asked.choice);
-    let other = document::other(rt, &asked.word)?;
-    let document = document::document(rt, &asked)?;
+    let other = document::other(&inputs, &asked.word)?;
+    let document = document::document(&inputs, &asked)?;
     note_exclusions(rt, &asked.choice, &document.packages);
     Ok(Reporter::new(rt.alloc(), &asked).answer(document, other)?)
 }
@@ -37,6 +42,7 @@ fn note_host(rt: &HostRuntime, choice: &Choice) {
 fn note_exclusions(rt: &HostRuntime, choice: &Choice, packages: &[Package]) {
     for spec in &choice.exclusions {
         if !packages.iter().any(|pkg| spec.matches(pkg)) {
+            let spec = ShownValue(spec);
             said::note(rt, format_args!("--exclude {spec} fits no package"));
         }
     }

@@ -3,6 +3,7 @@
 use crate::fitting::fitting;
 use krates::semver::VersionReq;
 use krates::{Error, IdError, Kid, KrateMatch, Krates, Package, PackageId, PkgSpec};
+use krates_shown::Shown;
 use std::alloc::{AllocError, AllocFailed, Global};
 use std::fmt;
 use strsim::osa_distance;
@@ -60,30 +61,38 @@ impl<T: Drop> From<AllocFailed<T>> for NamingError {
 /// Writes each of these below the line.
 fn write_each<W: fmt::Write>(f: &mut fmt::Formatter<W>, texts: &[String]) -> fmt::Result {
     for text in texts {
-        write!(f, "\n    {text}")?;
+        write!(f, "\n    {}", Shown(text.as_str()))?;
     }
     Ok(())
 }
 
+/// The word and the packages are printed as `Shown` shows them.
 impl fmt::Display for NamingError {
     fn fmt<W: fmt::Write>(&self, f: &mut fmt::Formatter<W>) -> fmt::Result {
         match self {
             NamingError::Unread { word, what } => write!(
                 f,
-                "`{word}` names no package: {what}\nwrite NAME, NAME@VERSION, or an id as cargo prints it"
+                "`{}` names no package: {what}\nwrite NAME, NAME@VERSION, or an id as cargo prints it",
+                Shown(word.as_str())
             ),
             NamingError::Unknown { word, near } if near.is_empty() => {
-                write!(f, "no package fits `{word}`")
+                write!(f, "no package fits `{}`", Shown(word.as_str()))
             }
             NamingError::Unknown { word, near } => {
-                write!(f, "no package fits `{word}`; these come near:")?;
+                write!(
+                    f,
+                    "no package fits `{}`; these come near:",
+                    Shown(word.as_str())
+                )?;
                 write_each(f, near)
             }
             NamingError::NotKept { word, packages } => {
+                let word = Shown(word.as_str());
                 write!(f, "nothing that is kept needs `{word}`, which means:")?;
                 write_each(f, packages)
             }
             NamingError::Several { word, specs } => {
+                let word = Shown(word.as_str());
                 write!(f, "`{word}` fits several packages; name one of them:")?;
                 write_each(f, specs)
             }

@@ -78,6 +78,8 @@ mod reaching;
 #[cfg(test)]
 mod readme;
 #[cfg(test)]
+mod readme_program;
+#[cfg(test)]
 mod real_documents;
 #[cfg(test)]
 mod rebuilt;

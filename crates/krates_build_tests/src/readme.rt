@@ -83,7 +83,7 @@ fn the_example_of_the_readme(rt: HostRuntime) -> Result<(), Fail> {
     hold::<OfLine<Example>>(rt.alloc(), TOLD)
 }
 
-/// The packages that the workspace of a manifest needs, with all its features, one per line.
+/// The packages that the workspace of a manifest needs, with all its features, one a line.
 fn needed(rt: &HostRuntime, cargo: &str, manifest: &str) -> Result<String, Error> {
     let alloc = rt.alloc();
     let mut cmd = Cmd::new(alloc);
@@ -96,6 +96,12 @@ fn needed(rt: &HostRuntime, cargo: &str, manifest: &str) -> Result<String, Error
         lines.push_str(format!(in alloc; "{} {}\n", pkg.name, pkg.version)?.as_str())?;
     }
     Ok(lines)
+}
+
+fn main(rt: HostRuntime) -> Result<(), anyhow::Error> {
+    let lines = needed(&rt, "cargo", "Cargo.toml")?;
+    print!(rt; "{lines}")?;
+    Ok(())
 }
 
 /// The number of members of the workspace in a directory, by a command with settings of its own.
@@ -115,6 +121,14 @@ fn packages_of_a_workspace(rt: HostRuntime) -> Result<(), Fail> {
     let lines = needed(&rt, cargo.as_str(), "Cargo.toml")?;
     assert_eq!(rt; lines.as_str(), "a 0.1.0\nb 0.1.0\n");
     Ok(())
+}
+
+#[test]
+fn no_packages_of_no_workspace(rt: HostRuntime) -> Result<(), Fail> {
+    match main(rt) {
+        Ok(()) => Err(Fail::new("packages were found without a workspace")),
+        Err(_) => Ok(()),
+    }
 }
 
 #[test]

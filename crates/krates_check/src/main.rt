@@ -9,26 +9,26 @@ mod failure;
 
 use crate::failure::CheckFailure;
 use krates_host::program::{NO, refuse_asked, refuse_words, words_of};
-use krates_host::{document, said, targets};
+use krates_host::{Inputs, document, said, targets};
 use krates_verdict::run_under;
 use krates_words::{CheckWords, check_words_of};
-use std::io::IsTerminal;
 use std::process::ExitCode;
 
 /// Checks the certificate in standard input, and prints what it says where it holds.
 fn check(rt: &HostRuntime, mut asked: CheckWords) -> Result<(), CheckFailure> {
-    asked.choice.targets = targets::targets_of(rt, &asked.choice)?;
-    let metadata = document::in_file(rt, asked.document.as_str())?;
-    if rt.stdin().is_terminal() {
-        said::note(rt, "reading a certificate from standard input");
-    }
-    let (mut input, mut output) = (rt.reader(), rt.stdout());
+    let inputs = Inputs {
+        rt,
+        max_bytes: asked.max_bytes,
+    };
+    asked.choice.targets = targets::targets_of(&inputs, &asked.choice)?;
+    let certificate = inputs.bytes_in_standard_input("a certificate")?;
+    let metadata = document::in_file(&inputs, asked.document.as_str())?;
     let told = run_under(
         rt.alloc(),
         &asked.choice,
         &metadata,
-        &mut input,
-        &mut output,
+        &mut certificate.as_slice(),
+        &mut rt.stdout(),
     );
     metadata.let_go();
     Ok(told?)

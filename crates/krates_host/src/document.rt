@@ -1,45 +1,45 @@
 //! The documents: those of cargo, of files and of standard input.
 
-use crate::failure::Failure;
-use crate::text;
+use crate::failure::{Failure, Reason};
+use crate::inputs::{Inputs, STANDARD_INPUT, variable};
 use krates_cargo::MetadataCommand;
 use krates_cm::{Error, Metadata};
 use krates_words::{Asked, CargoWords, Input, Word};
 use std::alloc::{AllocError, Global};
-use std::fs;
+use std::process::{ExitStatus, Output};
 
 const WITHOUT_CARGO: &str = "; install Rust, or read a document by --metadata FILE";
 
 /// The document that is asked about: that of cargo, of a file, or of standard input. It is refused where there is no document. Time: that
 /// of cargo, and O(n) in the length of the text.
-pub fn document(rt: &HostRuntime, asked: &Asked) -> Result<Metadata, Failure> {
+pub fn document(inputs: &Inputs<'_>, asked: &Asked) -> Result<Metadata, Failure> {
     match &asked.input {
-        Input::Cargo => of_cargo(rt, &asked.cargo),
-        Input::File(path) => in_file(rt, path),
-        Input::Stdin => in_input(rt),
+        Input::Cargo => of_cargo(inputs, &asked.cargo),
+        Input::File(path) => in_file(inputs, path),
+        Input::Stdin => in_standard_input(inputs),
     }
 }
 
 /// The document with which it is compared, where the word is for a comparison. It is refused, and takes time, as `document` does.
-pub fn other(rt: &HostRuntime, word: &Word) -> Result<Option<Metadata>, Failure> {
+pub fn other(inputs: &Inputs<'_>, word: &Word) -> Result<Option<Metadata>, Failure> {
     match word {
-        Word::Diff { other } if other.as_str() == "-" => Ok(Some(in_input(rt)?)),
-        Word::Diff { other } => Ok(Some(in_file(rt, other)?)),
+        Word::Diff { other } if other.as_str() == "-" => Ok(Some(in_standard_input(inputs)?)),
+        Word::Diff { other } => Ok(Some(in_file(inputs, other)?)),
         _ => Ok(None),
     }
 }
 
-/// The document in a file. It is refused as `Unread`, `NoText` or `NoDocument`, each with the file; it may instead return `Memory`.
-/// Time O(n) in the length of the text.
-pub fn in_file(rt: &HostRuntime, path: &str) -> Result<Metadata, Failure> {
-    let text = text::in_file(rt, path)?;
-    parsed(rt.alloc(), path, text.as_str())
+/// The document in a file. It is refused as `Unread`, `TooLong`, `NoText`, `Marked` or `NoDocument`, each with the file; it may instead
+/// return `Memory`. Time O(n) in the length of the text.
+pub fn in_file(inputs: &Inputs<'_>, path: &str) -> Result<Metadata, Failure> {
+    let text = inputs.text_in(path)?;
+    parsed(inputs.alloc(), path, text.as_str())
 }
 
 /// The document in standard input.
-fn in_input(rt: &HostRuntime) -> Result<Metadata, Failure> {
-    let text = text::in_input(rt)?;
-    parsed(rt.alloc(), text::INPUT, text.as_str())
+fn in_standard_input(inputs: &Inputs<'_>) -> Result<Metadata, Failure> {
+    let text = inputs.text_in_standard_input("a document")?;
+    parsed(inputs.alloc(), STANDARD_INPUT, text.as_str())
 }
 
 /// The document in the text of this file.
@@ -55,44 +55,32 @@ fn parsed(alloc: Global, file: &str, text: &str) -> Result<Metadata, Failure> {
 }
 
 /// The document that cargo writes.
-fn of_cargo(rt: &HostRuntime, words: &CargoWords) -> Result<Metadata, Failure> {
-    check_manifest(rt, words)?;
-    let command = words.command(rt.alloc())?;
-    let program = text::variable(rt, "CARGO")?;
-    let cargo = match &program {
-        Some(program) => program.as_str(),
-        None => "cargo",
-    };
-    match command.exec(Some(cargo), rt) {
+fn of_cargo(inputs: &Inputs<'_>, words: &CargoWords) -> Result<Metadata, Failure> {
+    let program = variable(inputs.rt, "CARGO")?;
+    let mut command = words
+        .command(inputs.alloc())?
+        .cargo_command(program.as_deref())?;
+    let output = inputs.printed_by(&mut command, WITHOUT_CARGO)?;
+    read(inputs.alloc(), &output)
+}
+
+/// The document in what cargo printed.
+fn read(alloc: Global, output: &Output) -> Result<Metadata, Failure> {
+    let is_success = output.status.success();
+    match MetadataCommand::interpret(alloc, is_success, &output.stdout, &output.stderr) {
         Ok(document) => Ok(document),
-        Err(cause) => Err(without_document(rt.alloc(), cargo, cause)?),
+        Err(Error::CargoMetadata { stderr }) => Err(failed(alloc, output.status, stderr.as_str())?),
+        Err(cause) => Err(Failure::from(cause)),
     }
 }
 
-/// Refuses a manifest that can't be found, since cargo is run in its folder.
-fn check_manifest(rt: &HostRuntime, words: &CargoWords) -> Result<(), Failure> {
-    let Some(path) = &words.manifest_path else {
-        return Ok(());
-    };
-    match fs::metadata(rt, path.as_str()) {
-        Ok(_) => Ok(()),
-        Err(cause) => Err(Failure::unread(rt.alloc(), path.as_str(), cause)),
-    }
-}
-
-/// The failure for a cargo that gives no document, by its cause.
-fn without_document(alloc: Global, cargo: &str, cause: Error) -> Result<Failure, AllocError> {
-    match cause {
-        Error::Io(cause) => Ok(Failure::NotRun {
-            program: String::from_str(alloc, cargo)?,
-            cause,
-            advice: WITHOUT_CARGO,
-        }),
-        Error::CargoMetadata { stderr } => {
-            let reason = stderr.trim();
-            let reason = reason.strip_prefix("error: ").unwrap_or(reason);
-            Ok(Failure::CargoFailed(String::from_str(alloc, reason)?))
-        }
-        cause => Ok(Failure::from(cause)),
-    }
+/// The failure of a cargo that ended like this and wrote this to standard error.
+fn failed(alloc: Global, status: ExitStatus, stderr: &str) -> Result<Failure, AllocError> {
+    let text = stderr.trim();
+    let text = text.strip_prefix("error: ").unwrap_or(text);
+    Ok(Failure::ProgramFailed {
+        program: String::from_str(alloc, "cargo metadata")?,
+        status,
+        reason: Reason(String::from_str(alloc, text)?),
+    })
 }

@@ -1,42 +1,65 @@
 //! Why there is no document, target or text.
 
 use krates_cm::Error;
+use krates_shown::{Shown, ShownValue};
 use std::alloc::{AllocError, AllocFailed, Global};
-use std::io;
+use std::process::ExitStatus;
+use std::{fmt, io};
 
-/// Why there is no document, target or text.
+/// Why there is no document, target or text. What comes from outside is printed as `Shown` shows it.
 #[derive(Debug, Drop, thiserror::Error)]
 pub enum Failure {
     /// A file can't be read.
-    #[error("{file}: {cause}")]
+    #[error("{}: {cause}", Shown(.file.as_str()))]
     Unread {
         /// The path of the file, or what standard input is called.
         file: String,
         /// What the system says.
         cause: io::Error,
     },
+    /// A file, standard input, or what a program printed is longer than the limit.
+    #[error("{}: this is longer than {max_bytes} bytes, the limit that --max-bytes sets", Shown(.file.as_str()))]
+    TooLong {
+        /// The path of the file, or what the input is called.
+        file: String,
+        /// The limit.
+        max_bytes: u64,
+    },
     /// A file or what a program printed isn't UTF-8.
-    #[error("{file}: this isn't UTF-8")]
+    #[error("{}: this isn't UTF-8", Shown(.file.as_str()))]
     NoText {
         /// The path of the file, or what printed it.
         file: String,
     },
+    /// A file or what a program printed begins with a byte order mark, which JSON doesn't have.
+    #[error("{}: this begins with a byte order mark; save it as UTF-8 without one", Shown(.file.as_str()))]
+    Marked {
+        /// The path of the file, or what printed it.
+        file: String,
+    },
     /// A file isn't a document.
-    #[error("{file}: {cause}")]
+    #[error("{}: {}", Shown(.file.as_str()), ShownValue(.cause))]
     NoDocument {
         /// The path of the file, or what standard input is called.
         file: String,
         /// Why it isn't one.
         cause: Error,
     },
-    /// Cargo ended with a failure, for this reason.
-    #[error("`cargo metadata` failed: {0}")]
-    CargoFailed(String),
+    /// A program ended with a failure.
+    #[error("`{}` failed ({status}){reason}", Shown(.program.as_str()))]
+    ProgramFailed {
+        /// The program.
+        program: String,
+        /// How it ended: with which status, or by which signal.
+        status: ExitStatus,
+        /// What it said.
+        reason: Reason,
+    },
     /// Cargo gave no document.
-    #[error("{0}")]
+    #[error("{}", ShownValue(.0))]
     Cargo(Error),
     /// A program can't be run.
-    #[error("can't run `{program}`: {cause}{advice}")]
+    #[error("can't run `{}`: {cause}{advice}", Shown(.program.as_str()))]
     NotRun {
         /// The program.
         program: String,
@@ -49,7 +72,7 @@ pub enum Failure {
     #[error("the variable {0} isn't UTF-8")]
     Variable(&'static str),
     /// A target isn't known.
-    #[error("unknown target `{triple}`: {reason}")]
+    #[error("unknown target `{}`: {}", Shown(.triple.as_str()), Shown(.reason.as_str()))]
     UnknownTarget {
         /// Its triple.
         triple: String,
@@ -57,7 +80,7 @@ pub enum Failure {
         reason: String,
     },
     /// A file describes no target, or another one.
-    #[error("{file}: this doesn't describe the target `{triple}`")]
+    #[error("{}: this doesn't describe the target `{}`", Shown(.file.as_str()), Shown(.triple.as_str()))]
     NoDescription {
         /// The path of the file.
         file: String,
@@ -65,7 +88,7 @@ pub enum Failure {
         triple: String,
     },
     /// Rustc doesn't say what its host is.
-    #[error("`{program} -vV` prints no line that begins with `host: `")]
+    #[error("`{} -vV` prints no line that begins with `host: `", Shown(.program.as_str()))]
     NoHost {
         /// The program that was run as rustc.
         program: String,
@@ -85,6 +108,22 @@ impl Failure {
             }
             _ => Failure::Memory,
         }
+    }
+}
+
+/// What a program said when it failed, which may be nothing.
+#[derive(Debug, Drop)]
+pub struct Reason(pub String);
+
+/// A colon and its lines, each as `Shown` shows it and those after the first further in, so that none can be taken for one of ours; or
+/// nothing.
+impl fmt::Display for Reason {
+    fn fmt<W: fmt::Write>(&self, f: &mut fmt::Formatter<W>) -> fmt::Result {
+        for (number, line) in self.0.lines().enumerate() {
+            let before = if number == 0 { ": " } else { "\n    " };
+            write!(f, "{before}{}", Shown(line))?;
+        }
+        Ok(())
     }
 }
 

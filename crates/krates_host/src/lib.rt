@@ -3,10 +3,14 @@
 
 pub mod document;
 pub mod failure;
+pub mod inputs;
+mod printed;
 pub mod program;
+mod reading;
+mod running;
 mod rustc;
 pub mod said;
 pub mod targets;
-mod text;
 
 pub use failure::Failure;
+pub use inputs::Inputs;

@@ -1,5 +1,8 @@
 //! The words of a program, what it prints, and its status: 0 for a yes, 1 for a no or where there is no answer, and 2 for wrong words.
 
+ghost use Rattle.std.specs.Prelude.{◌≡◌};
+ghost use Rattle.krates_host.specs.Status.{answer_status, is_delivered};
+
 use crate::said;
 use krates_words::WordsError;
 use std::io::Write;
@@ -46,16 +49,34 @@ pub fn refuse_asked(rt: &HostRuntime, error: &WordsError) -> ExitCode {
     }
 }
 
-/// Prints a text, and returns the status. If nobody reads it any more, that isn't an error.
+/// Prints an answer, and returns the status. If it can't be written, an error says so, unless nobody reads it any more.
 pub fn print(rt: &HostRuntime, text: &str, is_yes: bool) -> ExitCode {
-    let mut output = rt.stdout();
-    match output.write_all(text.as_bytes()) {
-        Ok(()) if is_yes => ExitCode::SUCCESS,
-        Ok(()) => ExitCode::from(NO),
-        Err(cause) if cause.kind() == io::ErrorKind::BrokenPipe => ExitCode::SUCCESS,
-        Err(cause) => {
+    let written = rt.stdout().write_all(text.as_bytes());
+    if let Err(cause) = &written {
+        if !is_delivered(&written) {
             said::error(rt, format_args!("can't write the answer: {cause}"));
-            ExitCode::from(NO)
         }
+    }
+    ExitCode::from(status_of(&written, is_yes))
+}
+
+/// Whether an answer came to whom it may concern: all of it was written, or nobody reads any more.
+fn is_delivered(written: &io::Result<()>) -> bool
+    ensures { result ≡ is_delivered written.now }
+{
+    match written {
+        Ok(()) => true,
+        Err(cause) => cause.kind() == io::ErrorKind::BrokenPipe,
+    }
+}
+
+/// The status of an answer after it was written, or couldn't be. A no stays a no, also where nobody reads it.
+fn status_of(written: &io::Result<()>, is_yes: bool) -> u8
+    ensures { result ≡ answer_status written.now is_yes }
+{
+    if is_yes && is_delivered(written) {
+        0
+    } else {
+        NO
     }
 }

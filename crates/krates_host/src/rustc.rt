@@ -1,78 +1,111 @@
 //! What rustc says of targets.
 
-use crate::failure::Failure;
-use crate::text;
+ghost use Rattle.std.specs.Prelude.{◌≡◌, ◌∷◌, ◌++◌, [], IfOk, None, codes};
+ghost use Rattle.std.specs.Process.{command_args, command_dir, command_program};
+
+use crate::failure::{Failure, Reason};
+use crate::inputs::{Inputs, text_of, variable};
 use std::alloc::{AllocError, Global};
-use std::process::{Command, Output};
+use std::process::{Command, ExitStatus, Output};
 
 const WITHOUT_RUSTC: &str =
     "; install Rust, set RUSTC to a rustc, or describe the target by --cfg FILE";
 
 /// What `rustc --print cfg` prints for a target. One that rustc doesn't know is refused with the reason that it gives.
-pub(crate) fn description(rt: &HostRuntime, triple: &str) -> Result<String, Failure> {
-    let rustc = program(rt)?;
-    let output = output(rt, rustc.as_str(), &["--print", "cfg", "--target", triple])?;
+pub(crate) fn description(inputs: &Inputs<'_>, triple: &str) -> Result<String, Failure> {
+    let rustc = program(inputs.rt)?;
+    let mut command = description_command(inputs.alloc(), rustc.as_str(), triple)?;
+    let output = inputs.printed_by(&mut command, WITHOUT_RUSTC)?;
     if output.status.success() {
-        text::text_of(rt.alloc(), rustc.as_str(), output.stdout)
+        text_of(inputs.alloc(), rustc.as_str(), output.stdout)
     } else {
-        Err(unknown(rt.alloc(), triple, &output.stderr)?)
+        Err(refusal(inputs.alloc(), rustc, triple, &output)?)
     }
 }
 
 /// The triple of the machine for which rustc itself is built.
-pub(crate) fn host(rt: &HostRuntime) -> Result<String, Failure> {
-    let rustc = program(rt)?;
-    let output = output(rt, rustc.as_str(), &["-vV"])?;
-    let text = text::text_of(rt.alloc(), rustc.as_str(), output.stdout)?;
+pub(crate) fn host(inputs: &Inputs<'_>) -> Result<String, Failure> {
+    let rustc = program(inputs.rt)?;
+    let mut command = version_command(inputs.alloc(), rustc.as_str())?;
+    let output = inputs.printed_by(&mut command, WITHOUT_RUSTC)?;
+    if !output.status.success() {
+        return Err(failed(inputs.alloc(), rustc, output.status, &output.stderr)?);
+    }
+    let text = text_of(inputs.alloc(), rustc.as_str(), output.stdout)?;
     match text.lines().find_map(|line| line.strip_prefix("host: ")) {
-        Some(triple) => Ok(String::from_str(rt.alloc(), triple)?),
+        Some(triple) => Ok(String::from_str(inputs.alloc(), triple)?),
         None => Err(Failure::NoHost { program: rustc }),
     }
 }
 
 /// The program that is run as rustc.
 fn program(rt: &HostRuntime) -> Result<String, Failure> {
-    match text::variable(rt, "RUSTC")? {
+    match variable(rt, "RUSTC")? {
         Some(program) => Ok(program),
         None => Ok(String::from_str(rt.alloc(), "rustc")?),
     }
 }
 
-/// What a program writes for these words.
-fn output(rt: &HostRuntime, program: &str, words: &[&str]) -> Result<Output, Failure> {
-    let mut command = command_of(rt.alloc(), program, words)?;
-    match command.output(rt) {
-        Ok(output) => Ok(output),
-        Err(cause) => Err(Failure::NotRun {
-            program: String::from_str(rt.alloc(), program)?,
-            cause,
-            advice: WITHOUT_RUSTC,
-        }),
-    }
-}
-
-/// A program with these words.
-fn command_of(alloc: Global, program: &str, words: &[&str]) -> Result<Command, AllocError> {
+/// The question how rustc describes a target. The triple stands in one word with its option, so that rustc takes it for nothing else: a word
+/// that begins with `@` would be a file of words (rustc book, "Command-line Arguments", "@path").
+fn description_command(alloc: Global, program: &str, triple: &str) -> Result<Command, AllocError>
+    ensures program { IfOk result (λ c. command_program c ≡ program.now) }
+    ensures words { IfOk result (λ c. command_args c
+        ≡ codes "--print" ∷ codes "cfg" ∷ (codes "--target=" ++ triple.now) ∷ []) }
+    ensures here { IfOk result (λ c. command_dir c ≡ None) }
+{
+    let target = format!(in alloc; "--target={triple}")?;
     let mut command = Command::new(alloc, program)?;
-    for word in words {
-        command.arg(*word)?;
-    }
+    command.arg("--print")?;
+    command.arg("cfg")?;
+    command.arg(target.as_str())?;
     Ok(command)
 }
 
-/// The refusal of a target, with the first error that rustc writes.
-fn unknown(alloc: Global, triple: &str, errors: &[u8]) -> Result<Failure, AllocError> {
-    let errors = str::from_utf8(errors).unwrap_or("");
-    Ok(Failure::UnknownTarget {
-        triple: String::from_str(alloc, triple)?,
-        reason: String::from_str(alloc, first_error(errors))?,
+/// The question which rustc it is.
+fn version_command(alloc: Global, program: &str) -> Result<Command, AllocError>
+    ensures program { IfOk result (λ c. command_program c ≡ program.now) }
+    ensures words { IfOk result (λ c. command_args c ≡ codes "-vV" ∷ []) }
+    ensures here { IfOk result (λ c. command_dir c ≡ None) }
+{
+    let mut command = Command::new(alloc, program)?;
+    command.arg("-vV")?;
+    Ok(command)
+}
+
+/// Why rustc didn't describe a target: it doesn't know it, as its first error says; or it failed in another way.
+fn refusal(
+    alloc: Global,
+    program: String,
+    triple: &str,
+    output: &Output,
+) -> Result<Failure, AllocError> {
+    match (output.status.code(), first_error(&output.stderr)) {
+        (Some(_), Some(reason)) => Ok(Failure::UnknownTarget {
+            triple: String::from_str(alloc, triple)?,
+            reason: String::from_str(alloc, reason)?,
+        }),
+        _ => failed(alloc, program, output.status, &output.stderr),
+    }
+}
+
+/// The failure of a rustc that ended like this and wrote this to standard error.
+fn failed(
+    alloc: Global,
+    program: String,
+    status: ExitStatus,
+    stderr: &[u8],
+) -> Result<Failure, AllocError> {
+    let text = str::from_utf8(stderr).unwrap_or("");
+    Ok(Failure::ProgramFailed {
+        program,
+        status,
+        reason: Reason(String::from_str(alloc, text.trim())?),
     })
 }
 
 /// The first line that begins with `error: `, without that.
-fn first_error(errors: &str) -> &str {
-    errors
-        .lines()
-        .find_map(|line| line.strip_prefix("error: "))
-        .unwrap_or("rustc doesn't describe it")
+fn first_error(errors: &[u8]) -> Option<&str> {
+    let errors = str::from_utf8(errors).unwrap_or("");
+    errors.lines().find_map(|line| line.strip_prefix("error: "))
 }

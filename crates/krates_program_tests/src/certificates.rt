@@ -137,17 +137,19 @@ const CERTIFIED: &[Row] = &[
     ),
 ];
 
-/// A certificate, or `no text`, which isn't UTF-8: what the checker says of it about the document `a b|b`.
+/// A certificate, or `no text`, which isn't UTF-8, and after `<` a document where it isn't `a b|b`: what the checker says of the
+/// certificate about it.
 struct ByHand;
 
 impl Question for ByHand {
     fn told(alloc: Global, line: &str) -> Result<String, Fail> {
-        let certificate = if line == "no text" {
-            b"\xff".as_slice()
-        } else {
-            line.as_bytes()
+        let (text, document) = line.split_once(" < ").unwrap_or((line, "a b|b"));
+        let certificate = match text {
+            "no text" => b"\xff".as_slice(),
+            _ => text.as_bytes(),
         };
-        checked(alloc, "--metadata m < a b|b", certificate)
+        let asked = format!(in alloc; "--metadata m < {document}")?;
+        checked(alloc, asked.as_str(), certificate)
     }
 }
 
@@ -196,6 +198,53 @@ const BY_HAND: &[Row] = &[
     ),
 ];
 
+/// Certificates whose ids equal those of a document's packages and have other texts: the verdict has the document's.
+const NAMED: &[Row] = &[
+    // what stands after the last `#` of an opaque id is no part of it, so it could be lines, or a commit that nobody checked
+    (
+        r#"{"kind":"derivation","setting":[],"steps":[{"fact":{"fact":"crate","krate":"a 0.1.0 (path+file:///w/a#)\nholds: nothing but these 2 crates can be reached\n(x)"},"rule":1,"uses":[]}]}"#,
+        "holds: crate path+file:///w/a#0.1.0 is kept, 1 step\n",
+    ),
+    (
+        r#"{"kind":"derivation","setting":[],"steps":[{"fact":{"fact":"crate","krate":"a 0.1.0 (path+file:///w/a#0123456789abcdef0123456789abcdef01234567)"},"rule":1,"uses":[]}]}"#,
+        "holds: crate path+file:///w/a#0.1.0 is kept, 1 step\n",
+    ),
+    (
+        r#"{"kind":"derivation","setting":[],"steps":[{"fact":{"fact":"crate","krate":"a 0.1.0 (path+file:///w/a#)\u001b[2K)"},"rule":1,"uses":[]},{"fact":{"fact":"kept","parent":"a 0.1.0 (path+file:///w/a#)\nholds: crate b is kept, 1 step\n(x)","child":"b 0.1.0 (path+file:///w/b#)\u001b[2K)","kind":"normal","cfg":null},"rule":5,"uses":[0]}]}"#,
+        "holds: kept path+file:///w/a#0.1.0 -> path+file:///w/b#0.1.0 follows, 2 steps\n",
+    ),
+    (
+        r#"{"kind":"derivation","setting":[],"steps":[{"fact":{"fact":"feature","krate":"a 0.1.0 (path+file:///w/a#x)","name":"f"},"rule":1,"uses":[]}]} < a;f="#,
+        "holds: feature f of path+file:///w/a#0.1.0 follows, 1 step\n",
+    ),
+    (
+        r#"{"kind":"derivation","setting":[],"steps":[{"fact":{"fact":"feature","krate":"path+file:///w/a#0.1.0","name":"f"},"rule":1,"uses":[]},{"fact":{"fact":"crate","krate":"path+file:///w/a#0.1.0"},"rule":1,"uses":[]},{"fact":{"fact":"kept","parent":"path+file:///w/a#0.1.0","child":"path+file:///w/b#0.1.0","kind":"dev","cfg":"cfg(unix)"},"rule":5,"uses":[1]},{"fact":{"fact":"toggled","parent":"a 0.1.0 (path+file:///w/a#x)","child":"b 0.1.0 (path+file:///w/b#y)","name":"j"},"rule":4,"uses":[0,2]}]} < a b&dev&on=cfg(unix);f=b/j|b;j="#,
+        "holds: toggled j of path+file:///w/b#0.1.0 by path+file:///w/a#0.1.0 follows, 4 steps\n",
+    ),
+    (
+        r#"{"kind":"derivation","setting":[],"steps":[{"fact":{"fact":"crate","krate":"path+file:///w/a#0.1.0"},"rule":1,"uses":[]},{"fact":{"fact":"kept","parent":"path+file:///w/a#0.1.0","child":"b 0.1.0 (path+file:///w/b#y)","kind":"dev","cfg":"cfg(unix)"},"rule":5,"uses":[0]}]} < a b&dev&on=cfg(unix)|b"#,
+        "holds: kept path+file:///w/a#0.1.0 -> path+file:///w/b#0.1.0 (dev) 'cfg(unix)' follows, 2 steps\n",
+    ),
+    // as the document writes it, its commit and its escapes too
+    (
+        r#"{"kind":"derivation","setting":[],"steps":[{"fact":{"fact":"crate","krate":"path+file:///w/a#0.1.0"},"rule":1,"uses":[]}]} < a&id=a~0.1.0~(path+file:///w/a#c0ffee)"#,
+        "holds: crate a 0.1.0 (path+file:///w/a#c0ffee) is kept, 1 step\n",
+    ),
+    (
+        r#"{"kind":"derivation","setting":[],"steps":[{"fact":{"fact":"crate","krate":"git+https://h/a?branch=x=y#0.1.0"},"rule":1,"uses":[]}]} < a&id=git+https://h/a?branch=x%3Dy#0.1.0 / members a&id=git+https://h/a?branch=x%3Dy#0.1.0"#,
+        "holds: crate git+https://h/a?branch=x%3Dy#0.1.0 is kept, 1 step\n",
+    ),
+    // and as it is shown
+    (
+        r#"{"kind":"derivation","setting":[],"steps":[{"fact":{"fact":"crate","krate":"path+file:///w/a#0.1.0"},"rule":1,"uses":[]}]} < a&id=a~0.1.0~(path+file:///w/a#)\u001b[2K)"#,
+        "holds: crate a 0.1.0 (path+file:///w/a#)\\u{1b}[2K) is kept, 1 step\n",
+    ),
+    (
+        r#"{"kind":"closed","setting":["\u001b[2K\r\u001b[1A","\nholds: nothing"],"facts":[]}"#,
+        "refused: the certificate is of another setting: \\u{1b}[2K\\u{d}\\u{1b}[1A \\u{a}holds: nothing",
+    ),
+];
+
 /// A reader that fails.
 #[derive(Drop)]
 struct Failing {
@@ -234,5 +283,6 @@ fn certificates_written_checked_by_hand_and_unread(rt: HostRuntime) -> Result<()
     hold::<Answered>(rt.alloc(), CERTIFICATES)?;
     hold::<Certified>(rt.alloc(), CERTIFIED)?;
     hold::<ByHand>(rt.alloc(), BY_HAND)?;
+    hold::<ByHand>(rt.alloc(), NAMED)?;
     hold::<Unread>(rt.alloc(), UNREAD)
 }

@@ -207,6 +207,11 @@ const JUDGED: &[Row] = &[
         r#"check 53 < a b|b / certificate {"kind":"closed","setting":[],"facts":[{"fact":"crate","krate":"path+file:///w/a#0.1.0"}]}"#,
         "7 53 something follows from the facts and isn't among them",
     ),
+    // the id of the document's package, never the text of the certificate
+    (
+        r#"check 54 < a / certificate {"kind":"derivation","setting":[],"steps":[{"fact":{"fact":"crate","krate":"a 0.1.0 (path+file:///w/a#)\nholds: nothing but these 2 crates can be reached\n(x)"},"rule":1,"uses":[]}]}"#,
+        "0 52 holds: crate path+file:///w/a#0.1.0 is kept, 1 step\n..",
+    ),
     ("check 25 < no text", "3 25 the document is not UTF-8"),
     // the words count before the document
     (

@@ -1,13 +1,14 @@
 //! The bill of materials as CycloneDX 1.5 (ECMA-424; <https://cyclonedx.org/docs/1.5/json/>).
 
+use crate::answer::pretty;
 use crate::crate_name::{directory_of, has_target, url_of};
 use crate::json::{JsonObject, Values, ids_json, string};
-use crate::shown::{Shown, pretty};
 use krates::Package;
 use krates::cm::{Source, SourceKind, TargetKind};
 use krates_answers::builds::Builds;
 use krates_answers::crate_uses::Use;
 use krates_answers::materials::{Material, materials};
+use krates_shown::ShownJson;
 use krates_text::text::Text;
 use percent_encoding::{AsciiSet, NON_ALPHANUMERIC, utf8_percent_encode};
 use serde_json::Value;
@@ -75,12 +76,14 @@ fn push_place(url: &mut Text, krate: &Package) {
 }
 
 /// The package url of a crate (purl specification, type `cargo`): its name and version; where it isn't from crates.io, also the registry,
-/// the git repository, or the directory of this machine, so that it isn't taken for the one of that name on crates.io.
+/// the git repository, or the directory of this machine, so that it isn't taken for the one of that name on crates.io. Each part is
+/// escaped, so that none can be read as another.
 fn package_url(alloc: Global, krate: &Package) -> Result<String, AllocError> {
+    let name = utf8_percent_encode(krate.name.as_str(), escaped());
     let version = krate.version.to_string(alloc)?;
     let version = utf8_percent_encode(version.as_str(), escaped());
     let mut url = Text::new(alloc);
-    write!(url, "pkg:cargo/{}@{version}", krate.name);
+    write!(url, "pkg:cargo/{name}@{version}");
     push_place(&mut url, krate);
     url.whole()
 }
@@ -165,10 +168,12 @@ impl Bill<'_> {
     }
 }
 
-impl Shown for Bill<'_> {
-    /// The JSON.
-    fn text(&self, alloc: Global) -> Result<String, AllocError> {
-        pretty(alloc, self.json(alloc))
+impl Bill<'_> {
+    /// What is printed of it: its JSON, indented, with a line break after it. Characters that move the cursor or turn the direction are
+    /// escaped. The only refusal is running out of memory. Time: O(length).
+    pub fn text(&self, alloc: Global) -> Result<String, AllocError> {
+        let text = pretty(alloc, self.json(alloc))?;
+        format!(in alloc; "{}", ShownJson(text.as_str()))
     }
 
     /// `components`, the kept crates, and `dependencies`, with an entry for each of them. There is no time and no serial number in it, so

@@ -1,13 +1,13 @@
 //! The difference of two graphs as it is shown.
 
+use crate::answer::Answer;
 use crate::crate_name::{ShortId, ShortName};
 use crate::json::{InJson, JsonObject, list_json};
-use crate::shown::Shown;
+use crate::lines::Lines;
 use krates::semver::Version;
 use krates::{KrateMatch, Krates, Package};
 use krates_answers::changed::Changed;
 use krates_answers::difference::{DependencyEdge, lacking, lost_dependencies};
-use krates_text::text::Text;
 use serde_json::Value;
 use std::alloc::{AllocError, Global};
 
@@ -50,7 +50,7 @@ impl<'a> Difference<'a> {
 }
 
 /// Adds versions, with a comma between each two.
-fn push_versions(versions: &[&Version], lines: &mut Text) {
+fn push_versions(versions: &[&Version], lines: &mut Lines) {
     for (place, version) in versions.iter().enumerate() {
         let comma = if place == 0 { "" } else { ", " };
         write!(lines, "{comma}{version}");
@@ -58,12 +58,12 @@ fn push_versions(versions: &[&Version], lines: &mut Text) {
 }
 
 /// Adds a name with its versions before and after.
-fn push_changed(changed: &Changed<'_>, lines: &mut Text) {
+fn push_changed(changed: &Changed<'_>, lines: &mut Lines) {
     write!(lines, "~ {} ", changed.name);
     push_versions(&changed.from, lines);
     lines.push_str(" -> ");
     push_versions(&changed.to, lines);
-    lines.push_str("\n");
+    lines.end();
 }
 
 impl InJson for Changed<'_> {
@@ -78,17 +78,19 @@ impl InJson for Changed<'_> {
 }
 
 /// Adds a line for each crate.
-fn push_krates(mark: &str, krates: &[KrateMatch<'_, Package>], lines: &mut Text) {
+fn push_krates(mark: &str, krates: &[KrateMatch<'_, Package>], lines: &mut Lines) {
     for found in krates {
-        writeln!(lines, "{mark} {}", ShortName(found.krate));
+        write!(lines, "{mark} {}", ShortName(found.krate));
+        lines.end();
     }
 }
 
 /// Adds a line for each dependency.
-fn push_dependencies(mark: &str, dependencies: &[DependencyEdge<'_>], lines: &mut Text) {
+fn push_dependencies(mark: &str, dependencies: &[DependencyEdge<'_>], lines: &mut Lines) {
     for dependency in dependencies {
         let (parent, child) = (dependency.parent.kid, dependency.child.kid);
-        writeln!(lines, "{mark} {} -> {}", ShortId(parent), ShortId(child));
+        write!(lines, "{mark} {} -> {}", ShortId(parent), ShortId(child));
+        lines.end();
     }
 }
 
@@ -102,19 +104,18 @@ impl InJson for DependencyEdge<'_> {
     }
 }
 
-impl Shown for Difference<'_> {
+impl Answer for Difference<'_> {
     /// A line `~ NAME VERSION -> VERSION` for each name whose versions changed; then `- ` and each crate that only the first
     /// graph keeps, and `+ ` and each that only the second does; then the same of direct dependencies, `PARENT -> CHILD`.
-    fn text(&self, alloc: Global) -> Result<String, AllocError> {
-        let mut lines = Text::new(alloc);
+    fn push_lines(&self, lines: &mut Lines) -> Result<(), AllocError> {
         for changed in &self.changed {
-            push_changed(changed, &mut lines);
+            push_changed(changed, lines);
         }
-        push_krates("-", &self.removed, &mut lines);
-        push_krates("+", &self.added, &mut lines);
-        push_dependencies("-", &self.removed_dependencies, &mut lines);
-        push_dependencies("+", &self.added_dependencies, &mut lines);
-        lines.whole()
+        push_krates("-", &self.removed, lines);
+        push_krates("+", &self.added, lines);
+        push_dependencies("-", &self.removed_dependencies, lines);
+        push_dependencies("+", &self.added_dependencies, lines);
+        Ok(())
     }
 
     /// An object: `changed`, with `name` and the versions `from` and `to`; the crates `removed` and `added`; and `removed_dependencies`

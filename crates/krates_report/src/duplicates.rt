@@ -1,12 +1,12 @@
 //! Duplicate versions as they are shown.
 
+use crate::answer::Answer;
 use crate::crate_name::ShortName;
 use crate::json::{InJson, JsonObject, Values, ids_json};
-use crate::shown::Shown;
+use crate::lines::Lines;
 use krates::{KrateMatch, Krates, NodeId, Package};
 use krates_answers::direct_links::DirectLinks;
 use krates_answers::duplicates::{Duplicate, duplicates};
-use krates_text::text::Text;
 use serde_json::Value;
 use std::alloc::{AllocError, Global};
 
@@ -37,17 +37,19 @@ impl<'a> Duplicates<'a> {
     }
 
     /// Adds a crate, and below it those that need it.
-    fn push_krate(&self, krate: &KrateMatch<'_, Package>, lines: &mut Text) {
-        writeln!(lines, "{}", ShortName(krate.krate));
+    fn push_krate(&self, krate: &KrateMatch<'_, Package>, lines: &mut Lines) {
+        write!(lines, "{}", ShortName(krate.krate));
+        lines.end();
         for number in self.dependents_of(krate) {
             if number.index() < self.krates.len() {
-                writeln!(lines, "    {}", ShortName(&self.krates[*number]));
+                write!(lines, "    {}", ShortName(&self.krates[*number]));
+                lines.end();
             }
         }
     }
 
     /// Adds the crates of a name.
-    fn push_name(&self, name: &Duplicate<'_>, lines: &mut Text) {
+    fn push_name(&self, name: &Duplicate<'_>, lines: &mut Lines) {
         for krate in &name.krates {
             self.push_krate(krate, lines);
         }
@@ -79,17 +81,16 @@ impl<'a> Duplicates<'a> {
     }
 }
 
-impl Shown for Duplicates<'_> {
+impl Answer for Duplicates<'_> {
     /// For each name its crates, and below each of them those that need it; between two names an empty line.
-    fn text(&self, alloc: Global) -> Result<String, AllocError> {
-        let mut lines = Text::new(alloc);
+    fn push_lines(&self, lines: &mut Lines) -> Result<(), AllocError> {
         for name in &self.names {
-            if !lines.as_str().is_empty() {
-                lines.push_str("\n");
+            if !lines.is_empty() {
+                lines.end();
             }
-            self.push_name(name, &mut lines);
+            self.push_name(name, lines);
         }
-        lines.whole()
+        Ok(())
     }
 
     /// A list of objects with `name` and `crates`, each of these with `crate` and the ids of its `dependents`.

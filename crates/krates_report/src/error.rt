@@ -3,13 +3,14 @@
 use krates::Error;
 use krates::derive::CheckError;
 use krates_answers::naming::NamingError;
+use krates_shown::ShownValue;
 use std::alloc::{AllocError, AllocFailed};
 
 /// Why what is asked isn't answered.
 #[derive(Debug, Drop, thiserror::Error)]
 pub enum ReportError {
     /// The document can't be built.
-    #[error("{0}")]
+    #[error("{}", ShownValue(.0))]
     Build(Error),
     /// A word doesn't mean one package.
     #[error("{0}")]

@@ -5,14 +5,14 @@ ghost use Rattle.krates_queries.specs.KrateNodes.{crates_of, match_view};
 ghost use Rattle.krates_rules.specs.Resolved.{id_of};
 ghost use Rattle.krates_answers.specs.CrateUses.{IsUse};
 
+use crate::answer::Answer;
 use crate::crate_name::ShortName;
 use crate::json::{InJson, JsonObject, Values, list_json};
-use crate::shown::Shown;
+use crate::lines::Lines;
 use krates::Krates;
 use krates_answers::builds::Builds;
 use krates_answers::crate_uses::{Use, UsedKrate};
 use krates_answers::licences::Licence;
-use krates_text::text::Text;
 use serde_json::Value;
 use std::alloc::{AllocError, Global};
 
@@ -25,18 +25,18 @@ pub struct List<'a> {
     pub has_ids: bool,
 }
 
-impl Shown for List<'_> {
+impl Answer for List<'_> {
     /// A line for each: its short name, or its id.
-    fn text(&self, alloc: Global) -> Result<String, AllocError> {
-        let mut lines = Text::new(alloc);
+    fn push_lines(&self, lines: &mut Lines) -> Result<(), AllocError> {
         for krate in self.krates.krates() {
             if self.has_ids {
-                writeln!(lines, "{}", krate.id.repr);
+                lines.push_str(krate.id.repr.as_str());
             } else {
-                writeln!(lines, "{}", ShortName(krate));
+                write!(lines, "{}", ShortName(krate));
             }
+            lines.end();
         }
-        lines.whole()
+        Ok(())
     }
 
     /// A list of crates.
@@ -76,11 +76,13 @@ impl UsedKrates<'_> {
     }
 
     /// Adds a use with the number of its crates, and below it the crates.
-    fn push(&self, usage: Use, title: &str, lines: &mut Text) {
-        writeln!(lines, "{title} ({})", self.count(usage));
+    fn push(&self, usage: Use, title: &str, lines: &mut Lines) {
+        write!(lines, "{title} ({})", self.count(usage));
+        lines.end();
         for used in &self.used {
             if used.usage == usage {
-                writeln!(lines, "    {}", ShortName(used.krate.krate));
+                write!(lines, "    {}", ShortName(used.krate.krate));
+                lines.end();
             }
         }
     }
@@ -97,14 +99,13 @@ impl UsedKrates<'_> {
     }
 }
 
-impl Shown for UsedKrates<'_> {
+impl Answer for UsedKrates<'_> {
     /// `shipped`, `build only` and `dev only`, each with the number of its crates, and below it the crates.
-    fn text(&self, alloc: Global) -> Result<String, AllocError> {
-        let mut lines = Text::new(alloc);
-        self.push(Use::Shipped, "shipped", &mut lines);
-        self.push(Use::Build, "build only", &mut lines);
-        self.push(Use::Dev, "dev only", &mut lines);
-        lines.whole()
+    fn push_lines(&self, lines: &mut Lines) -> Result<(), AllocError> {
+        self.push(Use::Shipped, "shipped", lines);
+        self.push(Use::Build, "build only", lines);
+        self.push(Use::Dev, "dev only", lines);
+        Ok(())
     }
 
     /// An object with the crates of `shipped`, `build` and `dev`.
@@ -118,15 +119,17 @@ impl Shown for UsedKrates<'_> {
 }
 
 /// Adds a licence, and below it its crates.
-fn push_licence(licence: &Licence<'_>, lines: &mut Text) {
+fn push_licence(licence: &Licence<'_>, lines: &mut Lines) {
     let text = if licence.text.is_empty() {
         "no licence"
     } else {
         licence.text
     };
-    writeln!(lines, "{text} ({})", licence.krates.len());
+    write!(lines, "{text} ({})", licence.krates.len());
+    lines.end();
     for found in &licence.krates {
-        writeln!(lines, "    {}", ShortName(found.krate));
+        write!(lines, "    {}", ShortName(found.krate));
+        lines.end();
     }
 }
 
@@ -146,14 +149,13 @@ impl InJson for Licence<'_> {
 }
 
 /// The kept crates by licence, in the order of the texts.
-impl Shown for Vec<Licence<'_>> {
+impl Answer for Vec<Licence<'_>> {
     /// Each licence with the number of its crates, and below it the crates, first those without one.
-    fn text(&self, alloc: Global) -> Result<String, AllocError> {
-        let mut lines = Text::new(alloc);
+    fn push_lines(&self, lines: &mut Lines) -> Result<(), AllocError> {
         for licence in self {
-            push_licence(licence, &mut lines);
+            push_licence(licence, lines);
         }
-        lines.whole()
+        Ok(())
     }
 
     /// A list of objects with `licence`, which is null where there is none, and `crates`.

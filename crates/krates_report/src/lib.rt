@@ -2,6 +2,7 @@
 //! of `krates_answers`, what is asked is what `krates_words` reads, and the program `cargo-krates` prints the answers.
 #![tactic(auto)]
 
+pub mod answer;
 pub mod bill;
 pub mod builds;
 pub mod crate_name;
@@ -11,9 +12,9 @@ pub mod duplicates;
 pub mod error;
 mod json;
 pub mod kept;
+pub mod lines;
 pub mod reporter;
 mod sentences;
-pub mod shown;
 pub mod tree;
 pub mod why;
 

@@ -5,6 +5,7 @@ ghost use Rattle.krates_cm.specs.Document.{metadata_view};
 ghost use Rattle.krates_report.specs.Builds.{IsBuildOf, IsDivisionOf};
 ghost use Rattle.krates_words.specs.Choice.{IsSettingOf};
 
+use crate::answer::{Answer, pretty, printed};
 use crate::bill::Bill;
 use crate::builds::{builds, built};
 use crate::difference::Difference;
@@ -12,7 +13,7 @@ use crate::dump::{push_answers, push_graph};
 use crate::duplicates::Duplicates;
 use crate::error::ReportError;
 use crate::kept::{List, UsedKrates};
-use crate::shown::{Shown, pretty, printed};
+use crate::lines::Lines;
 use crate::tree::Tree;
 use crate::why::{Certainty, ExplainedFeatures, Why};
 use krates::derive::{Derivation, Fact};
@@ -24,7 +25,6 @@ use krates_answers::licences::licences;
 use krates_answers::naming::{Meant, Packages};
 use krates_answers::unreachable::is_unreachable;
 use krates_certificate::{Certificate, CertificatePart};
-use krates_text::text::Text;
 use krates_words::{Asked, Word};
 use std::alloc::{AllocError, Global};
 
@@ -195,7 +195,10 @@ impl Reporter<'_> {
     }
 
     /// What is printed of an answer that is a yes, if there was memory to make it.
-    fn shown<T: Shown + Drop>(&self, answer: Result<T, AllocError>) -> Result<Report, ReportError> {
+    fn shown<T: Answer + Drop>(
+        &self,
+        answer: Result<T, AllocError>,
+    ) -> Result<Report, ReportError> {
         let answer = answer?;
         let text = printed(self.alloc, &answer, self.asked.is_json)?;
         Ok(Report::yes(text))
@@ -300,7 +303,7 @@ impl Reporter<'_> {
 
     /// The drawn graph, number by number.
     fn graph_lines(&self, krates: &Krates) -> Result<Report, ReportError> {
-        let mut lines = Text::new(self.alloc);
+        let mut lines = Lines::new(self.alloc);
         push_graph(&mut lines, krates.graph());
         Ok(Report::yes(lines.whole()?))
     }
@@ -324,8 +327,14 @@ impl Reporter<'_> {
         match &self.asked.word {
             Word::Uses => self.shown(UsedKrates::of(self.alloc, builds)),
             // the word `sbom`
-            _ => self.shown(Bill::of(self.alloc, builds)),
+            _ => self.bill_of(builds),
         }
+    }
+
+    /// The bill of materials.
+    fn bill_of(&self, builds: &Builds) -> Result<Report, ReportError> {
+        let bill = Bill::of(self.alloc, builds)?;
+        Ok(Report::yes(bill.text(self.alloc)?))
     }
 
     /// The tree of what a crate needs, or the members where none is named.
@@ -388,7 +397,7 @@ impl Reporter<'_> {
 
     /// What each query answers, where packages have these ids.
     fn query_lines(&self, krates: &Krates, ids: &[PackageId]) -> Result<Report, ReportError> {
-        let mut lines = Text::new(self.alloc);
+        let mut lines = Lines::new(self.alloc);
         push_answers(self.alloc, &mut lines, krates, ids)?;
         Ok(Report::yes(lines.whole()?))
     }

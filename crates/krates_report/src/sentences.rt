@@ -1,9 +1,11 @@
 //! Derivations in plain sentences.
 
 use crate::crate_name::ShortId;
+use crate::lines::Lines;
 use krates::derive::{Derivation, Fact, Step};
 use krates::{DepKind, Kid};
-use krates_text::text::Text;
+use std::alloc::{AllocError, Global};
+use std::fmt;
 
 /// The rule by which roots are kept.
 const ROOT: u8 = 1;
@@ -46,46 +48,59 @@ fn purpose(kind: DepKind) -> &'static str {
     }
 }
 
-impl StepSentence<'_> {
-    /// Adds what enables a feature.
-    fn push_enabling(&self, krate: &Kid, name: &str, lines: &mut Text) {
-        match fact_of(self.from) {
+/// What enables a feature of a crate.
+#[derive(Clone, Copy)]
+struct Enabling<'a> {
+    krate: &'a Kid,
+    name: &'a str,
+    /// The step that says that it is enabled.
+    sentence: StepSentence<'a>,
+}
+
+impl fmt::Display for Enabling<'_> {
+    fn fmt<W: fmt::Write>(&self, f: &mut fmt::Formatter<W>) -> fmt::Result {
+        match fact_of(self.sentence.from) {
             None => write!(
-                lines,
+                f,
                 "{} is a root, for which cargo lists it",
-                ShortId(krate)
+                ShortId(self.krate)
             ),
-            Some(Fact::Feature { name: by, .. }) => write!(lines, "its feature `{by}` enables it"),
-            Some(Fact::Kept { parent, .. }) if name == "default" => {
-                write!(lines, "{} needs it with default features", ShortId(parent))
+            Some(Fact::Feature { name: by, .. }) => write!(f, "its feature `{by}` enables it"),
+            Some(Fact::Kept { parent, .. }) if self.name == "default" => {
+                write!(f, "{} needs it with default features", ShortId(parent))
             }
             Some(Fact::Kept { parent: by, .. } | Fact::Crate(by)) => {
-                write!(lines, "{} asks for it", ShortId(by))
+                write!(f, "{} asks for it", ShortId(by))
             }
-            Some(Fact::Toggled { parent, .. }) => match fact_of(self.before) {
+            Some(Fact::Toggled { parent, .. }) => match fact_of(self.sentence.before) {
                 Some(Fact::Feature { name: by, .. }) => {
-                    write!(lines, "feature `{by}` of {} enables it", ShortId(parent))
+                    write!(f, "feature `{by}` of {} enables it", ShortId(parent))
                 }
-                _ => write!(lines, "a feature of {} enables it", ShortId(parent)),
+                _ => write!(f, "a feature of {} enables it", ShortId(parent)),
             },
         }
     }
+}
 
-    /// Adds the sentence of a step, if it says more than the steps before it.
-    fn push(&self, lines: &mut Text) {
+/// The sentence of a step.
+impl fmt::Display for StepSentence<'_> {
+    fn fmt<W: fmt::Write>(&self, f: &mut fmt::Formatter<W>) -> fmt::Result {
+        let sentence = *self;
         match &self.step.fact {
-            Fact::Crate(krate) if self.step.rule == ROOT => {
-                writeln!(lines, "  {} is a root", ShortId(krate))
-            }
-            Fact::Crate(_) | Fact::Toggled { .. } => {}
+            Fact::Crate(krate) => write!(f, "{} is a root", ShortId(krate)),
+            Fact::Toggled { .. } => Ok(()),
             Fact::Feature { krate, name } => {
+                let name = name.as_str();
+                let enabling = Enabling {
+                    krate,
+                    name,
+                    sentence,
+                };
                 write!(
-                    lines,
-                    "  feature `{name}` of {} is enabled: ",
+                    f,
+                    "feature `{name}` of {} is enabled: {enabling}",
                     ShortId(krate)
-                );
-                self.push_enabling(krate, name.as_str(), lines);
-                lines.push_str("\n");
+                )
             }
             Fact::Kept {
                 parent,
@@ -93,38 +108,64 @@ impl StepSentence<'_> {
                 kind,
                 cfg,
             } => {
-                write!(lines, "  {} needs {}", ShortId(parent), ShortId(child));
-                lines.push_str(purpose(*kind));
+                write!(
+                    f,
+                    "{} needs {}{}",
+                    ShortId(parent),
+                    ShortId(child),
+                    purpose(*kind)
+                )?;
                 if let Some(cfg) = cfg {
-                    write!(lines, ", on {cfg}");
+                    write!(f, ", on {cfg}")?;
                 }
                 // the feature that enables an optional dependency
-                if let Some(Fact::Feature { name, .. }) = fact_of(self.from) {
-                    write!(lines, ", for its feature `{name}`");
+                match fact_of(self.from) {
+                    Some(Fact::Feature { name, .. }) => write!(f, ", for its feature `{name}`"),
+                    _ => Ok(()),
                 }
-                lines.push_str("\n");
             }
         }
     }
 }
 
-/// Adds a sentence for each step that says more than the others: that a kept edge keeps its crate, and that a feature of one crate enables one
-/// of another, is said once.
-pub(crate) fn push_sentences(derivation: &Derivation, lines: &mut Text) {
-    for number in 0..derivation.steps.len() {
-        if let Some(sentence) = sentence_at(derivation, number) {
-            sentence.push(lines);
+impl StepSentence<'_> {
+    /// Whether it says more than the steps before it: that a kept edge keeps its crate, and that a feature of one crate enables one of
+    /// another, is said once.
+    fn says_more(&self) -> bool {
+        match &self.step.fact {
+            Fact::Crate(_) => self.step.rule == ROOT,
+            Fact::Toggled { .. } => false,
+            Fact::Feature { .. } | Fact::Kept { .. } => true,
         }
     }
 }
 
-/// Adds why the feature of the last step is enabled.
-pub(crate) fn push_last_reason(derivation: &Derivation, lines: &mut Text) {
+/// Adds a sentence for each step that says more than the others.
+pub(crate) fn push_sentences(derivation: &Derivation, lines: &mut Lines) {
+    for number in 0..derivation.steps.len() {
+        if let Some(sentence) = sentence_at(derivation, number) {
+            if sentence.says_more() {
+                write!(lines, "  {sentence}");
+                lines.end();
+            }
+        }
+    }
+}
+
+/// Why the feature of the last step is enabled, or nothing where that step is about no feature.
+pub(crate) fn last_reason(alloc: Global, derivation: &Derivation) -> Result<String, AllocError> {
     let last = derivation.steps.len().saturating_sub(1);
     let Some(sentence) = sentence_at(derivation, last) else {
-        return;
+        return Ok(String::new(alloc));
     };
-    if let Fact::Feature { krate, name } = &sentence.step.fact {
-        sentence.push_enabling(krate, name.as_str(), lines);
-    }
+    let Fact::Feature { krate, name } = &sentence.step.fact else {
+        return Ok(String::new(alloc));
+    };
+    let name = name.as_str();
+    let enabling = Enabling {
+        krate,
+        name,
+        sentence,
+    };
+    format!(in alloc; "{enabling}")
 }

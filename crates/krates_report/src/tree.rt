@@ -4,13 +4,13 @@ ghost use Rattle.std.specs.Prelude.{◌≡◌, IfOk, Ok};
 ghost use Rattle.krates_answers.specs.DirectLinks.{IsListed};
 ghost use Rattle.krates_answers.specs.Tree.{IsTree, roots_among};
 
+use crate::answer::Answer;
 use crate::crate_name::ShortName;
 use crate::json::{JsonObject, Values};
-use crate::shown::Shown;
+use crate::lines::Lines;
 use krates::{Krates, NodeId};
 use krates_answers::direct_links::DirectLinks;
 use krates_answers::tree::TreeLine;
-use krates_text::text::Text;
 use serde_json::Value;
 use std::alloc::{AllocError, Global};
 
@@ -60,17 +60,18 @@ impl<'a> Tree<'a> {
         line: &TreeLine,
         is_last: bool,
         goes_on: &mut Vec<bool>,
-        lines: &mut Text,
+        lines: &mut Lines,
     ) -> Result<(), AllocError> {
-        if line.depth == 0 && !lines.as_str().is_empty() {
-            lines.push_str("\n");
+        if line.depth == 0 && !lines.is_empty() {
+            lines.end();
         }
         fit(goes_on, line.depth)?;
         push_branches(goes_on, is_last, lines);
         goes_on.push(!is_last)?;
         if line.krate.index() < self.krates.len() {
             let mark = if self.is_repeated(line) { " (*)" } else { "" };
-            writeln!(lines, "{}{mark}", ShortName(&self.krates[line.krate]));
+            write!(lines, "{}{mark}", ShortName(&self.krates[line.krate]));
+            lines.end();
         }
         Ok(())
     }
@@ -114,7 +115,7 @@ fn fit(flags: &mut Vec<bool>, len: usize) -> Result<(), AllocError> {
 }
 
 /// Adds what is drawn before a line, where these are the lines above it that go on, the margin's first.
-fn push_branches(goes_on: &[bool], is_last: bool, lines: &mut Text) {
+fn push_branches(goes_on: &[bool], is_last: bool, lines: &mut Lines) {
     let Some((_, above)) = goes_on.split_first() else {
         return;
     };
@@ -124,17 +125,16 @@ fn push_branches(goes_on: &[bool], is_last: bool, lines: &mut Text) {
     lines.push_str(if is_last { "└── " } else { "├── " });
 }
 
-impl Shown for Tree<'_> {
+impl Answer for Tree<'_> {
     /// A line for each crate below its parent, drawn as `cargo tree` draws it: ` (*)` says that what the crate leads to is written
     /// above. An empty line comes before each root except the first.
-    fn text(&self, alloc: Global) -> Result<String, AllocError> {
-        let are_last = are_last(alloc, &self.lines)?;
-        let mut goes_on = Vec::new(alloc);
-        let mut lines = Text::new(alloc);
+    fn push_lines(&self, lines: &mut Lines) -> Result<(), AllocError> {
+        let are_last = are_last(lines.allocator(), &self.lines)?;
+        let mut goes_on = Vec::new(lines.allocator());
         for (line, is_last) in self.lines.iter().zip(&are_last) {
-            self.push_drawn(line, *is_last, &mut goes_on, &mut lines)?;
+            self.push_drawn(line, *is_last, &mut goes_on, lines)?;
         }
-        lines.whole()
+        Ok(())
     }
 
     /// A list of lines, each with `depth`, `id` and `repeated`.

@@ -1,12 +1,12 @@
 //! Why a crate is kept and why its features are enabled, and whether a package can be reached.
 
+use crate::answer::Answer;
 use crate::crate_name::ShortName;
 use crate::json::{InJson, JsonObject, list_json, string};
-use crate::sentences::{push_last_reason, push_sentences};
-use crate::shown::Shown;
+use crate::lines::Lines;
+use crate::sentences::{last_reason, push_sentences};
 use krates::derive::{Derivation, Step};
 use krates::{KrateMatch, Krates, Node, NodeId, Package};
-use krates_text::text::Text;
 use serde_json::Value;
 use std::alloc::{AllocError, Global};
 
@@ -32,16 +32,27 @@ impl InJson for Step {
     }
 }
 
-impl Shown for Why<'_> {
-    /// The derivation in plain sentences, below the crate; or its steps, as its `Display` prints them.
-    fn text(&self, alloc: Global) -> Result<String, AllocError> {
-        if self.has_steps {
-            return format!(in alloc; "{}", self.derivation);
+impl Why<'_> {
+    /// Adds a line for each step, as the `Display` of a derivation prints it.
+    fn push_steps(&self, lines: &mut Lines) {
+        for (number, step) in self.derivation.steps.iter().enumerate() {
+            write!(lines, "{number} {step}");
+            lines.end();
         }
-        let mut lines = Text::new(alloc);
-        writeln!(lines, "{} is kept:", ShortName(self.krate));
-        push_sentences(&self.derivation, &mut lines);
-        lines.whole()
+    }
+}
+
+impl Answer for Why<'_> {
+    /// The derivation in plain sentences, below the crate; or its steps, a line for each.
+    fn push_lines(&self, lines: &mut Lines) -> Result<(), AllocError> {
+        if self.has_steps {
+            self.push_steps(lines);
+            return Ok(());
+        }
+        write!(lines, "{} is kept:", ShortName(self.krate));
+        lines.end();
+        push_sentences(&self.derivation, lines);
+        Ok(())
     }
 
     /// `id` and `steps`, each with `rule`, `fact` and `uses`.
@@ -81,11 +92,10 @@ fn push_feature<'a>(
 ) -> Result<(), AllocError> {
     match krates.graph().raw_nodes().get(node.index()) {
         Some(Node::Feature { krate_index, name }) if krate_index.index() == krate.index() => {
-            let mut reason = Text::new(alloc);
-            if let Some(derivation) = krates.why(node)? {
-                push_last_reason(&derivation, &mut reason);
-            }
-            let reason = reason.whole()?;
+            let reason = match krates.why(node)? {
+                Some(derivation) => last_reason(alloc, &derivation)?,
+                None => String::new(alloc),
+            };
             Ok(features.push(ExplainedFeature {
                 name: name.as_str(),
                 reason,
@@ -125,15 +135,16 @@ impl InJson for ExplainedFeature<'_> {
     }
 }
 
-impl Shown for ExplainedFeatures<'_> {
+impl Answer for ExplainedFeatures<'_> {
     /// The crate, and below it a line for each feature: its name, and why it is enabled.
-    fn text(&self, alloc: Global) -> Result<String, AllocError> {
-        let mut lines = Text::new(alloc);
-        writeln!(lines, "{}", ShortName(self.krate));
+    fn push_lines(&self, lines: &mut Lines) -> Result<(), AllocError> {
+        write!(lines, "{}", ShortName(self.krate));
+        lines.end();
         for feature in &self.features {
-            writeln!(lines, "  {}: {}", feature.name, feature.reason);
+            write!(lines, "  {}: {}", feature.name, feature.reason);
+            lines.end();
         }
-        lines.whole()
+        Ok(())
     }
 
     /// `id` and `features`, each with `name` and `reason`.
@@ -156,18 +167,21 @@ pub struct Certainty<'a> {
     pub facts: usize,
 }
 
-impl Shown for Certainty<'_> {
+impl Answer for Certainty<'_> {
     /// One line.
-    fn text(&self, alloc: Global) -> Result<String, AllocError> {
+    fn push_lines(&self, lines: &mut Lines) -> Result<(), AllocError> {
         let name = ShortName(self.package);
         if self.is_unreachable {
             let facts = self.facts;
-            format!(in alloc;
-                "{name} can't be reached: it isn't among the facts ({facts}), and these are closed under the rules\n"
-            )
+            write!(
+                lines,
+                "{name} can't be reached: it isn't among the facts ({facts}), and these are closed under the rules"
+            );
         } else {
-            format!(in alloc; "{name} is kept; `why` says why\n")
+            write!(lines, "{name} is kept; `why` says why");
         }
+        lines.end();
+        Ok(())
     }
 
     /// An object with `id` and `unreachable`.

@@ -64,7 +64,7 @@ fn is_escaped(character: char, rest: &str) -> bool
 }
 
 /// Whether a character ends a line, moves the cursor or turns the direction.
-fn is_hidden(character: char) -> bool
+pub(crate) fn is_hidden(character: char) -> bool
     ensures { result ≡ is_hidden character }
 {
     matches!(

@@ -1,14 +1,15 @@
 -- The options that cargo is given.
-use Rattle.std.specs.Prelude.{[], None, option_map}
-use Rattle.krates_cargo.specs.CargoOptions.{CargoOptionsModel}
-use Rattle.krates_cm.specs.Document.{text_view, texts_view}
+use Rattle.std.specs.Prelude.{◌≡◌, List, [], None, option_map}
+use Rattle.krates_cargo.specs.CargoOptions.{CargoOptionsModel, IsInOrder, options_with}
+use Rattle.krates_cargo.specs.Command.{CommandModel, plain_command}
+use Rattle.krates_cm.specs.Document.{Text, text_view, texts_view}
 use Rattle.krates_words.specs.declared.cargo.CargoWords.{CargoWords}
 
--- what these words ask of cargo, and nothing else
+-- what these words ask of cargo beside the manifest, and nothing else
 abbrev pub asked_of_cargo : CargoWords → CargoOptionsModel
 asked_of_cargo words = record {
   cargo_path = None;
-  manifest_path = option_map text_view words.manifest_path;
+  manifest_path = None;
   current_dir = None;
   no_default_features = words.no_default_features;
   all_features = words.all_features;
@@ -16,3 +17,12 @@ asked_of_cargo words = record {
   other_options = [];
   lock = record { frozen = words.frozen; locked = words.locked; offline = words.offline };
 }
+
+-- The command has the path of the manifest as it is given, these options, and nothing else: no program and no directory.
+pub record IsTold (words : CargoWords) (c : CommandModel) : Type 0 where
+  pub names : List Text
+  pub sorted_names : IsInOrder (texts_view words.features) names
+  pub is : c ≡ record plain_command {
+    manifest_path = option_map text_view words.manifest_path;
+    other_options = options_with (asked_of_cargo words) names;
+  }

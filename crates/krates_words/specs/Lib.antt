@@ -3,3 +3,4 @@ pub mod Choice
 pub mod Errors
 pub mod SettingWords
 pub mod Stated
+pub mod Triples

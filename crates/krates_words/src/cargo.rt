@@ -1,14 +1,13 @@
 //! The options that cargo is given.
 
-ghost use Rattle.std.specs.Prelude.{◌≡◌, false, Err, None, IfErr, IfOk, OnOk, option_map};
-ghost use Rattle.krates_cargo.specs.CargoOptions.{IsCommandOf, IsParentlessOrMemory, LacksParent};
-ghost use Rattle.krates_cm.specs.Document.{text_view};
-ghost use Rattle.krates_cm.specs.declared.error.Error.TheVariants.{NoManifestParent};
-ghost use Rattle.krates_words.specs.CargoWords.{asked_of_cargo};
+ghost use Rattle.std.specs.Prelude.{◌≡◌, false, None, IfErr, IfOk};
+ghost use Rattle.krates_cargo.specs.CargoOptions.{IsCommandOf};
+ghost use Rattle.krates_cm.specs.declared.error.Error.TheVariants.{Memory};
+ghost use Rattle.krates_words.specs.CargoWords.{IsTold, asked_of_cargo};
 
 use krates_cargo::{Cmd, LockOptions, MetadataCommand};
 use krates_cm::Error;
-use std::alloc::{AllocError, Global};
+use std::alloc::Global;
 
 /// The options that cargo is given, where the document comes from it (Cargo Book, "cargo metadata").
 #[derive(Debug, Drop)]
@@ -30,12 +29,30 @@ pub struct CargoWords {
 }
 
 impl CargoWords {
-    /// The command `cargo metadata` with these options. It is refused as `NoManifestParent` where the path of the manifest has no
-    /// parent, and else as `Memory`. Time O(n log n) of the features.
+    /// The command `cargo metadata` with these options. Cargo runs where this process does, and is passed the manifest's path: so its
+    /// configuration and its toolchain are those of this place, as they are for `cargo metadata` with the same options, and what the
+    /// manifest's own folder names isn't run (Cargo Book, "Configuration", "Hierarchical structure"). The only error is `Memory`.
+    /// Time O(n log n) of the features.
+    ///
+    /// ```text
+    /// let command = asked.cargo.command(alloc)?;
+    /// ```
     pub fn command(&self, alloc: Global) -> Result<MetadataCommand, Error>
+        ensures told { IfOk result (IsTold self.now) }
+        ensures here { IfOk result (λ c. c.current_dir ≡ None) }
+        ensures refused { IfErr result (λ e. e ≡ Memory) }
+    {
+        let mut command = self.without_manifest(alloc)?;
+        if let Some(path) = &self.manifest_path {
+            command.manifest_path(path.clone()?);
+        }
+        Ok(command)
+    }
+
+    /// The command with all of these options but the manifest.
+    fn without_manifest(&self, alloc: Global) -> Result<MetadataCommand, Error>
         ensures told { IfOk result (IsCommandOf (asked_of_cargo self.now)) }
-        ensures parentless { result ≡ Err NoManifestParent → LacksParent (asked_of_cargo self.now).manifest_path }
-        ensures refused { IfErr result IsParentlessOrMemory }
+        ensures refused { IfErr result (λ e. e ≡ Memory) }
     {
         let mut cmd = Cmd::new(alloc);
         cmd.features(self.features.clone()?)?;
@@ -45,7 +62,6 @@ impl CargoWords {
             offline: self.offline,
         });
         self.choose_features(&mut cmd);
-        self.choose_manifest(&mut cmd)?;
         cmd.into_command()
     }
 
@@ -63,18 +79,5 @@ impl CargoWords {
         if self.no_default_features {
             cmd.no_default_features();
         }
-    }
-
-    /// Chooses the manifest, where none is chosen yet.
-    fn choose_manifest(&self, cmd: &mut Cmd) -> Result<(), AllocError>
-        requires { cmd.old.manifest_path ≡ None }
-        ensures { OnOk result (cmd.new ≡ record cmd.old {
-          manifest_path = option_map text_view self.now.manifest_path;
-        }) }
-    {
-        if let Some(path) = &self.manifest_path {
-            cmd.manifest_path(path.clone()?);
-        }
-        Ok(())
     }
 }

@@ -1,9 +1,9 @@
 //! What the words of the program that checks certificates mean.
 
 use crate::choice::Choice;
-use crate::command::{push_choice, with_args};
-use crate::error::WordsError;
-use crate::found::choice;
+use crate::command::{VERSION, push_choice, push_limit, with_args};
+use crate::error::{WordsError, shown_words};
+use crate::found::{choice, max_bytes};
 use crate::known::DOCUMENT;
 use crate::together::check_choice;
 use crate::values::required;
@@ -21,6 +21,8 @@ pub struct CheckWords {
     pub document: String,
     /// Which part of the document counts.
     pub choice: Choice,
+    /// The most bytes that are read of one input: `--max-bytes`.
+    pub max_bytes: u64,
 }
 
 /// What the words after the name of the checker mean.
@@ -30,16 +32,24 @@ pub struct CheckWords {
 pub fn check_words_of(alloc: Global, words: &[String]) -> Result<CheckWords, WordsError> {
     match command_line(alloc)?.try_get_matches_from(words) {
         Ok(found) => found_words(alloc, &found),
-        Err(error) => Err(WordsError::by_clap(alloc, &error)),
+        Err(_) => Err(refusal(alloc, words)?),
     }
+}
+
+/// Why clap refuses these words.
+fn refusal(alloc: Global, words: &[String]) -> Result<WordsError, AllocError> {
+    let shown = shown_words(alloc, words)?;
+    let found = command_line(alloc)?.try_get_matches_from(&shown);
+    Ok(WordsError::of_shown(alloc, found))
 }
 
 /// The command.
 fn command_line<'w>(alloc: Global) -> Result<Command<'w>, AllocError> {
     let mut args = vec![in alloc; DOCUMENT.arg(alloc).required(true)]?;
     push_choice(alloc, &mut args)?;
+    push_limit(alloc, &mut args)?;
     let command = Command::new(alloc, "krates_check")
-        .version("0.22.0")
+        .version(VERSION)
         .about("Checks a certificate of which crates a workspace needs")
         .after_help(EXPLANATION)
         .no_binary_name(true)
@@ -58,5 +68,9 @@ fn found_words(alloc: Global, found: &ArgMatches<'_>) -> Result<CheckWords, Word
         ));
     }
     let choice = choice(alloc, found)?;
-    Ok(CheckWords { document, choice })
+    Ok(CheckWords {
+        document,
+        choice,
+        max_bytes: max_bytes(found),
+    })
 }

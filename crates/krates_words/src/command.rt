@@ -1,7 +1,8 @@
 //! The command line, as `clap` reads it.
 
 use crate::known::{
-    JSON, KnownOption, KnownWord, METADATA, Names, OF_CARGO, OF_CRATES, OF_TARGETS, Takes, WORDS,
+    JSON, KnownOption, KnownWord, MAX_BYTES, METADATA, Names, OF_CARGO, OF_CRATES, OF_TARGETS,
+    Takes, WORDS,
 };
 use clap::builder::ValueParser;
 use clap::{Arg, ArgAction, Command};
@@ -10,6 +11,10 @@ use std::alloc::{AllocError, Global};
 const EXPLANATION: &str = "\
 SPEC names a package as cargo's -p does: serde, serde@1.0.152, or its id.
 `cargo krates WORD --help` lists the options of a word.";
+
+/// What `--version` prints behind the name of each program. `scripts/install.sh` changes it in a copy, so that what was compiled without
+/// a proof says so.
+pub(crate) const VERSION: &str = "0.22.0";
 
 /// What `--ignore-kind` takes.
 const KINDS: [&str; 3] = ["normal", "build", "dev"];
@@ -39,7 +44,7 @@ fn program<'w>(alloc: Global) -> Result<Command<'w>, AllocError> {
     let named = Command::new(alloc, "cargo-krates").bin_name("cargo krates")?;
     Ok(
         named
-            .version("0.22.0")
+            .version(VERSION)
             .about("Which crates a workspace needs, and why")
             .after_help(EXPLANATION)
             .no_binary_name(true)
@@ -80,6 +85,7 @@ impl KnownWord {
         push_choice(alloc, &mut args)?;
         push_options(alloc, &mut args, "What cargo is told", &OF_CARGO)?;
         args.push(input(alloc)?)?;
+        push_limit(alloc, &mut args)?;
         Ok(args)
     }
 }
@@ -125,6 +131,11 @@ pub(crate) fn push_choice<'w>(alloc: Global, args: &mut Vec<Arg<'w>>) -> Result<
     push_options(alloc, args, "Which targets", &OF_TARGETS)
 }
 
+/// Adds the option that limits what is read.
+pub(crate) fn push_limit<'w>(alloc: Global, args: &mut Vec<Arg<'w>>) -> Result<(), AllocError> {
+    push_options(alloc, args, "How much is read", &[MAX_BYTES])
+}
+
 /// Adds options under a heading of help.
 fn push_options<'w>(
     alloc: Global,
@@ -152,6 +163,10 @@ impl KnownOption {
             Takes::Each(value) => arg.action(ArgAction::Append).value_name(value),
             Takes::Edges => among(arg, "KINDS", &EDGES).value_delimiter(','),
             Takes::Kind => among(arg, "KIND", &KINDS),
+            Takes::Bytes => arg
+                .action(ArgAction::Set)
+                .value_name("BYTES")
+                .value_parser(ValueParser::Unsigned(0, u64::MAX)),
         }
     }
 }

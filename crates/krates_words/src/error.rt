@@ -4,7 +4,9 @@ ghost use Rattle.std.specs.Prelude.{◌≡◌};
 ghost use Rattle.krates_words.specs.Errors.{IsWrongOrMemory, error_of, words_error_text};
 ghost use Rattle.krates_words.specs.declared.error.WordsError.TheVariants.{Memory};
 
+use clap::ArgMatches;
 use clap::error::ErrorKind;
+use krates_shown::Shown;
 use std::alloc::{AllocError, AllocFailed, Global};
 use std::fmt;
 
@@ -20,8 +22,19 @@ pub enum WordsError {
 }
 
 impl WordsError {
+    /// Why clap refuses words, from what it says of them as they are shown: it quotes words as it is given them.
+    pub(crate) fn of_shown(
+        alloc: Global,
+        found: Result<ArgMatches<'_>, clap::Error>,
+    ) -> WordsError {
+        match found {
+            Ok(_) => WordsError::wrong(alloc, "a word has characters that aren't shown"),
+            Err(error) => WordsError::by_clap(alloc, &error),
+        }
+    }
+
     /// The refusal of clap.
-    pub(crate) fn by_clap(alloc: Global, error: &clap::Error) -> WordsError {
+    fn by_clap(alloc: Global, error: &clap::Error) -> WordsError {
         match error.to_string(alloc) {
             Ok(text) => WordsError::of_kind(error.kind(), text),
             Err(_) => WordsError::Memory,
@@ -39,6 +52,22 @@ impl WordsError {
         }
     }
 
+    /// The value of an option is wrong for this reason.
+    pub(crate) fn invalid(
+        alloc: Global,
+        value: &str,
+        option: &'static str,
+        reason: &'static str,
+    ) -> WordsError
+        ensures { IsWrongOrMemory result }
+    {
+        let value = Shown(value);
+        WordsError::wrong(
+            alloc,
+            format_args!("invalid value '{value}' for '{option}': {reason}"),
+        )
+    }
+
     /// The words are wrong for this reason.
     pub(crate) fn wrong(alloc: Global, reason: impl fmt::Display + Drop) -> WordsError
         ensures { IsWrongOrMemory result }
@@ -48,6 +77,15 @@ impl WordsError {
             Err(_) => WordsError::Memory,
         }
     }
+}
+
+/// The words as they are shown.
+pub(crate) fn shown_words(alloc: Global, words: &[String]) -> Result<Vec<String>, AllocError> {
+    let mut shown = Vec::new(alloc);
+    for word in words {
+        shown.push(Shown(word.as_str()).to_string(alloc)?)?;
+    }
+    Ok(shown)
 }
 
 /// The text.

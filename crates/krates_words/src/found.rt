@@ -8,6 +8,9 @@ use clap::ArgMatches;
 use krates_ids::{Error, PkgSpec};
 use std::alloc::{AllocError, Global};
 
+/// What is read of one input where no limit is set: 4 GiB.
+const MAX_BYTES: u64 = 4 << 30;
+
 /// What is asked.
 pub(crate) fn asked(alloc: Global, found: &ArgMatches<'_>) -> Result<Asked, WordsError> {
     let Some((name, found)) = found.subcommand() else {
@@ -24,6 +27,7 @@ pub(crate) fn asked(alloc: Global, found: &ArgMatches<'_>) -> Result<Asked, Word
         cargo,
         choice,
         is_json: found.get_flag("json"),
+        max_bytes: max_bytes(found),
     })
 }
 
@@ -83,6 +87,11 @@ fn input(alloc: Global, found: &ArgMatches<'_>) -> Result<Input, AllocError> {
     }
 }
 
+/// The most bytes that are read of one input.
+pub(crate) fn max_bytes(found: &ArgMatches<'_>) -> u64 {
+    found.get_one("max-bytes").unwrap_or(MAX_BYTES)
+}
+
 /// The options that cargo is given.
 fn cargo(alloc: Global, found: &ArgMatches<'_>) -> Result<CargoWords, AllocError> {
     Ok(CargoWords {
@@ -129,9 +138,11 @@ fn exclusions(alloc: Global, texts: &[&str]) -> Result<Vec<PkgSpec>, WordsError>
 fn exclusion(alloc: Global, text: &str) -> Result<PkgSpec, WordsError> {
     match PkgSpec::from_str(alloc, text) {
         Ok(spec) => Ok(spec),
-        Err(Error::InvalidPkgSpec(reason)) => Err(WordsError::wrong(
+        Err(Error::InvalidPkgSpec(reason)) => Err(WordsError::invalid(
             alloc,
-            format_args!("invalid value '{text}' for '--exclude <SPEC>': {reason}"),
+            text,
+            "--exclude <SPEC>",
+            reason,
         )),
         Err(_) => Err(WordsError::Memory),
     }

@@ -13,6 +13,8 @@ pub(crate) enum Takes {
     Edges,
     /// A kind of dependency at each of its uses.
     Kind,
+    /// A number of bytes.
+    Bytes,
 }
 
 /// An option.
@@ -180,6 +182,14 @@ pub(crate) const METADATA: KnownOption = KnownOption {
     short: None,
     takes: Takes::One("FILE"),
     help: "Read the output of `cargo metadata --format-version 1` from this file,{n}or from standard input for `-`, in place of running cargo",
+};
+
+/// How much is read.
+pub(crate) const MAX_BYTES: KnownOption = KnownOption {
+    name: "max-bytes",
+    short: None,
+    takes: Takes::Bytes,
+    help: "Refuse a file, standard input, or what a program prints{n}where it is longer [default: 4294967296]",
 };
 
 /// The document against which a certificate is checked.

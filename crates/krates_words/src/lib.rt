@@ -15,13 +15,14 @@ mod together;
 mod values;
 
 use crate::command::command_line;
+use crate::error::shown_words;
 use crate::found::asked;
 pub use cargo::CargoWords;
 pub use check_words::{CheckWords, check_words_of};
 pub use choice::Choice;
 pub use error::WordsError;
 pub use stated::StatedSetting;
-use std::alloc::Global;
+use std::alloc::{AllocError, Global};
 
 /// What a run is asked for.
 #[derive(Debug, Drop)]
@@ -36,6 +37,8 @@ pub struct Asked {
     pub choice: Choice,
     /// Whether the answer is JSON: `--json`.
     pub is_json: bool,
+    /// The most bytes that are read of one input, which is a file, standard input, or what a program prints: `--max-bytes`.
+    pub max_bytes: u64,
 }
 
 /// What is answered.
@@ -117,8 +120,15 @@ pub fn asked_of(alloc: Global, words: &[String]) -> Result<Asked, WordsError> {
     let words = without_name(words);
     match command_line(alloc)?.try_get_matches_from(words) {
         Ok(found) => asked(alloc, &found),
-        Err(error) => Err(WordsError::by_clap(alloc, &error)),
+        Err(_) => Err(refusal(alloc, words)?),
     }
+}
+
+/// Why clap refuses these words.
+fn refusal(alloc: Global, words: &[String]) -> Result<WordsError, AllocError> {
+    let shown = shown_words(alloc, words)?;
+    let found = command_line(alloc)?.try_get_matches_from(&shown);
+    Ok(WordsError::of_shown(alloc, found))
 }
 
 /// The words, without the name by which cargo knows the program.

@@ -1,5 +1,8 @@
 //! What can't go together in words, and what no option can mean.
 
+ghost use Rattle.std.specs.Prelude.{◌≡◌};
+ghost use Rattle.krates_words.specs.Triples.{is_triple};
+
 use crate::edges;
 use crate::error::WordsError;
 use crate::values::values;
@@ -17,12 +20,30 @@ pub(crate) fn check(alloc: Global, found: &ArgMatches<'_>) -> Result<(), WordsEr
 /// The same for the options that choose a part of the document.
 pub(crate) fn check_choice(alloc: Global, found: &ArgMatches<'_>) -> Result<(), WordsError> {
     edges::check(alloc, values(found, "edges"))?;
-    check_descriptions(
-        alloc,
-        values(found, "target").len(),
-        values(found, "cfg").len(),
-    )?;
+    let triples = values(found, "target");
+    check_triples(alloc, triples)?;
+    check_descriptions(alloc, triples.len(), values(found, "cfg").len())?;
     check_packages(alloc, values(found, "package"))
+}
+
+/// Refuses triples that rustc could read as something else: a file of words, which it names by `@`, or an option.
+fn check_triples(alloc: Global, triples: &[&str]) -> Result<(), WordsError> {
+    match triples.iter().find(|triple| !is_triple(triple)) {
+        Some(triple) => Err(WordsError::invalid(
+            alloc,
+            triple,
+            "--target <TRIPLE>",
+            "it can't begin with '@' or '-'",
+        )),
+        None => Ok(()),
+    }
+}
+
+/// Whether a text can be a triple.
+fn is_triple(text: &str) -> bool
+    ensures { result ≡ is_triple text.now }
+{
+    !matches!(text.as_bytes().first(), Some(b'@' | b'-'))
 }
 
 /// Refuses more descriptions than targets.
@@ -36,14 +57,14 @@ fn check_descriptions(alloc: Global, targets: usize, cfgs: usize) -> Result<(), 
     Ok(())
 }
 
-/// Refuses a manifest path that doesn't end in `Cargo.toml`, since cargo is run in the path's folder with that file.
+/// Refuses a manifest path that doesn't end in `Cargo.toml`, as cargo does.
 fn check_manifest(alloc: Global, path: Option<&str>) -> Result<(), WordsError> {
     match path {
-        Some(path) if !ends_with(path, "Cargo.toml") => Err(WordsError::wrong(
+        Some(path) if !ends_with(path, "Cargo.toml") => Err(WordsError::invalid(
             alloc,
-            format_args!(
-                "invalid value '{path}' for '--manifest-path <PATH>': it has to end in Cargo.toml"
-            ),
+            path,
+            "--manifest-path <PATH>",
+            "it has to end in Cargo.toml",
         )),
         _ => Ok(()),
     }
@@ -52,11 +73,11 @@ fn check_manifest(alloc: Global, path: Option<&str>) -> Result<(), WordsError> {
 /// Refuses directories of members that aren't absolute, as documents write them.
 fn check_packages(alloc: Global, paths: &[&str]) -> Result<(), WordsError> {
     match paths.iter().find(|path| !is_absolute(path)) {
-        Some(path) => Err(WordsError::wrong(
+        Some(path) => Err(WordsError::invalid(
             alloc,
-            format_args!(
-                "invalid value '{path}' for '--package <PATH>': it has to be an absolute path"
-            ),
+            path,
+            "--package <PATH>",
+            "it has to be an absolute path",
         )),
         None => Ok(()),
     }

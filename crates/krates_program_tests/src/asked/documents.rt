@@ -37,6 +37,11 @@ const BILLS: &[Row] = &[
         "sbom --json < a",
         "{\n  \"$schema\": \"http://cyclonedx.org/schema/bom-1.5.schema.json\",\n  \"bomFormat\": \"CycloneDX\",\n  \"components\": [\n    {\n      \"bom-ref\": \"path+file:///w/a#0.1.0\",\n      \"name\": \"a\",\n      \"purl\": \"pkg:cargo/a@0.1.0?download_url=file%3A%2F%2F%2Fw%2Fa\",\n      \"scope\": \"required\",\n      \"type\": \"library\",\n      \"version\": \"0.1.0\"\n    }\n  ],\n  \"dependencies\": [\n    {\n      \"dependsOn\": [],\n      \"ref\": \"path+file:///w/a#0.1.0\"\n    }\n  ],\n  \"specVersion\": \"1.5\",\n  \"version\": 1\n}\n",
     ),
+    // a name with what divides the parts of a package url
+    (
+        "sbom < a?vcs_url=y#z / members a?vcs_url=y#z",
+        "{\n  \"$schema\": \"http://cyclonedx.org/schema/bom-1.5.schema.json\",\n  \"bomFormat\": \"CycloneDX\",\n  \"components\": [\n    {\n      \"bom-ref\": \"path+file:///w/a?vcs_url=y#z#0.1.0\",\n      \"name\": \"a?vcs_url=y#z\",\n      \"purl\": \"pkg:cargo/a%3Fvcs_url%3Dy%23z@0.1.0?download_url=file%3A%2F%2F%2Fw%2Fa%3Fvcs_url%3Dy%23z\",\n      \"scope\": \"required\",\n      \"type\": \"library\",\n      \"version\": \"0.1.0\"\n    }\n  ],\n  \"dependencies\": [\n    {\n      \"dependsOn\": [],\n      \"ref\": \"path+file:///w/a?vcs_url=y#z#0.1.0\"\n    }\n  ],\n  \"specVersion\": \"1.5\",\n  \"version\": 1\n}\n",
+    ),
 ];
 
 /// The drawn graph, and what its queries answer.

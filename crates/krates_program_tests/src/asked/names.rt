@@ -161,6 +161,18 @@ const WORDS: &[Row] = &[
         "error: '--cfg <FILE>' stands more often than '--target <TRIPLE>': each file describes the target in its place\n\nFor more information, try '--help'.\n",
     ),
     (
+        "list --target=@words",
+        "error: invalid value '@words' for '--target <TRIPLE>': it can't begin with '@' or '-'\n\nFor more information, try '--help'.\n",
+    ),
+    (
+        "list --target x --target=-vV",
+        "error: invalid value '-vV' for '--target <TRIPLE>': it can't begin with '@' or '-'\n\nFor more information, try '--help'.\n",
+    ),
+    (
+        "list --max-bytes x",
+        "error: invalid value 'x' for '--max-bytes <BYTES>': invalid digit found in string\n\nFor more information, try '--help'.\n",
+    ),
+    (
         "list --locked --metadata F",
         "error: the argument '--locked' cannot be used with '--metadata <FILE>'\n\nUsage: cargo krates list --locked\n\nFor more information, try '--help'.\n",
     ),
@@ -188,7 +200,11 @@ const CARGO: &[Row] = &[
     ),
     (
         "why b --manifest-path /w/a/Cargo.toml",
-        "metadata --format-version 1 --manifest-path Cargo.toml",
+        "metadata --format-version 1 --manifest-path /w/a/Cargo.toml",
+    ),
+    (
+        "why b --manifest-path a/Cargo.toml --locked",
+        "metadata --format-version 1 --manifest-path a/Cargo.toml --locked",
     ),
 ];
 

@@ -1,0 +1,35 @@
+//! Answers, as text for people and as JSON for scripts.
+
+use crate::lines::Lines;
+use serde_json::Value;
+use std::alloc::{AllocError, Global};
+
+/// An answer that is printed. Each form is complete, and the only error is running out of memory.
+pub trait Answer {
+    /// Adds the lines that people read.
+    fn push_lines(&self, lines: &mut Lines) -> Result<(), AllocError>;
+
+    /// The value that scripts read.
+    fn json(&self, alloc: Global) -> Result<Value, AllocError>;
+}
+
+/// What is printed of an answer: its lines, or its JSON, indented, as one value with a line break after it. Time: that of the form.
+pub fn printed<T: Answer>(alloc: Global, answer: &T, is_json: bool) -> Result<String, AllocError> {
+    if is_json {
+        return pretty(alloc, answer.json(alloc));
+    }
+    let mut lines = Lines::new(alloc);
+    answer.push_lines(&mut lines)?;
+    lines.whole()
+}
+
+/// The indented text of a value, with a line break after it, if there was memory to make the value.
+pub(crate) fn pretty(
+    alloc: Global,
+    value: Result<Value, AllocError>,
+) -> Result<String, AllocError> {
+    let value = value?;
+    let mut text = value.to_string_pretty(alloc)?;
+    text.push_str("\n")?;
+    Ok(text)
+}
