@@ -3,6 +3,7 @@
 
     scripts/docs.py WORD [--check]
     scripts/docs.py readme --compile
+    scripts/docs.py examples --compile
 
 The word is one of these. With --check nothing is written; it may be left out where a word only checks.
 
@@ -10,8 +11,11 @@ The word is one of these. With --check nothing is written; it may be left out wh
                 whether the page is what it would write
     readme      says whether the examples of README.md and docs/GUIDE.md are in code that the gate runs, or with
                 --compile whether each of them compiles unchanged, in a minute
+    examples    says whether what README.md and docs/GUIDE.md show of the programs is what these print, if
+                scripts/try_tests.sh has compiled them, or with --compile in any case
     contracts   writes docs/CONTRACTS.md, the public calls with their contracts; the check says whether the page is
                 what it would write
+    sizes       writes the table of sizes into docs/MEASURED.md; the check says whether it is what it would write
     definitions lists the names of docs/DEFINITIONS.md that no definition has
     untested    lists the public calls that no worked example shows
     links       lists the links of the pages that lead nowhere
@@ -24,10 +28,10 @@ what is checked, and 1 otherwise.
 """
 import sys
 
-from docs import believed, contracts, definitions, links, pictures, readme, untested
+from docs import believed, contracts, definitions, examples, links, pictures, readme, sizes, untested
 from krates_sources import wrong_words
 
-CHECKS = (believed, readme, contracts, definitions, untested, links, pictures)
+CHECKS = (believed, readme, examples, contracts, sizes, definitions, untested, links, pictures)
 MODULES = {it.__name__.rpartition(".")[2]: it for it in CHECKS}
 
 

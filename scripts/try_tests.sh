@@ -3,81 +3,75 @@
 #
 #     scripts/try_tests.sh [CRATE..]
 #
-# Without a name: those of all crates. A program is run on its stdin with its args beside the files of data/, and has to write its stdout and to end with status 0.
-# As many crates are tried side by side as there are processors, each by scripts/try_tests/crate.sh.
+# Without a name: those of all crates, as many side by side as there are processors, each by scripts/try_tests/crate.sh. What is compiled is kept in
+# out/tried, so that a crate isn't compiled again while it and those below it, the toolchain and these scripts are as they were.
 #
-# Prints each test and program that failed, with what it said, and what is said of a crate whose tests didn't run; last how many passed, failed
-# and weren't run. The status is 0 where all were run and passed, and there was one.
+# Prints a line as each crate ends: how many of its tests passed and failed, how many weren't run, and the seconds since the start; above it what those
+# said that failed, or why not all were run; a program is one test. The last line is of all crates. The status is 0 where all were run and passed,
+# and there was one, 2 where a word is wrong or `rt` isn't there, and 1 otherwise.
 
 set -euo pipefail
 cd "$(dirname "$0")/.."
-room=$(mktemp -d)
-trap 'rm -rf "$room"' EXIT
+. scripts/words.sh
+want rt
 
-# Prints each line of these folders at which a test or a program begins, with its file.
-begins() {
-    grep -rsE '^ *#\[test\]|^fn main\(' "$@" --include=*.rt || true
+# Prints how many tests a crate has; its program is one.
+count() {
+    local tests
+    tests=$(grep -rsE '^ *#\[test\]' "crates/$1/src" --include=*.rt | wc -l)
+    [ ! -f "crates/$1/src/main.rt" ] || tests=$((tests + 1))
+    echo "$tests"
 }
 
 # The crates that have some, those of the most tests first.
 crates=("$@")
 if [ ${#crates[@]} -eq 0 ]; then
-    mapfile -t crates < <(begins crates/*/src | cut -d/ -f2 | sort | uniq -c | sort -rn | awk '{print $2}')
+    mapfile -t crates < <(for it in crates/*; do echo "$(count "${it#*/}") ${it#*/}"; done | sort -rn | sed '/^0 /d; s/.* //')
 fi
-
 for crate in "${crates[@]}"; do
-    if [ -z "$(begins "crates/$crate/src")" ]; then
+    if [ "$(count "$crate")" -eq 0 ]; then
         echo "$crate: there is no such crate, or it has no tests and is no program" >&2
         exit 2
     fi
 done
 
-# Runs the program that a crate is, and reports it as a test is reported.
-try_program() {
-    local words=() data=() file status=0
-    [ ! -f args ] || mapfile -t words < args
-    for file in data/*; do
-        [ ! -f "$file" ] || data+=(--data "${file#data/}=$file")
-    done
-    ../../scripts/try_tests/crate.sh "${data[@]}" -- "${words[@]}" < "$([ -f stdin ] && echo stdin || echo /dev/null)" > "$2.out" 2> "$2.err" || status=$?
-    if [ "$status" -eq 0 ] && cmp -s "$2.out" "$([ -f stdout ] && echo stdout || echo /dev/null)"; then
-        echo "test $1 ... ok"
-    else
-        echo "test $1 ... FAILED"
-        diff "$2.out" stdout | head -5
-        tail -3 "$2.err"
-    fi
-    echo "test result: "
-}
-
-# Runs the program that a crate is, and its tests.
-try_one() {
-    cd "crates/$1"
-    [ ! -f src/main.rt ] || try_program "$1" "$2/$1"
-    grep -rqE '^ *#\[test\]' src --include=*.rt && ../../scripts/try_tests/crate.sh --test 2>&1
-}
-export -f try_program try_one
-printf '%s\n' "${crates[@]}" | xargs -P "$(nproc)" -I{} bash -c 'try_one "$1" "$2" > "$2/$1" || true' _ {} "$room"
-
-passed=0 failed=0 wanted=0
-for crate in "${crates[@]}"; do
-    counts=$(awk -v crate="$crate" '
+# Prints what is to be said of a crate's tests, of which there are so many: the words are the crate, their count and the seconds.
+judge() {
+    awk -v crate="$1" -v wanted="$2" -v seconds="$3" '
         function ended() {
-            if (name != "") { failed++; print crate ": " said > "/dev/stderr" }
+            if (name != "") { failed++; print crate ": " said }
             name = ""
         }
         { all = all $0 "\n" }
         /^test .* \.\.\. / { ended(); if (/ok$/) passed++; else { name = $2; said = $0 }; next }
-        /^test result: / { ended(); told = 1; next }
+        /^test result: / { ended(); next }
         name != "" { said = said "\n" $0 }
         END {
             ended()
-            if (!told) printf "%s: not all run\n%s", crate, all > "/dev/stderr"
-            print passed + 0, failed + 0
+            if (passed + failed < wanted) printf "%s: not all run\n%s", crate, all
+            printf "%s: %d passed, %d failed, %d not run (%d s)\n", crate, passed, failed, wanted - passed - failed, seconds
         }
-    ' "$room/$crate")
-    read -r good bad <<< "$counts"
-    passed=$((passed + good)) failed=$((failed + bad)) wanted=$((wanted + $(begins "crates/$crate/src" | wc -l)))
-done
-echo "$passed passed, $failed failed, $((wanted - passed - failed)) not run"
-[ "$passed" -eq "$wanted" ] && [ "$passed" -gt 0 ]
+    '
+}
+
+# Runs those of a crate.
+try_one() {
+    local told
+    told=$(cd "crates/$1" && ../../scripts/try_tests/crate.sh "$kept" 2>&1) || true
+    # what is said of one crate stays together
+    judge "$1" "$(count "$1")" $(($(date +%s) - began)) <<< "$told" | flock "$kept" cat
+}
+export -f count judge try_one
+began=$(date +%s) kept=$PWD/out/tried
+export began kept
+mkdir -p "$kept"
+echo "crates to try: ${#crates[@]}, $(nproc) side by side, in minutes where they are compiled first"
+
+printf '%s\n' "${crates[@]}" | xargs -P "$(nproc)" -I{} bash -c 'try_one "$1"' _ {} | awk -v crates="${#crates[@]}" '
+    { print; fflush() }
+    / passed, .* failed, .* not run \([0-9]* s\)$/ { crates--; passed += $2; failed += $4; left += $6 }
+    END {
+        printf "%d passed, %d failed, %d not run\n", passed, failed, left
+        exit crates || failed || left || !passed
+    }
+'

@@ -43,7 +43,7 @@ def dead(page):
 
 def check():
     """Whether every link leads somewhere; prints those that don't."""
-    pages = sorted(ROOT.glob("*.md")) + sorted((ROOT / "docs").glob("*.md"))
+    pages = [page for folder in (".", "docs", "examples") for page in sorted((ROOT / folder).glob("*.md"))]
     found = [f"{page.relative_to(ROOT)}: {link}" for page in pages for link in dead(page)]
     for line in found:
         print(line, file=sys.stderr)

@@ -1,8 +1,8 @@
 """Says whether the examples of the README and the guide are code that the gate runs, and whether they compile.
 
-Each block of Rattle's code in README.md and in docs/GUIDE.md has to be, line by line, in a file readme.rt of a crate
-of worked examples: in one piece, except for what it imports, which the file has to import too, and for lines of
-comment.
+Each block of Rattle's code in README.md and in docs/GUIDE.md has to be, line by line, in a file readme.rt or
+readme_program.rt of a crate of worked examples: in one piece, except for what it imports, which the file has to import
+too, and for lines of comment.
 A block of Rust's code (```rs) has to be so in a program of bindings/rust/examples, which its tests compile.
 
 To compile those of Rattle, each block is a module of its own, word by word, of a crate of tests in a copy of the
@@ -18,11 +18,11 @@ import tempfile
 from krates_sources import ROOT, copy_tree
 
 PAGES = ("README.md", "docs/GUIDE.md")
-FILES = {"rust": "crates/*_tests/src/readme.rt", "rs": "bindings/rust/examples/*.rs"}
+FILES = {"rust": "crates/*_tests/src/readme*.rt", "rs": "bindings/rust/examples/*.rs"}
 
 # The crate whose modules are the blocks, what its line in crates.txt names, and its root file.
 NAME = "page_blocks"
-USES = "krates serde_json"
+USES = "krates serde_json anyhow"
 HEAD = """//! The blocks of the pages, each a module of its own.
 #![tactic(auto)]
 

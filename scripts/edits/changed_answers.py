@@ -142,7 +142,7 @@ def is_refused(crate, room, is_compiled):
     how = {"cwd": room / "crates" / crate, "capture_output": True, "text": True, "errors": "replace"}
     if is_compiled:
         subprocess.run(["rt", "fmt"], **how, check=True)
-    ran = subprocess.run(["rt", "test"] if is_compiled else [ROOT / "scripts/try_tests/crate.sh", "--test"], **how)
+    ran = subprocess.run(["rt", "test"] if is_compiled else [ROOT / "scripts/try_tests/crate.sh"], **how)
     said = {test: (kind, " ".join(more.split())) for test, kind, more in SAID.findall(ran.stdout + ran.stderr)}
     for test, table in found.items():
         kind, more = said.get(test, ("not run", ""))

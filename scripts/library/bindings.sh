@@ -29,7 +29,9 @@ echo "bindings/out/libkrates_c.a: $(stat -c %s "$out/libkrates_c.a") bytes"
 
 (cd bindings/rust && cargo test --offline --quiet)
 cargo metadata --format-version 1 --offline --locked --manifest-path bindings/rust/tests/workspace/Cargo.toml > "$out/workspace.json"
-documents=(crates/krates_list/stdin crates/krates_check/data/document.json "$out/workspace.json" scripts/documents/*/metadata.json)
+# ids with a commit, which is no part of what they name: a damaged certificate may have another
+sed 's|path+file:///w/\([a-z]\)#0.1.0|\1 0.1.0 (git+https://example.org/\1#0123456789abcdef0123456789abcdef01234567)|g' crates/krates_list/stdin > "$out/commits.json"
+documents=(crates/krates_list/stdin crates/krates_check/data/document.json "$out/commits.json" "$out/workspace.json" scripts/documents/*/metadata.json)
 
 # Compiles a program of bindings/c with these files and words.
 compile() {

@@ -10,24 +10,8 @@ mkdir -p "$1"
 target=$(cd "$1" && pwd)
 cd "$(dirname "$0")/../.."
 
-# The crates of this repository that the line of a crate names.
-named_by() {
-    sed -n "s/^$1://p" crates.txt | tr ' ' '\n' | while read -r name; do
-        if [ -n "$name" ] && [ -d "crates/$name" ]; then echo "$name"; fi
-    done
-}
-
-# The crate, and all that it needs, each once.
-declare -A seen=()
-found=()
-visit() {
-    [ -z "${seen[$1]:-}" ] || return 0
-    seen[$1]=1
-    local name
-    for name in $(named_by "$1"); do visit "$name"; done
-    found+=("$1")
-}
-visit krates
+. scripts/crates_below.sh
+mapfile -t found < <(crates_below krates)
 
 touch "$target/crates.txt"
 for name in "${found[@]}"; do

@@ -1,60 +1,50 @@
 #!/usr/bin/env bash
-# Does what `rt try` does in a crate's folder, in half of the time, and runs tests that start their own program too.
+# Compiles and runs the tests of the crate in this folder without a proof, and the program that it is.
 #
-#     ../../scripts/try_tests/crate.sh [WORD..]
+#     ../../scripts/try_tests/crate.sh [FOLDER]
 #
-# Takes the words of `rt try`, prints what it prints, and ends with its status. `rt` runs over links to the toolchain, which stays as it is; a few
-# of them are files of their own.
+# What is compiled is kept in FOLDER, and isn't compiled again where it would be the same; without a folder it isn't kept. The program is run on its
+# stdin with its args beside the files of data/, and has to write its stdout and to end with status 0. Each runs without an environment.
+#
+# Prints a line for each test, which ends in `ok` or `FAILED`, and what it said if it failed; the program is a test by the name of the crate. Before
+# or in place of these lines comes why something can't be compiled.
 
 set -euo pipefail
+here=$(dirname "$(realpath "$0")")
 kit=$(dirname "$(dirname "$(realpath "$(command -v rt)")")")
-own=$(mktemp -d)
-trap 'rm -rf "$own"' EXIT
+crate=$(basename "$PWD")
+room=$(mktemp -d)
+trap 'rm -rf "$room"' EXIT
+folder=${1:-$room}
+# a test that fails on purpose leaves no picture of its memory
+ulimit -c 0
 
-for it in "$kit"/*; do
-    case ${it##*/} in
-        bin | c | toolchain) cp -rs "$it" "$own" ;;
-        *) ln -s "$it" "$own" ;;
-    esac
-done
-# `rt` looks for its toolchain beside itself, after following links.
-cp --remove-destination "$kit"/bin/{rt,rtlib.py} "$own/bin"
-
-# Replaces a link by a file of its own.
-put() {
-    rm "$own/$1"
-    cat > "$own/$1"
-    chmod +x "$own/$1"
+# Runs the program, and reports it as a test is reported.
+try_program() {
+    local words=() status=0 program=$1
+    [ ! -f args ] || mapfile -t words < args
+    mkdir "$room/data"
+    if [ -d data ]; then cp -r data/. "$room/data"; fi
+    cp "$([ -f stdin ] && echo stdin || echo /dev/null)" "$room/in"
+    cp "$([ -f stdout ] && echo stdout || echo /dev/null)" "$room/wanted"
+    (cd "$room/data" && env -i timeout 120 "$program" "${words[@]}" < "$room/in" > "$room/out" 2> "$room/err") || status=$?
+    if [ "$status" -eq 0 ] && cmp -s "$room/out" "$room/wanted"; then
+        echo "test $crate ... ok"
+    else
+        echo "test $crate ... FAILED"
+        echo "its status is $status"
+        diff "$room/out" "$room/wanted" | head -5
+        tail -3 "$room/err"
+    fi
 }
 
-# `rt try` has the checker look for names that a check refuses, which takes as long as everything else. The gate refuses them.
-put bin/rattle <<< '#!/usr/bin/env bash'
-
-# `rt try` runs an unproved program by a loader, so a program that asks for its own path gets the loader's. It also has each access to memory
-# checked, which reserves more addresses than a process gets that a test starts with little memory. Here the loader starts the program by its
-# own path, the linker takes the toolchain's loader, and those checks are left out. Any other fault, such as an index out of bounds, fails the test
-# as before, but its line isn't reported.
-start_by_path() {
-    # Its words are two options, one with a folder, and then those of the program.
-    put toolchain/lib/ld-linux-x86-64.so.2 <<'FILE'
-#!/usr/bin/env bash
-exec "${@:4}"
-FILE
-    put toolchain/bin/ld.lld <<FILE
-#!/usr/bin/env bash
-exec "$kit/toolchain/bin/ld.lld" "\${@/#"$own"/"$kit"}"
-FILE
-    put toolchain/bin/clang <<FILE
-#!/usr/bin/env bash
-for word; do
-    shift
-    [ "\$word" = -fsanitize=address ] || set -- "\$@" "\$word"
-done
-exec "$kit/toolchain/bin/clang" "\$@"
-FILE
-    # An archive with nothing in it.
-    put c/asan.a <<< '!<arch>'
-}
-if grep -rqsw current_exe src --include=*.rt; then start_by_path; fi
-
-"$own/bin/rt" try "$@"
+if [ -f src/main.rt ]; then
+    if program=$("$here/kept.sh" tried "$folder"); then try_program "$program"; else echo "$program"; fi
+fi
+if grep -rqE '^ *#\[test\]' src --include=*.rt; then
+    if tests=$("$here/kept.sh" tests "$folder"); then
+        cd "$room" && env -i "$kit/bin/rattle-test" --seconds 60 "$tests" 2>&1 || true
+    else
+        echo "$tests"
+    fi
+fi
