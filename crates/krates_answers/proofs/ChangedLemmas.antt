@@ -1,5 +1,5 @@
 -- The names that two maps of versions have, with the versions in both.
-use Rattle.std.proofs.Common.{◌≡◌, ◌++◌, ◌∙◌, List, [], ◌∷◌, Bool, true, false, cond, Bor, BTreeMap, Contains, Option, None, Some, All, map, filter, nat_cmp, option_map, refl, sym, ap, subst}
+use Rattle.std.proofs.Common.{◌≡◌, ◌++◌, ◌∙◌, List, [], ◌∷◌, Bool, true, false, cond, Bor, BTreeMap, Contains, Option, None, Some, map, filter, nat_cmp, option_map, sym, ap, subst}
 use Rattle.std.proofs.lemmas.List.{map-append}
 use Rattle.std.proofs.lemmas.List.Elements.{All-contains, All-contains_itself, All-weaker, filter-append}
 use Rattle.std.proofs.lemmas.Simd.{map-map}

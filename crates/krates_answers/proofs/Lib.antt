@@ -15,13 +15,19 @@ pub mod LinesBelow
 pub mod ListedNumbers
 pub mod LookedUp
 pub mod MaterialLemmas
+pub mod MeaningLemmas
+pub mod MeantLemmas
+pub mod NamingLemmas
 pub mod OneMoreGrouped
 pub mod OrderedParts
+pub mod PackageTextLemmas
 pub mod PushedNumbers
+pub mod ReadingLemmas
 pub mod Reversed
 pub mod RootLines
 pub mod SearchedNumbers
 pub mod SeveralLemmas
+pub mod TakenLemmas
 pub mod ThoseLemmas
 pub mod TreeNumbers
 pub mod TreeSoFar
@@ -33,3 +39,4 @@ pub mod UnreachableLemmas
 pub mod UseLemmas
 pub mod WaitingLines
 pub mod WalkedLists
+pub mod WordSpecificationLemmas

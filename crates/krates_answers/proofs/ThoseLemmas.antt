@@ -1,6 +1,7 @@
 -- Parts of lists by a property.
-use Rattle.std.proofs.Common.{◌≡◌, ◌↔◌, List, [], ◌∷◌, ◌++◌, map, append_assoc, sym, ap, ◌∙◌, subst}
+use Rattle.std.proofs.Common.{◌≡◌, ◌↔◌, List, [], ◌∷◌, ◌++◌, map, append_assoc, refl, inl, inr, sym, ap, ◌∙◌, subst}
 use Rattle.std.proofs.lemmas.List.{append-nil}
+use Rattle.krates_rules.proofs.Members.{Member}
 use Rattle.krates_answers.specs.Those.{AddsThose, AreThose, none, takes, leaves}
 
 pub AreThose-append : {A : Type 0} {P : A → Type 0} {all those more others : List A} → AreThose P all those → AreThose P more others → AreThose P (all ++ more) (those ++ others)
@@ -60,3 +61,41 @@ AddsThose-append {old = old} a b = record {
 -- those of one list are there already
 pub AreThose-adds : {A : Type 0} {P : A → Type 0} {all more old new : List A} → AreThose P all old → AddsThose P more old new → AreThose P (all ++ more) new
 AreThose-adds {P = P} {all = all} {more = more} before a = subst (AreThose P (all ++ more)) (sym a.appended) (AreThose-append before a.those)
+
+-- ---- by element
+
+-- a property that is the same of the elements
+pub AreThose-alike : {A : Type 0} {P Q : A → Type 0} {all those : List A} → ((x : A) → Member all x → P x ↔ Q x) → AreThose P all those → AreThose Q all those
+AreThose-alike same none = none
+AreThose-alike same (takes {x = x} p t) = takes ((same x (inl refl)).0 p) (AreThose-alike (λ y m. same y (inr m)) t)
+AreThose-alike same (leaves {x = x} n t) = leaves (λ q. n ((same x (inl refl)).1 q)) (AreThose-alike (λ y m. same y (inr m)) t)
+
+-- an element with the property is taken
+pub AreThose-has : {A : Type 0} {P : A → Type 0} {all those : List A} → AreThose P all those → (x : A) → Member all x → P x → Member those x
+AreThose-has none x among p = absurd among
+AreThose-has (takes q t) x (inl e) p = inl e
+AreThose-has (takes q t) x (inr m) p = inr (AreThose-has t x m p)
+AreThose-has {P = P} (leaves n t) x (inl e) p = absurd (n (subst P (sym e) p))
+AreThose-has (leaves n t) x (inr m) p = AreThose-has t x m p
+
+-- what is taken is an element
+pub AreThose-among : {A : Type 0} {P : A → Type 0} {all those : List A} → AreThose P all those → (x : A) → Member those x → Member all x
+AreThose-among none x taken = absurd taken
+AreThose-among (takes q t) x (inl e) = inl e
+AreThose-among (takes q t) x (inr m) = inr (AreThose-among t x m)
+AreThose-among (leaves n t) x m = inr (AreThose-among t x m)
+
+-- and has the property
+pub AreThose-holds : {A : Type 0} {P : A → Type 0} {all those : List A} → AreThose P all those → (x : A) → Member those x → P x
+AreThose-holds none x taken = absurd taken
+AreThose-holds {P = P} (takes q t) x (inl e) = subst P e q
+AreThose-holds (takes q t) x (inr m) = AreThose-holds t x m
+AreThose-holds (leaves n t) x m = AreThose-holds t x m
+
+-- there is one such part of a list
+pub AreThose-once : {A : Type 0} {P : A → Type 0} {all those others : List A} → AreThose P all those → AreThose P all others → those ≡ others
+AreThose-once none none = refl
+AreThose-once (takes {x = x} p t) (takes q u) = ap (λ xs. x ∷ xs) (AreThose-once t u)
+AreThose-once (takes p t) (leaves n u) = absurd (n p)
+AreThose-once (leaves n t) (takes q u) = absurd (n q)
+AreThose-once (leaves n t) (leaves m u) = AreThose-once t u

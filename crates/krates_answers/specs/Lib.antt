@@ -2,13 +2,16 @@ pub mod Builds
 pub mod Changed
 pub mod Difference
 pub mod Duplicates
-pub mod Fitting
 pub mod Grouped
 pub mod Labelled
 pub mod Licences
 pub mod DirectLinks
 pub mod Materials
+pub mod Meaning
+pub mod Naming
+pub mod PackageText
 pub mod Those
 pub mod Tree
 pub mod Unreachable
 pub mod CrateUses
+pub mod WordSpecification

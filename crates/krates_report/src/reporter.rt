@@ -22,7 +22,7 @@ use krates::{Builder, Kid, Krates, Metadata, Node, NodeId, OnFilter, Package, Pa
 use krates_answers::builds::Builds;
 use krates_answers::direct_links::DirectLinks;
 use krates_answers::licences::licences;
-use krates_answers::naming::{Meant, Packages};
+use krates_answers::meaning::{Meant, Packages};
 use krates_answers::unreachable::is_unreachable;
 use krates_certificate::{Certificate, CertificatePart};
 use krates_words::{Asked, Word};

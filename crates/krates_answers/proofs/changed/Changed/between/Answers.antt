@@ -5,7 +5,7 @@ use Rattle.krates_cm.proofs.CopyLemmas.{same_items}
 use Rattle.krates_queries.specs.KrateNodes.{match_view}
 use Rattle.std.specs.Option.{is_some}
 use Rattle.semver.specs.declared.Version.{Version}
-use Rattle.krates_answers.specs.Changed.{AreChanges, Change, borrowed_versions, change_view}
+use Rattle.krates_answers.specs.Changed.{AreChanges, borrowed_versions, change_view}
 use Rattle.krates_answers.specs.declared.changed.Changed.{Changed}
 use Rattle.krates_answers.proofs.ChangedLemmas.{Named, are_changes, change_of, changes_in, found_versions, is_there, one_name_more}
 use Rattle.krates_answers.proofs.changed.Changed.between.Goals as goal
