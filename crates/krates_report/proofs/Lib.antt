@@ -1,3 +1,4 @@
 pub mod BuildsWithoutIndex
+pub mod LineLemmas
 pub mod OneSetting
 pub mod OthersLemmas

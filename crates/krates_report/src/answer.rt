@@ -1,5 +1,8 @@
 //! Answers, as text for people and as JSON for scripts.
 
+ghost use Rattle.std.specs.Prelude.{◌≡◌, false, IfOk, string_bytes};
+ghost use Rattle.krates_report.specs.LineTexts.{AreShownLines};
+
 use crate::lines::Lines;
 use serde_json::Value;
 use std::alloc::{AllocError, Global};
@@ -14,7 +17,10 @@ pub trait Answer {
 }
 
 /// What is printed of an answer: its lines, or its JSON, indented, as one value with a line break after it. Time: that of the form.
-pub fn printed<T: Answer>(alloc: Global, answer: &T, is_json: bool) -> Result<String, AllocError> {
+/// The lines for people are as `Lines` shows them.
+pub fn printed<T: Answer>(alloc: Global, answer: &T, is_json: bool) -> Result<String, AllocError>
+    ensures shown { is_json ≡ false → IfOk result (λ text. ∥ AreShownLines (string_bytes text) ∥₁) }
+{
     if is_json {
         return pretty(alloc, answer.json(alloc));
     }

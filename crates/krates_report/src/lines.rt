@@ -1,6 +1,8 @@
 //! The lines of an answer.
 
 ghost use Rattle.std.specs.Prelude.{◌≡◌, false, true, [], IfErr, IfOk, Some, string_bytes};
+ghost use Rattle.krates_report.specs.LineTexts.{AreShownLines};
+ghost use Rattle.krates_text.specs.WrittenText.{held};
 
 use krates_shown::Shown;
 use krates_text::text::Text;
@@ -8,7 +10,7 @@ use std::alloc::{AllocError, Global};
 use std::fmt::Display;
 
 /// The lines of an answer for people. When a line is ended, what was written to it is shown as `Shown` shows a text; so whatever stands in a
-/// name, a path or a licence can't end the line, move the cursor or turn the direction.
+/// name, a path or a licence can't end the line, move the cursor or turn the direction. The whole answer is such lines and nothing else.
 ///
 /// A write has no error of its own: if memory runs out, `whole` reports it.
 ///
@@ -25,6 +27,7 @@ pub struct Lines {
     /// What is written of the next one, as it is.
     line: String,
     is_whole: bool,
+    ghost shown: { ∥ AreShownLines (held ended) ∥₁ },
 }
 
 impl Lines {
@@ -77,6 +80,7 @@ impl Lines {
     /// The lines that are ended. They are refused, as for lack of memory, where something couldn't be added. Time O(1).
     pub fn whole(self) -> Result<String, AllocError>
         ensures ok { IfOk result (λ text. (string_bytes text ≡ ended_of self) × (is_whole self ≡ true)) }
+        ensures shown { IfOk result (λ text. ∥ AreShownLines (string_bytes text) ∥₁) }
         ensures err { IfErr result (λ _. is_whole self ≡ false) }
     {
         if self.is_whole {
