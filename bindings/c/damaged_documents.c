@@ -139,7 +139,7 @@ static void check(struct question it, struct text certificate, struct text verdi
     it.call = CHECK;
     it.more = certificate;
     struct told told = ask(&it);
-    if (told.status != KRATES_ANSWERED || !is_verdict(told.text, verdict))
+    if (told.status != KRATES_ANSWERED || !same_text(told.text, verdict))
         fail(&it, "the certificate has another verdict");
 }
 

@@ -49,7 +49,8 @@ enum krates_status {
     KRATES_MEMORY = 9,      /* memory ran out: nothing was written */
 };
 
-/* Of 1 to 7 the room holds a text that says why, in UTF-8. Past `length` the room is always as it was. */
+/* Of 1 to 7 the room holds a text that says why: one line in UTF-8, with no line feed at its end. What others wrote is shown in it, a
+ * control character by its number, as `\u{1b}`. Past `length` the room is always as it was. */
 struct krates_answer {
     uint32_t status;
     size_t length;

@@ -116,8 +116,8 @@ static struct text longest_derivation(struct question it, const struct facts *fa
     return longest;
 }
 
-/* Starves each call about a document that has a graph: in a room that suffices by single requests, in one that lacks a byte by all
- * from one on. */
+/* Starves each call about a document that has a graph, by single requests and by all from one on: in a room that suffices, and in one that
+ * lacks a byte. */
 static void starve_all(struct text document, const char *const setting[2]) {
     static struct facts facts;
     struct text options = text_of(setting[0]), none = text_of("");
@@ -139,8 +139,10 @@ static void starve_all(struct text document, const char *const setting[2]) {
     for (size_t i = 0; i < sizeof questions / sizeof *questions; i++) {
         refusing = NONE;
         size_t length = tell_whole(&questions[i], 0).length;
-        starve(&questions[i], length, true);
-        starve(&questions[i], length - 1, false);
+        for (size_t room = length - 1; room <= length; room++) {
+            starve(&questions[i], room, true);
+            starve(&questions[i], room, false);
+        }
     }
 }
 

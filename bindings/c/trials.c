@@ -122,30 +122,72 @@ static void put(uint8_t byte) {
     bytes[used++] = byte;
 }
 
-static void put_text(struct text it, bool is_json) {
-    if (is_json)
-        put('"');
-    for (size_t i = 0; i < it.length; i++) {
-        if (is_json && (it.at[i] < ' ' || it.at[i] == '"' || it.at[i] == '\\')) {
-            char escape[7];
-            snprintf(escape, sizeof escape, "\\u%04x", it.at[i]);
-            put_text(text_of(escape), false);
-        } else {
-            put(it.at[i]);
-        }
-    }
-    if (is_json)
-        put('"');
+static void put_bytes(struct text it) {
+    for (size_t i = 0; i < it.length; i++)
+        put(it.at[i]);
 }
 
-/* A form, with the text of its number in the place of each `$0` to `$9`: in JSON as a string. There ' stands for ". */
-static struct text filled(const char *form, bool is_json, const struct text *texts) {
+static void put_escape(const char *form, uint32_t number) {
+    char escape[16];
+    snprintf(escape, sizeof escape, form, number);
+    put_bytes(text_of(escape));
+}
+
+static void put_string(struct text it) {
+    put('"');
+    for (size_t i = 0; i < it.length; i++) {
+        if (it.at[i] < ' ' || it.at[i] == '"' || it.at[i] == '\\')
+            put_escape("\\u%04x", it.at[i]);
+        else
+            put(it.at[i]);
+    }
+    put('"');
+}
+
+/* The bytes of the first character, in UTF-8. */
+static struct text first_character(struct text it) {
+    size_t length = it.at[0] < 0x80 ? 1 : it.at[0] < 0xe0 ? 2 : it.at[0] < 0xf0 ? 3 : 4;
+    return (struct text){it.at, length < it.length ? length : it.length};
+}
+
+static uint32_t number_of(struct text character) {
+    uint32_t number = character.length == 1 ? character.at[0] : character.at[0] & (0x7f >> character.length);
+    for (size_t i = 1; i < character.length; i++)
+        number = number << 6 | (character.at[i] & 0x3f);
+    return number;
+}
+
+/* Whether the character of this number ends a line, moves the cursor or turns the direction. */
+static bool is_hidden(uint32_t number) {
+    return number < 0x20 || (number >= 0x7f && number <= 0x9f) || number == 0x61c || number == 0x200e || number == 0x200f ||
+           (number >= 0x2028 && number <= 0x202e) || (number >= 0x2066 && number <= 0x2069);
+}
+
+/* Puts a text as the library shows it. */
+static void put_shown(struct text it) {
+    while (it.length > 0) {
+        struct text character = first_character(it);
+        uint32_t number = number_of(character);
+        if (is_hidden(number) || begins_with(it, text_of("\\u{")))
+            put_escape("\\u{%x}", number);
+        else
+            put_bytes(character);
+        it = behind(it, character.length);
+    }
+}
+
+/* How a text is put into a form: as it is; as a string of JSON, where ' stands for " in the form; or as the library shows it. */
+enum manner { AS_IT_IS, AS_JSON, AS_SHOWN };
+
+/* A form, with the text of its number in the place of each `$0` to `$9`. */
+static struct text filled(const char *form, enum manner manner, const struct text *texts) {
+    static void (*const puts[])(struct text) = {put_bytes, put_string, put_shown};
     size_t start = used;
     for (; *form != '\0'; form++) {
         if (*form == '$')
-            put_text(texts[*++form - '0'], is_json);
+            puts[manner](texts[*++form - '0']);
         else
-            put(is_json && *form == '\'' ? '"' : (uint8_t)*form);
+            put(manner == AS_JSON && *form == '\'' ? '"' : (uint8_t)*form);
     }
     return (struct text){bytes + start, used - start};
 }
@@ -179,7 +221,8 @@ static struct text measured(struct text *rest) {
 static void add(struct facts *facts, const char *said, const char *written, const struct text *texts) {
     if (facts->count == sizeof facts->fact / sizeof *facts->fact)
         stop("there are too many facts");
-    facts->fact[facts->count++] = (struct fact){filled(said, false, texts), filled(written, true, texts)};
+    facts->fact[facts->count++] =
+        (struct fact){filled(said, AS_IT_IS, texts), filled(written, AS_JSON, texts), filled(said, AS_SHOWN, texts)};
 }
 
 /* A node: the name of a crate or of a feature, and the number of the crate. */
@@ -189,7 +232,7 @@ struct node {
 };
 
 static void add_kept(struct facts *facts, struct text parent, struct text child, struct text *rest) {
-    struct text kind = before(rest, " \n"), suffix = filled(" ($0)", false, &kind);
+    struct text kind = before(rest, " \n"), suffix = filled(" ($0)", AS_IT_IS, &kind);
     bool is_normal = same_text(kind, text_of("normal")), is_for_all = rest->at[-1] == '\n';
     const struct text texts[] = {parent, child, kind, is_normal ? text_of("") : suffix, is_for_all ? kind : measured(rest)};
     if (is_for_all)
@@ -251,15 +294,15 @@ static const struct fact *fact_at(const struct facts *facts, struct text it) {
 /* ---- certificates and verdicts */
 
 struct text closed_certificate(const struct facts *facts, const char *setting) {
-    struct text whole = filled("{\"kind\":\"closed\",\"setting\":[$0],\"facts\":[", false, (struct text[]){text_of(setting)});
+    struct text whole = filled("{\"kind\":\"closed\",\"setting\":[$0],\"facts\":[", AS_IT_IS, (struct text[]){text_of(setting)});
     for (size_t i = 0; i < facts->count; i++)
-        filled(i == 0 ? "$0" : ",$0", false, &facts->fact[i].written);
-    filled("]}", false, NULL);
+        filled(i == 0 ? "$0" : ",$0", AS_IT_IS, &facts->fact[i].written);
+    filled("]}", AS_IT_IS, NULL);
     return (struct text){whole.at, (size_t)(bytes + used - whole.at)};
 }
 
 struct text derivation_certificate(const struct facts *facts, const char *setting, struct text rest, size_t *steps) {
-    struct text whole = filled("{\"kind\":\"derivation\",\"setting\":[$0],\"steps\":[", false, (struct text[]){text_of(setting)});
+    struct text whole = filled("{\"kind\":\"derivation\",\"setting\":[$0],\"steps\":[", AS_IT_IS, (struct text[]){text_of(setting)});
     for (*steps = 0; rest.length > 0; ++*steps) {
         before(&rest, " ");
         before(&rest, " ");
@@ -270,9 +313,9 @@ struct text derivation_certificate(const struct facts *facts, const char *settin
         rest = behind(rest, 1 + fact->said.length);
         struct text uses = before(&rest, "\n");
         const struct text texts[] = {rule, uses.length == 0 ? uses : behind(uses, strlen(" from ")), fact->written};
-        filled(*steps == 0 ? "{\"rule\":$0,\"uses\":[$1],\"fact\":$2}" : ",{\"rule\":$0,\"uses\":[$1],\"fact\":$2}", false, texts);
+        filled(*steps == 0 ? "{\"rule\":$0,\"uses\":[$1],\"fact\":$2}" : ",{\"rule\":$0,\"uses\":[$1],\"fact\":$2}", AS_IT_IS, texts);
     }
-    filled("]}", false, NULL);
+    filled("]}", AS_IT_IS, NULL);
     return (struct text){whole.at, (size_t)(bytes + used - whole.at)};
 }
 
@@ -280,40 +323,37 @@ struct text closed_verdict(size_t crates) {
     char number[24];
     snprintf(number, sizeof number, "%zu", crates);
     const struct text texts[] = {text_of(crates == 1 ? "this" : "these"), text_of(number), text_of(crates == 1 ? "crate" : "crates")};
-    return filled("holds: nothing but $0 $1 $2 can be reached\n", false, texts);
+    return filled("holds: nothing but $0 $1 $2 can be reached\n", AS_IT_IS, texts);
 }
 
 struct text derivation_verdict(const struct facts *facts, const struct fact *last, size_t steps) {
     char number[24];
     snprintf(number, sizeof number, "%zu", steps);
-    const struct text texts[] = {last->said, text_of(number), text_of(steps == 1 ? "step" : "steps")};
-    return filled(last < facts->fact + facts->crates ? "holds: $0 is kept, $1 $2\n" : "holds: $0 follows, $1 $2\n", false, texts);
+    const struct text texts[] = {last->shown, text_of(number), text_of(steps == 1 ? "step" : "steps")};
+    return filled(last < facts->fact + facts->crates ? "holds: $0 is kept, $1 $2\n" : "holds: $0 follows, $1 $2\n", AS_IT_IS, texts);
 }
 
-/* Whether a text is printed as it is: it has no backslash, and none but the printable characters of ASCII. */
-static bool is_plain(struct text it) {
-    for (size_t i = 0; i < it.length; i++)
-        if (it.at[i] < ' ' || it.at[i] > '~' || it.at[i] == '\\')
-            return false;
-    return true;
-}
-
-bool is_verdict(struct text verdict, struct text expected) {
-    return same_text(verdict, expected) || !is_plain((struct text){expected.at, expected.length - 1});
+/* Whether it says that one of these facts follows, in as many steps as it says. */
+static bool is_of_fact(const struct facts *facts, struct text verdict) {
+    struct text fact = verdict;
+    before(&fact, " ");
+    for (size_t i = 0; i < facts->count; i++) {
+        struct text rest = fact;
+        if (!begins_with(rest, facts->fact[i].shown))
+            continue;
+        rest = behind(rest, facts->fact[i].shown.length);
+        before(&rest, ",");
+        before(&rest, " ");
+        if (same_text(verdict, derivation_verdict(facts, &facts->fact[i], number(&rest))))
+            return true;
+    }
+    return false;
 }
 
 bool is_true(const struct facts *facts, struct text verdict) {
     struct text rest = verdict;
-    before(&rest, " ");
-    const struct fact *last = fact_at(facts, rest);
-    if (last != NULL) {
-        rest = behind(rest, last->said.length);
-        before(&rest, ",");
-        before(&rest, " ");
-        return same_text(verdict, derivation_verdict(facts, last, number(&rest)));
-    }
-    for (int words = 0; words < 3; words++)
+    for (int words = 0; words < 4; words++)
         before(&rest, " ");
     size_t crates = number(&rest);
-    return same_text(verdict, closed_verdict(crates)) ? crates >= facts->crates : !is_plain((struct text){verdict.at, verdict.length - 1});
+    return is_of_fact(facts, verdict) || (crates >= facts->crates && same_text(verdict, closed_verdict(crates)));
 }

@@ -46,9 +46,10 @@ struct told tell(const struct question *it, size_t room);
 /* The same, once more where the room was too short, then with the one that is needed. */
 struct told tell_whole(const struct question *it, size_t room);
 
-/* What a graph says, each fact as the library says it, and as a certificate writes it; first that each crate is kept, in their order. */
+/* What a graph says, each fact as the library says it, as a certificate writes it, and as a verdict shows it; first that each crate is
+ * kept, in their order. */
 struct fact {
-    struct text said, written;
+    struct text said, written, shown;
 };
 
 struct facts {
@@ -71,9 +72,7 @@ struct text derivation_certificate(const struct facts *facts, const char *settin
 struct text closed_verdict(size_t crates);
 struct text derivation_verdict(const struct facts *facts, const struct fact *last, size_t steps);
 
-/* Whether a verdict is this one; and whether it is true of the document with these facts: it names one of them, or as many crates as
- * they have, or more. Where something isn't printable in ASCII, or a backslash, either is taken for so: it may be shown in another way. */
-bool is_verdict(struct text verdict, struct text expected);
+/* Whether a verdict is true of the document with these facts: it names one of them, or as many crates as they have, or more. */
 bool is_true(const struct facts *facts, struct text verdict);
 
 #endif

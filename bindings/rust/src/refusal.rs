@@ -5,6 +5,9 @@ use std::collections::TryReserveError;
 use std::fmt;
 
 /// Why there is no answer. Each is true of what was asked, except that memory may always run out; the first that is true counts.
+///
+/// What comes from a document or a certificate is shown in these texts: a control character, or one that turns the direction, by its
+/// number, as `\u{1b}`. So it can neither end a line nor move the cursor.
 #[derive(Clone, Debug, PartialEq, Eq)]
 pub enum Refusal {
     /// An option can't be meant: a specification that can't be read, a line feed in a value, or a target of which nothing is known.

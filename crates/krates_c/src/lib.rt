@@ -9,9 +9,10 @@
 //! ```
 //!
 //! Options are those of `krates-list`, one word per line, without `--cargo` and `--why`. Each call ends with a status and a length. Status 0:
-//! the answer is in the first bytes of the room, as many as the length says. 1 to 7: it is refused, and they say why. 8: there
-//! is too little room, and the length says how much is needed; nothing was written, and the call can be made again. 9: memory ran
-//! out, and nothing was written. Past the length the room is always as it was.
+//! the answer is in the first bytes of the room, as many as the length says. 1 to 7: it is refused, and they say why, in one line: a
+//! character in it that would end the line, move the cursor or turn the direction is shown by its number. 8: there is too little
+//! room, and the length says how much is needed; nothing was written, and the call can be made again. 9: memory ran out, and
+//! nothing was written. Past the length the room is always as it was.
 #![tactic(auto)]
 
 ghost use Rattle.krates_foreign.specs.Calls.{CheckRefusal, Checks, Draws, Explains, ListRefusal, Lists, WhyRefusal};

@@ -5,3 +5,4 @@ pub mod DrawnLinesLemmas
 pub mod HandingLemmas
 pub mod LawLemmas
 pub mod LineLemmas
+pub mod RefusalLemmas

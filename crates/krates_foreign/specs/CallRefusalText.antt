@@ -9,7 +9,6 @@ use Rattle.krates_ids.specs.declared.error.Error as build
 use Rattle.krates_ids.specs.declared.error.Error.TheVariants as build_errors
 use Rattle.krates_cli.specs.declared.run_error.RunError.{RunError}
 use Rattle.krates_cli.specs.declared.run_error.RunError.TheVariants as runs
-use Rattle.krates_shown.specs.Shown.{shown_text}
 use Rattle.krates_verdict.specs.declared.refusal.Refusal as verdict
 use Rattle.krates_verdict.specs.declared.refusal.Refusal.TheVariants as verdicts
 use Rattle.krates_verdict.specs.RefusalText as verdict_texts
@@ -54,6 +53,6 @@ refusal_text refusals.Id = Some (codes "the text is not a package id")
 refusal_text refusals.Utf8 = Some (codes "the document is not UTF-8")
 refusal_text (refusals.Parse cause) = cm_display.output cause
 refusal_text (refusals.Build cause) = build_display.output cause
-refusal_text (refusals.NotKept krate) = Some (codes "not kept: " ++ shown_text krate.text)
+refusal_text (refusals.NotKept krate) = Some (codes "not kept: " ++ krate.text)
 refusal_text (refusals.Certificate cause) = verdict_texts.refusal_text cause
 refusal_text refusals.Memory = Some (codes "out of memory")

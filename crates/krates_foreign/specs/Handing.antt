@@ -2,6 +2,8 @@
 use Rattle.std.specs.Prelude.{◌≡◌, ◌⊎◌, ◌++◌, ◌<◌, ◌≤◌, [], IfOk, IfSome, Ok, Err, Result, String, drop, length, string_bytes}
 use Rattle.std.specs.declared.alloc.Global.{Global}
 use Rattle.krates_cm.specs.Document.{Text}
+use Rattle.krates_shown.specs.Shown.{shown_text}
+use Rattle.krates_verdict.specs.declared.refusal.Refusal.TheVariants as verdicts
 use Rattle.krates_foreign.specs.CallRefusalText.{refusal_text}
 use Rattle.krates_foreign.specs.Status.{number_of, status_of}
 use Rattle.krates_foreign.specs.declared.handing.Answer.{Answer}
@@ -35,9 +37,18 @@ IsHanded status text answer old new = Fits status text answer old new ⊎ FitsNo
 abbrev pub Hands : (Status → Text → Type 0) → Answer → Text → Text → Type 0
 Hands MayTell answer old new = (status : Status) × (text : Text) × MayTell status text × IsHanded status text answer old new
 
--- The text of a refusal: what is printed for it, where that is stated.
-abbrev pub TellsRefusal : CallRefusal → Text → Type 0
-TellsRefusal refusal text = (refusal ≡ refusals.Memory → ⊥) × IfSome (refusal_text refusal) (λ stated. text ≡ stated)
+-- What is handed over for a refusal that prints this: what it prints, as it is shown. The words of another setting are printed as they are
+-- shown already.
+abbrev pub handed_text : CallRefusal → Text → Text
+handed_text (refusals.Certificate (verdicts.Setting claimed)) printed = printed
+handed_text _ printed = shown_text printed
+
+-- The text of a refusal.
+pub record TellsRefusal (refusal : CallRefusal) (text : Text) : Type 0 where
+  pub not_memory : refusal ≡ refusals.Memory → ⊥
+  pub printed : Text
+  pub printed_is : IfSome (refusal_text refusal) (λ stated. printed ≡ stated)
+  pub text_is : text ≡ handed_text refusal printed
 
 -- An answer, or a refusal with its status; where memory runs out, no text.
 pub data Tells (Answers : Text → Type 0) (Refuses : CallRefusal → Type 0) : Status → Text → Type 0 where

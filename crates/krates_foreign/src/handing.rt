@@ -5,6 +5,8 @@ ghost use Rattle.krates_foreign.specs.Handing.{Hands, HandsText, IsHanded, Tells
 
 use crate::refusal::CallRefusal;
 use crate::status::Status;
+use krates_shown::Shown;
+use krates_verdict::Refusal;
 use std::alloc::{AllocError, Global};
 
 /// How a call ended.
@@ -31,8 +33,8 @@ fn hand(status: Status, text: &[u8], room: &mut [u8]) -> Answer
     Answer { status, length }
 }
 
-/// Hands an answer over: its text, or what is printed for the refusal, is put at the front of the room, and after it the room is as
-/// it was. The answer has the status and the length of the text.
+/// Hands an answer over: its text, or what is printed for the refusal, as it is shown, is put at the front of the room, and after it the
+/// room is as it was. The answer has the status and the length of the text.
 ///
 /// Where the room is too short for the text, it is as it was, the status is that of `TooShort`, and the length is the room that the text
 /// needs. Memory can run out only in printing a refusal: then the room is as it was, the status is that of `Memory`, and the length 0.
@@ -59,7 +61,7 @@ fn hand_result(alloc: Global, told: &Result<String, CallRefusal>, room: &mut [u8
     }
 }
 
-/// Hands over what is printed of a refusal.
+/// Hands over the text of a refusal.
 fn hand_refusal(alloc: Global, refusal: &CallRefusal, room: &mut [u8]) -> Answer
     ensures { Hands (TellsOf (Err refusal.now)) result room.old room.new }
 {
@@ -69,12 +71,17 @@ fn hand_refusal(alloc: Global, refusal: &CallRefusal, room: &mut [u8]) -> Answer
     }
 }
 
-/// What is printed of a refusal, or nothing where memory ran out.
+/// The text of a refusal: what is printed of it, as it is shown; or nothing where memory ran out.
 fn text_of(alloc: Global, refusal: &CallRefusal) -> Result<String, AllocError>
     ensures { IfOk result (λ text. TellsRefusal refusal.now (string_bytes text)) }
 {
     match refusal {
         CallRefusal::Memory => Err(AllocError),
-        _ => refusal.to_string(alloc),
+        // the words in it are printed as they are shown already
+        CallRefusal::Certificate(Refusal::Setting { .. }) => refusal.to_string(alloc),
+        _ => {
+            let printed = refusal.to_string(alloc)?;
+            Shown(printed.as_str()).to_string(alloc)
+        }
     }
 }

@@ -1,7 +1,10 @@
-//! Laws of the calls, for all bytes. Each is the contract of a function that does nothing.
+//! Laws of the calls and of the texts of their refusals, for all bytes. Each is the contract of a function that does nothing.
 
+ghost use Rattle.std.specs.Str.{NoCharPasses};
 ghost use Rattle.krates_cm.specs.Document.{Text};
+ghost use Rattle.krates_shown.specs.Shown.{is_hidden};
 ghost use Rattle.krates_foreign.specs.Calls.{Draws, Explains, IsOutside, ListRefusal, Lists, WhyRefusal};
+ghost use Rattle.krates_foreign.specs.Handing.{TellsRefusal};
 ghost use Rattle.krates_foreign.specs.declared.refusal.CallRefusal.{CallRefusal};
 
 use krates_cli::laws as listings;
@@ -21,3 +24,9 @@ pub fn answered_or_refused()
     listings::one_command_line();
     ids::one_reading();
 }
+
+/// The text of a refusal is one line, whatever is in the document, the words and the certificate: nothing in it ends a line, moves the
+/// cursor or turns the direction.
+pub fn refused_in_one_line()
+    ensures { (refusal : CallRefusal) (text : Text) → TellsRefusal refusal text → NoCharPasses is_hidden text }
+{}

@@ -9,11 +9,11 @@ use crate::status::Status;
 use krates::cm::Error as ParseError;
 use krates::{Error as BuildError, Kid};
 use krates_cli::RunError;
-use krates_shown::Shown;
 use std::alloc::AllocError;
 use std::fmt;
 
-/// Why a call has no answer. Of several that are true the first counts, but memory may run out at each of them.
+/// Why a call has no answer. Of several that are true the first counts, but memory may run out at each of them. It prints ids as they
+/// are, and `hand_over` shows what is printed.
 #[derive(Debug, Drop, thiserror::Error)]
 pub enum CallRefusal {
     /// The words aren't UTF-8, or aren't options, or say more than a setting.
@@ -76,7 +76,7 @@ impl fmt::Display for CallRefusal {
             CallRefusal::Utf8 => f.write_str("the document is not UTF-8"),
             CallRefusal::Parse(cause) => write!(f, "{cause}"),
             CallRefusal::Build(cause) => write!(f, "{cause}"),
-            CallRefusal::NotKept(krate) => write!(f, "not kept: {}", Shown(krate.repr())),
+            CallRefusal::NotKept(krate) => write!(f, "not kept: {krate}"),
             CallRefusal::Certificate(cause) => write!(f, "{cause}"),
             CallRefusal::Memory => f.write_str("out of memory"),
         }
