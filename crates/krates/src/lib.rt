@@ -73,6 +73,7 @@ pub mod index {
 
 /// Which documents can be resolved, what is kept, and what a document answers to the questions of the rules.
 pub mod resolve {
+    pub use krates_document::crate_table::CrateTable;
     pub use krates_resolve::{
         Availability, Document, EnabledFeature, Ids, KeptEdge, Need, NodePlace, NumberedFact,
         NumberedStep, Reason, Referent, RootChoice, Selection, Setting, ToggledFeature, Work,

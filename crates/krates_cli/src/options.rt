@@ -35,11 +35,13 @@ pub struct Options {
 }
 
 /// Why words aren't read as options.
-#[derive(Debug, Drop)]
+#[derive(Debug, Drop, thiserror::Error)]
 pub enum OptionsError {
     /// A word isn't an option, an option has no value, or its value isn't a kind, a package specification or a package id.
+    #[error("the words aren't options")]
     Unknown,
     /// Memory ran out.
+    #[error("out of memory")]
     Memory,
 }
 
