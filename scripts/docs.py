@@ -11,8 +11,8 @@ The word is one of these. With --check nothing is written; it may be left out wh
                 whether the page is what it would write
     readme      says whether the examples of README.md and docs/GUIDE.md are in code that the gate runs, or with
                 --compile whether each of them compiles unchanged, in a minute
-    examples    says whether what README.md and docs/GUIDE.md show of the programs is what these print, if
-                scripts/try_tests.sh has compiled them, or with --compile in any case
+    examples    says whether what README.md and docs/GUIDE.md show of the programs is what these print, as
+                scripts/try_tests.sh compiled them, or as --compile compiles them
     contracts   writes docs/CONTRACTS.md, the public calls with their contracts; the check says whether the page is
                 what it would write
     sizes       writes the table of sizes into docs/MEASURED.md; the check says whether it is what it would write
@@ -21,7 +21,7 @@ The word is one of these. With --check nothing is written; it may be left out wh
     links       lists the links of the pages that lead nowhere
     pictures    draws docs/pictures, by Graphviz's `dot`; the check, which needs no Graphviz, says whether each
                 picture is up to date
-    all         makes every check, as the gate does
+    all         makes every check, as the gate does behind scripts/try_tests.sh
 
 The module of the word, in scripts/docs, says more. The status is 0 where a page is written, or nothing is wrong with
 what is checked, and 1 otherwise.

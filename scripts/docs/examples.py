@@ -4,8 +4,8 @@ That is each block of README.md and docs/GUIDE.md that begins with a line `$ COM
 of the page, in a folder where examples/ is, and each has to print the lines behind it, until the next command.
 
 The programs are those that scripts/try_tests.sh compiled without a proof, or those that the variables $CARGO_KRATES,
-$KRATES_CHECK and $KRATES_LIST name. With --compile they are compiled if need be, in minutes; otherwise nothing is
-compared where one is of other sources.
+$KRATES_CHECK and $KRATES_LIST name. With --compile they are compiled if need be, in minutes; otherwise the check fails
+where one is of other sources, since nothing can be compared.
 """
 import os
 import pathlib
@@ -68,12 +68,12 @@ def compare(programs):
 
 
 def check(may_compile=False):
-    """Whether every command prints what is shown, or the programs aren't there; says so then."""
+    """Whether every command prints what is shown; says what to run where the programs aren't there."""
     programs = {shown: found(crate, may_compile) for shown, crate in PROGRAMS.items()}
     if all(programs.values()):
         return compare(programs)
-    print("what the pages show of the programs isn't compared: scripts/docs.py examples --compile does so", file=sys.stderr)
-    return not may_compile
+    print("what the pages show of the programs can't be compared: first run scripts/try_tests.sh", file=sys.stderr)
+    return False
 
 
 def compile_all():

@@ -82,7 +82,7 @@ SHOWN_BY = {
     "hand_over": ("CallRefusal::status",),
     # what a word of `cargo krates` answers is made of values, which its text and its JSON show
     "Reporter::answer": (
-        "fitting duplicates lacking lost_dependencies materials is_unreachable DirectLinks::dependents"
+        "duplicates lacking lost_dependencies materials is_unreachable DirectLinks::dependents"
         " DirectLinks::dependencies DirectLinks::of DirectLinks::leads DirectLinks::tree Builds::of"
         " Builds::all Builds::agree Builds::use_of Builds::uses Packages::one Packages::any Bill::of"
         " Changed::between Difference::between Duplicates::of licences Tree::of ExplainedFeatures::of"

@@ -31,7 +31,10 @@ echo "bindings/out/libkrates_c.a: $(stat -c %s "$out/libkrates_c.a") bytes"
 cargo metadata --format-version 1 --offline --locked --manifest-path bindings/rust/tests/workspace/Cargo.toml > "$out/workspace.json"
 # ids with a commit, which is no part of what they name: a damaged certificate may have another
 sed 's|path+file:///w/\([a-z]\)#0.1.0|\1 0.1.0 (git+https://example.org/\1#0123456789abcdef0123456789abcdef01234567)|g' crates/krates_list/stdin > "$out/commits.json"
-documents=(crates/krates_list/stdin crates/krates_check/data/document.json "$out/commits.json" "$out/workspace.json" scripts/documents/*/metadata.json)
+# the same with what a verdict shows by its number, with what reads as such a number, and with a letter beyond ASCII
+sed 's|#0123456789abcdef[0-9a-f]*|#\\n\\u001b[2K\\u202e\\\\u{1b}\\u00e9|g' "$out/commits.json" > "$out/shown.json"
+documents=(crates/krates_list/stdin crates/krates_check/data/document.json "$out/commits.json" "$out/shown.json" "$out/workspace.json"
+    scripts/documents/*/metadata.json)
 
 # Compiles a program of bindings/c with these files and words.
 compile() {
