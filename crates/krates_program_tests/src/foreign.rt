@@ -228,6 +228,32 @@ const JUDGED: &[Row] = &[
     ),
 ];
 
+/// What comes from a document, an id or a certificate is shown in the text of a refusal.
+const SHOWN: &[Row] = &[
+    (
+        r"list 52 < a b|b&id=b~0.1.0~(path+file:///w/b#\n\u001b[2K) / nodes a b&id=b~0.1.0~(path+file:///w/b#\n\u001b[2K)",
+        r"5 52 lost node: b 0.1.0 (path+file:///w/b#\u{a}\u{1b}[2K)",
+    ),
+    (
+        r"graph 53 < a|b&id=b~0.1.0~(path+file:///w/b#\n\u001b[2K)|b&id=b~0.1.0~(path+file:///w/b#\n\u001b[2K)",
+        r"5 53 doubled id: b 0.1.0 (path+file:///w/b#\u{a}\u{1b}[2K)",
+    ),
+    // this text quotes nothing from the document
+    (
+        r"list 56 < a|b@x\n\u001b[2K",
+        r"4 56 failed to interpret `cargo metadata`'s json: bad version",
+    ),
+    (
+        "why 51 < a / id b 0.1.0 (path+file:///w/b#\n\u{1b}[2K)",
+        r"6 51 not kept: b 0.1.0 (path+file:///w/b#\u{a}\u{1b}[2K)",
+    ),
+    // shown once, as `krates_check` prints it
+    (
+        r#"check 53 < a / certificate {"kind":"closed","setting":["\n\u001b[2K"],"facts":[]}"#,
+        r"7 53 the certificate is of another setting: \u{a}\u{1b}[2K",
+    ),
+];
+
 const STATUSES: &[(Status, u32)] = &[
     (Status::Answered, 0),
     (Status::Words, 1),
@@ -255,5 +281,6 @@ fn calls_over_bytes(rt: HostRuntime) -> Result<(), Fail> {
     hold::<Handed>(rt.alloc(), LISTED)?;
     hold::<Handed>(rt.alloc(), EXPLAINED)?;
     hold::<Handed>(rt.alloc(), DRAWN)?;
-    hold::<Handed>(rt.alloc(), JUDGED)
+    hold::<Handed>(rt.alloc(), JUDGED)?;
+    hold::<Handed>(rt.alloc(), SHOWN)
 }
