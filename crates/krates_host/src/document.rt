@@ -1,12 +1,12 @@
 //! The documents: those of cargo, of files and of standard input.
 
-use crate::failure::{Failure, Reason};
+use crate::failure::Failure;
 use crate::inputs::{Inputs, STANDARD_INPUT, variable};
 use krates_cargo::MetadataCommand;
 use krates_cm::{Error, Metadata};
 use krates_words::{Asked, CargoWords, Input, Word};
-use std::alloc::{AllocError, Global};
-use std::process::{ExitStatus, Output};
+use std::alloc::Global;
+use std::process::Output;
 
 const WITHOUT_CARGO: &str = "; install Rust, or read a document by --metadata FILE";
 
@@ -66,21 +66,10 @@ fn of_cargo(inputs: &Inputs<'_>, words: &CargoWords) -> Result<Metadata, Failure
 
 /// The document in what cargo printed.
 fn read(alloc: Global, output: &Output) -> Result<Metadata, Failure> {
-    let is_success = output.status.success();
-    match MetadataCommand::interpret(alloc, is_success, &output.stdout, &output.stderr) {
-        Ok(document) => Ok(document),
-        Err(Error::CargoMetadata { stderr }) => Err(failed(alloc, output.status, stderr.as_str())?),
-        Err(cause) => Err(Failure::from(cause)),
+    if !output.status.success() {
+        let program = String::from_str(alloc, "cargo metadata")?;
+        return Err(Failure::of_program(alloc, program, output)?);
     }
-}
-
-/// The failure of a cargo that ended like this and wrote this to standard error.
-fn failed(alloc: Global, status: ExitStatus, stderr: &str) -> Result<Failure, AllocError> {
-    let text = stderr.trim();
-    let text = text.strip_prefix("error: ").unwrap_or(text);
-    Ok(Failure::ProgramFailed {
-        program: String::from_str(alloc, "cargo metadata")?,
-        status,
-        reason: Reason(String::from_str(alloc, text)?),
-    })
+    let found = MetadataCommand::interpret(alloc, true, &output.stdout, &output.stderr);
+    Ok(found?)
 }

@@ -3,7 +3,7 @@
 use krates_cm::Error;
 use krates_shown::{Shown, ShownValue};
 use std::alloc::{AllocError, AllocFailed, Global};
-use std::process::ExitStatus;
+use std::process::{ExitStatus, Output};
 use std::{fmt, io};
 
 /// Why there is no document, target or text. What comes from outside is printed as `Shown` shows it.
@@ -108,6 +108,22 @@ impl Failure {
             }
             _ => Failure::Memory,
         }
+    }
+
+    /// The failure of a program that ended with one. Of what it wrote to standard error, U+FFFD stands for what isn't UTF-8.
+    pub(crate) fn of_program(
+        alloc: Global,
+        program: String,
+        output: &Output,
+    ) -> Result<Failure, AllocError> {
+        let errors = String::from_utf8_lossy(alloc, &output.stderr)?;
+        let text = errors.trim();
+        let text = text.strip_prefix("error: ").unwrap_or(text);
+        Ok(Failure::ProgramFailed {
+            program,
+            status: output.status,
+            reason: Reason(String::from_str(alloc, text)?),
+        })
     }
 }
 

@@ -3,10 +3,10 @@
 ghost use Rattle.std.specs.Prelude.{◌≡◌, ◌∷◌, ◌++◌, [], IfOk, None, codes};
 ghost use Rattle.std.specs.Process.{command_args, command_dir, command_program};
 
-use crate::failure::{Failure, Reason};
+use crate::failure::Failure;
 use crate::inputs::{Inputs, text_of, variable};
 use std::alloc::{AllocError, Global};
-use std::process::{Command, ExitStatus, Output};
+use std::process::{Command, Output};
 
 const WITHOUT_RUSTC: &str =
     "; install Rust, set RUSTC to a rustc, or describe the target by --cfg FILE";
@@ -29,7 +29,7 @@ pub(crate) fn host(inputs: &Inputs<'_>) -> Result<String, Failure> {
     let mut command = version_command(inputs.alloc(), rustc.as_str())?;
     let output = inputs.printed_by(&mut command, WITHOUT_RUSTC)?;
     if !output.status.success() {
-        return Err(failed(inputs.alloc(), rustc, output.status, &output.stderr)?);
+        return Err(Failure::of_program(inputs.alloc(), rustc, &output)?);
     }
     let text = text_of(inputs.alloc(), rustc.as_str(), output.stdout)?;
     match text.lines().find_map(|line| line.strip_prefix("host: ")) {
@@ -85,23 +85,8 @@ fn refusal(
             triple: String::from_str(alloc, triple)?,
             reason: String::from_str(alloc, reason)?,
         }),
-        _ => failed(alloc, program, output.status, &output.stderr),
+        _ => Failure::of_program(alloc, program, output),
     }
-}
-
-/// The failure of a rustc that ended like this and wrote this to standard error.
-fn failed(
-    alloc: Global,
-    program: String,
-    status: ExitStatus,
-    stderr: &[u8],
-) -> Result<Failure, AllocError> {
-    let text = str::from_utf8(stderr).unwrap_or("");
-    Ok(Failure::ProgramFailed {
-        program,
-        status,
-        reason: Reason(String::from_str(alloc, text.trim())?),
-    })
 }
 
 /// The first line that begins with `error: `, without that.
