@@ -11,7 +11,7 @@
  *   - The room overlaps nothing else, and nobody else uses it until then.
  *
  * A call needs up to KRATES_STACK bytes of stack, whatever it is given: of what was measured, documents that cargo writes took 64 KiB,
- * and JSON that is nested 127 deep took 140 KiB; what is deeper is refused. On a thread that has less a call may end the process, at the
+ * and JSON that is nested 127 deep took 149 KiB; what is deeper is refused. On a thread that has less a call may end the process, at the
  * guard page of the thread's stack. The main thread mostly has 8 MiB, a thread of musl 128 KiB where nothing else is asked for.
  *
  * The options are words, one in each line: `--workspace`; `--ignore-kind` and `normal`, `build` or `dev`; `--target` and a triple;

@@ -236,6 +236,10 @@ fn lists_no_id_of_several_lines() {
         options.ignore_kind(DepKind::Dev);
         forged.pop();
     }
+    // the text of a refusal is one line
+    let refused = why(&document, Options::new().ignore_kind(DepKind::Dev), FORGED);
+    let shown = FORGED.replace('\n', "\\u{a}");
+    assert_eq!(refused, Err(Refusal::NotKept(format!("not kept: {shown}"))));
     // what the document has no graph for counts before its ids
     let refused = list(&document, Options::new().exclude(["a"]));
     assert_eq!(refused, Err(Refusal::Build("no root crates available".into())));
