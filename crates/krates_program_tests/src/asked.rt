@@ -4,6 +4,7 @@ mod documents;
 mod kept;
 mod names;
 mod reasons;
+mod shown;
 mod trees;
 
 use crate::listing::words_of;
@@ -15,7 +16,7 @@ use krates_report::{Report, ReportError, Reporter};
 use krates_samples::documents::metadata;
 use krates_samples::table::{Question, Row, hold};
 use krates_words::{Asked, Choice, asked_of};
-use std::alloc::Global;
+use std::alloc::{AllocError, Global};
 use std::test::Fail;
 
 /// The document of a line, or the real one.
@@ -72,6 +73,19 @@ pub(crate) fn answered_of(alloc: Global, line: &str) -> Result<String, Fail> {
         Ok(mut asked) => printed_of(alloc, &mut asked, documents),
         Err(error) => Ok(format!(in alloc; "{error}")?),
     }
+}
+
+/// A text with one for the other, for each of these.
+pub(crate) fn replaced(
+    alloc: Global,
+    text: &str,
+    pairs: &[(&str, &str)],
+) -> Result<String, AllocError> {
+    let mut text = String::from_str(alloc, text)?;
+    for &(old, new) in pairs {
+        text = text.replace(alloc, old, new)?;
+    }
+    Ok(text)
 }
 
 /// Lines that are words, with the documents after `<`.

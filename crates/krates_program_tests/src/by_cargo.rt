@@ -1,22 +1,13 @@
 //! Runs of the program over the document that a substitute for cargo writes.
 
 use krates_cli::{Counted, Options, RunError, program, run_by_cargo};
-use krates_samples::stand_in::DOCUMENT;
+use krates_samples::failures::Failures;
 use krates_samples::table::{Row, compare};
 use std::alloc::Global;
 use std::test::Fail;
 use std::{env, str};
 
-/// Writes the document after a warning, as cargo does, if words follow the name of the test.
-pub(crate) fn stand_in(rt: &HostRuntime) -> Result<(), Fail> {
-    if env::args(rt)?.nth(2).is_some() {
-        println!(rt; "a warning\n{DOCUMENT}")?;
-    }
-    Ok(())
-}
-
-/// The words of a run of the program, where `SELF` is the substitute; then the status, what it reports and what it lists; of what it reports
-/// only the beginning up to the mark.
+/// The words of a run of the program, where `SELF` is the substitute; then the status, what it reports and what it lists.
 const LISTINGS: &[Row] = &[
     (
         "--cargo SELF",
@@ -97,18 +88,13 @@ fn listing(rt: &HostRuntime, line: &str) -> Result<String, Fail> {
     listed(rt, words.as_slice())
 }
 
-/// Compares what such a run reports and lists with what is known.
-fn hold_listing(rt: &HostRuntime, line: &str, answer: &str) -> Result<(), Fail> {
-    let told = listing(rt, line)?;
-    compare(line, told.as_str(), answer)
-}
-
 #[test]
 fn listings(rt: HostRuntime) -> Result<(), Fail> {
+    let mut failures = Failures::new(rt.alloc());
     for &(line, answer) in LISTINGS {
-        hold_listing(&rt, line, answer)?;
+        failures.compare(line, listing(&rt, line), answer)?;
     }
-    Ok(())
+    failures.reported()
 }
 
 /// The lines that a run wrote, or why it is refused.

@@ -196,6 +196,11 @@ const BY_HAND: &[Row] = &[
         "{\"kind\":\"closed\",}\n",
         "refused: this is no certificate: not JSON, at line 1 column 18",
     ),
+    // behind the byte order mark stands one that holds
+    (
+        "\u{feff}{\"kind\":\"derivation\",\"setting\":[],\"steps\":[{\"fact\":{\"fact\":\"crate\",\"krate\":\"path+file:///w/a#0.1.0\"},\"rule\":1,\"uses\":[]}]}",
+        "refused: this is no certificate: not JSON, at line 1 column 1",
+    ),
 ];
 
 /// Certificates whose ids equal those of a document's packages and have other texts: the verdict has the document's.

@@ -2,6 +2,7 @@
 
 use krates_foreign::{CallRefusal, Status, check, graph, hand_over, list, why};
 use krates_samples::documents::{document, section};
+use krates_samples::failures::Failures;
 use krates_samples::table::{Question, Row, hold};
 use std::alloc::Global;
 use std::str;
@@ -9,6 +10,9 @@ use std::test::Fail;
 
 /// What isn't UTF-8.
 const NO_TEXT: &[u8] = b"\xff";
+
+/// JSON behind a byte order mark.
+const MARKED: &[u8] = b"\xef\xbb\xbf{}";
 
 /// What a line asks: the call, the length of the room, the words, and what comes after `<`.
 #[derive(Clone, Copy)]
@@ -37,6 +41,7 @@ impl<'l> Asked<'l> {
     fn bytes_of(self, name: &str) -> &'l [u8] {
         match section(self.document, name) {
             Some("no text") => NO_TEXT,
+            Some("marked") => MARKED,
             Some(text) => text.as_bytes(),
             None => b"",
         }
@@ -86,17 +91,17 @@ fn room_of(
 }
 
 /// What a call hands over: a line has the call, the length of the room and the words, and after `<` the document. Words, document, id or
-/// certificate may be `no text`, which isn't UTF-8.
+/// certificate may be `no text`, which isn't UTF-8, and document or certificate `marked`, which begins with a byte order mark.
 struct Handed;
 
 impl Question for Handed {
     fn told(alloc: Global, line: &str) -> Result<String, Fail> {
         let asked = Asked::of(line);
-        if asked.document == "no text" {
-            return asked.handed(alloc, NO_TEXT);
+        match asked.document {
+            "no text" => asked.handed(alloc, NO_TEXT),
+            "marked" => asked.handed(alloc, MARKED),
+            line => asked.handed(alloc, document(alloc, line)?.as_bytes()),
         }
-        let json = document(alloc, asked.document)?;
-        asked.handed(alloc, json.as_bytes())
     }
 }
 
@@ -132,6 +137,15 @@ const LISTED: &[Row] = &[
         "1 38 the options are not those of a setting",
     ),
     ("list 30 < no text", "3 25 the document is not UTF-8....."),
+    // a byte order mark is no JSON, and no beginning of a word
+    (
+        "list 80 < marked",
+        "4 76 failed to interpret `cargo metadata`'s json: invalid JSON at line 1 column 1....",
+    ),
+    (
+        "list 38 \u{feff}--workspace < a",
+        "1 38 the options are not those of a setting",
+    ),
     // of several faults the first counts: here that of the words
     (
         "list 38 --cargo cargo < no text",
@@ -223,6 +237,10 @@ const JUDGED: &[Row] = &[
         "7 28 the certificate is not UTF-8",
     ),
     (
+        "check 52 < a / certificate marked",
+        "7 52 this is no certificate: not JSON, at line 1 column 1",
+    ),
+    (
         "check 38 no text < a / certificate {}",
         "1 38 the options are not those of a setting",
     ),
@@ -254,25 +272,29 @@ const SHOWN: &[Row] = &[
     ),
 ];
 
-const STATUSES: &[(Status, u32)] = &[
-    (Status::Answered, 0),
-    (Status::Words, 1),
-    (Status::Id, 2),
-    (Status::Utf8, 3),
-    (Status::Parse, 4),
-    (Status::Build, 5),
-    (Status::NotKept, 6),
-    (Status::Certificate, 7),
-    (Status::TooShort, 8),
-    (Status::Memory, 9),
+const STATUSES: &[(Status, &str)] = &[
+    (Status::Answered, "0"),
+    (Status::Words, "1"),
+    (Status::Id, "2"),
+    (Status::Utf8, "3"),
+    (Status::Parse, "4"),
+    (Status::Build, "5"),
+    (Status::NotKept, "6"),
+    (Status::Certificate, "7"),
+    (Status::TooShort, "8"),
+    (Status::Memory, "9"),
 ];
 
 /// Each status by the number that other languages write.
 #[test]
-fn numbers_of_statuses(rt: HostRuntime) {
-    for (status, number) in STATUSES {
-        assert_eq!(rt; status.number(), *number);
+fn numbers_of_statuses(rt: HostRuntime) -> Result<(), Fail> {
+    let mut failures = Failures::new(rt.alloc());
+    for &(status, number) in STATUSES {
+        let line = format!(in rt.alloc(); "{status:?}")?;
+        let told = format!(in rt.alloc(); "{}", status.number())?;
+        failures.compare(line.as_str(), Ok(told), number)?;
     }
+    failures.reported()
 }
 
 /// Calls over bytes, and what they hand over.

@@ -4,9 +4,11 @@
 //! They are separate from the crate that they test, since a crate with tests is proved twice. An example is a row of a table.
 //!
 //! A test doesn't get the path of another program, so this test program acts as cargo: cargo's first word is `metadata`, and
-//! the test of this name writes the document.
+//! the test of this name writes the document. By that test it also acts as rustc, and as whoever asks.
 #![tactic(auto)]
 
+#[cfg(test)]
+mod acting;
 #[cfg(test)]
 mod asked;
 #[cfg(test)]
@@ -19,6 +21,8 @@ mod certificates;
 mod foreign;
 #[cfg(test)]
 mod hostile;
+#[cfg(test)]
+mod inputs;
 #[cfg(test)]
 mod large;
 #[cfg(test)]
@@ -37,11 +41,18 @@ mod versions;
 mod why;
 
 #[cfg(test)]
+use crate::acting::Ending;
+#[cfg(test)]
+use std::process::Abort;
+#[cfg(test)]
 use std::test::Fail;
 
-/// Acts as cargo, if words follow.
+/// Acts as another program, if words follow. This is the first word that cargo is given for a document.
 #[cfg(test)]
 #[test]
 fn metadata(rt: HostRuntime) -> Result<(), Fail> {
-    by_cargo::stand_in(&rt)
+    match acting::act(&rt)? {
+        Ending::Success => Ok(()),
+        Ending::Killed => rt.abort(),
+    }
 }

@@ -45,14 +45,14 @@ pub(crate) fn outcome<R: Read + Drop>(
 }
 
 /// What a run reports and writes; a line has its words, and after `<` the document that it reads, or the text itself, which begins
-/// with `{`.
+/// with `{` or a byte order mark.
 pub(crate) struct Listed;
 
 impl Question for Listed {
     fn told(alloc: Global, line: &str) -> Result<String, Fail> {
         let (words, line) = line.split_once('<').unwrap_or((line, ""));
         let words = words_of(alloc, words)?;
-        if line.starts_with('{') {
+        if line.starts_with('{') || line.starts_with('\u{feff}') {
             return outcome(alloc, words.as_slice(), line.as_bytes());
         }
         let json = document(alloc, line)?;
@@ -88,6 +88,11 @@ const REFUSED: &[Row] = &[
     (
         r#"<{"packages":[],"workspace_members":[],"workspace_root":"/w","target_directory":"/t"}"#,
         "1 refused: no resolution graph was provided\n|",
+    ),
+    // a byte order mark is no JSON
+    (
+        "<\u{feff}{}",
+        "1 refused: failed to interpret `cargo metadata`'s json: invalid JSON at line 1 column 1\n|",
     ),
 ];
 
