@@ -22,6 +22,8 @@ mod ids;
 #[cfg(test)]
 mod json_texts;
 #[cfg(test)]
+mod machines;
+#[cfg(test)]
 mod names;
 #[cfg(test)]
 mod packages;

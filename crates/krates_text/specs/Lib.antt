@@ -13,6 +13,7 @@ pub mod CfgView
 pub mod CfgFrames
 pub mod CfgPlaces
 pub mod CfgValue
+pub mod CfgHolding
 pub mod CfgFault
 pub mod CfgExpression
 pub mod Passing

@@ -6,6 +6,7 @@ ghost use Rattle.krates_text.specs.declared.cfg.CfgError.TheVariants.{Memory};
 
 mod expression;
 mod frame;
+mod holding;
 mod predicate;
 mod reader;
 

@@ -3,9 +3,9 @@ ghost use Rattle.std.specs.Prelude.{◌≡◌, ◌^◌, ◌<◌, IfOk, IfErr, ma
 ghost use Rattle.krates_text.specs.CfgView.{tree_of};
 ghost use Rattle.krates_text.specs.CfgValue.{count};
 
-use crate::cfg::CfgError;
 use crate::cfg::predicate::{self, Predicate};
 use crate::cfg::reader::read;
+use crate::cfg::{CfgError, holding};
 use crate::target::Target;
 use std::alloc::Global;
 
@@ -20,6 +20,7 @@ impl Expression {
     ghost use Rattle.krates_text.specs.CfgGrammar.{IsExpression};
     ghost use Rattle.krates_text.specs.CfgFault.{IsFault};
     ghost use Rattle.krates_text.specs.CfgValue.{value};
+    ghost use Rattle.krates_text.specs.CfgHolding.{value_among, pair_bytes};
     ghost use Rattle.krates_text.specs.CfgExpression.{tree};
     ghost use Rattle.krates_text.specs.TargetTable.{target_of};
 
@@ -62,5 +63,18 @@ impl Expression {
         ensures { result ≡ value (target_of target.now) (map string_bytes features.now) (tree self.now) }
     {
         predicate::eval(&self.predicate, target, features)
+    }
+
+    /// Whether the expression is true where these words and these pairs of a key and its string hold, and no others:
+    /// what `rustc --print cfg` prints of a target, with any `--cfg` that rustc is given. Time O(size × (words + pairs)).
+    ///
+    /// ```text
+    /// let words = vec![in alloc; String::from_str(alloc, "debug_assertions")?]?;
+    /// assert!(rt; Expression::parse(alloc, "cfg(debug_assertions)")?.holds(words.as_slice(), &[]));
+    /// ```
+    pub fn holds(&self, words: &[String], pairs: &[(String, String)]) -> bool
+        ensures { result ≡ value_among (map string_bytes words.now) (map pair_bytes pairs.now) (tree self.now) }
+    {
+        holding::holds(&self.predicate, words, pairs)
     }
 }

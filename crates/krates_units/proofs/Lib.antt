@@ -1,0 +1,3 @@
+pub mod RustcLines
+pub mod TargetKinds
+pub mod Holding

@@ -1,0 +1,13 @@
+pub mod Machines
+pub mod RustcLines
+pub mod MachineFaults
+pub mod BuildSetting
+pub mod BuildTargets
+pub mod AskedKinds
+pub mod BuildFacts
+pub mod FeaturesNamed
+pub mod Resolves
+pub mod Requests
+pub mod Sides
+pub mod BuildRules
+pub mod Built
