@@ -8,6 +8,8 @@
 #[cfg(test)]
 mod certificates;
 #[cfg(test)]
+mod closure;
+#[cfg(test)]
 mod correction;
 #[cfg(test)]
 mod derivation_texts;

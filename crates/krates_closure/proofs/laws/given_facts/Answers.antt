@@ -1,0 +1,5 @@
+use Rattle.krates_closure.proofs.ClosureLemmas.{Derivable-given}
+use Rattle.krates_closure.proofs.laws.given_facts.Goals as goal
+
+pub returns : goal.returns
+returns c = Derivable-given

@@ -1,0 +1,4 @@
+pub mod Clauses
+pub mod Closing
+pub mod Closure
+pub mod Marks
