@@ -181,11 +181,11 @@ enum manner { AS_IT_IS, AS_JSON, AS_SHOWN };
 
 /* A form, with the text of its number in the place of each `$0` to `$9`. */
 static struct text filled(const char *form, enum manner manner, const struct text *texts) {
-    static void (*const puts[])(struct text) = {put_bytes, put_string, put_shown};
+    static void (*const writers[])(struct text) = {put_bytes, put_string, put_shown};
     size_t start = used;
     for (; *form != '\0'; form++) {
         if (*form == '$')
-            puts[manner](texts[*++form - '0']);
+            writers[manner](texts[*++form - '0']);
         else
             put(manner == AS_JSON && *form == '\'' ? '"' : (uint8_t)*form);
     }
