@@ -6,7 +6,7 @@
 #     FOLDER     where they are put: cargo's own folder, ~/.cargo/bin, if none is given
 #     --proved   the proved ones that a gate or `rt run` left in this folder; if there are none, they are proved first, in an hour or more
 #
-# Without --proved they are compiled from the sources that the gate proves, and optimised, in two to three minutes. Nothing is proved then, and
+# Without --proved they are compiled from the sources that the gate proves, and optimised, in three to four minutes. Nothing is proved then, and
 # `cargo krates --version` says so. Nothing but the programs is left behind. It wants `rt`, the command of the Rattle toolchain.
 #
 # The status is 0 where all three are installed; otherwise none is, and it is 2 where a word is wrong or something is missing, else 1.
@@ -55,7 +55,7 @@ tell_steps() {
 # Compiles the programs side by side, each to the folder of this run.
 compile_all() {
     local name is_failed=
-    step "compiling ${programs[*]} side by side, unproved, which takes two to three minutes"
+    step "compiling ${programs[*]} side by side, unproved, which takes three to four minutes"
     mkdir "$room/copy"
     scripts/unproved/copy.sh "$room/copy"
     mkfifo "$room/steps"
