@@ -1,5 +1,5 @@
 //! Clauses over numbered facts.
-ghost use Rattle.std.specs.Prelude.{◌≡◌, ◌<◌, ◌↔◌, [], ◌∷◌, ◌++◌, All, IfOk, IsTrue, OnErr, OnOk, length, option_copied, slice_get};
+ghost use Rattle.std.specs.Prelude.{◌≡◌, ◌<◌, ◌≤◌, ◌↔◌, [], ◌∷◌, ◌++◌, All, IfOk, IsTrue, OnErr, OnOk, length, option_copied, slice_get};
 ghost use Rattle.krates_closure.specs.Clauses.{ClauseModel, ClausesModel, NamesBelow};
 
 use crate::clause_number::ClauseNumber;
@@ -97,6 +97,18 @@ impl Clauses {
         let number = ClauseNumber::new(self.list.len());
         self.list.push(Clause { premises, fact })?;
         Ok(number)
+    }
+
+    /// Lets the clauses name more facts: those whose numbers are below `size`, which isn't less than before. The clauses stay. Time O(1).
+    ///
+    /// ```text
+    /// clauses.grow(clauses.size() + 1);
+    /// ```
+    pub fn grow(&mut self, size: usize)
+        requires { self.old.size ≤ size }
+        ensures { self.new ≡ record self.old { size = size } }
+    {
+        self.size = size;
     }
 
     /// How many facts the clauses may name: those whose numbers are below this. Time O(1).
