@@ -1,3 +1,4 @@
 pub mod RustcLines
 pub mod TargetKinds
 pub mod Holding
+pub mod SameMachines

@@ -5,17 +5,8 @@ use Rattle.krates_text.specs.FeatureReference.{Reference}
 use Rattle.krates_rules.specs.Facts.{Id, Edge}
 use Rattle.krates_units.specs.Machines.{MachineModel}
 use Rattle.krates_units.specs.declared.kinds.Mode.{Mode}
-
--- how a crate is met when cargo resolves dependencies: as a root, with its dev dependencies, or as a dependency, without them
-pub data Meeting : Type 0 where
-  as_root : Meeting
-  as_dependency : Meeting
-
--- the two sets of features that a crate may have: what is for the targets uses one, what the build itself runs the other (Cargo
--- Book, "Feature resolver version 2")
-pub data Side : Type 0 where
-  for_targets : Side
-  for_host : Side
+use Rattle.krates_units.specs.declared.sides.Meeting.{Meeting}
+use Rattle.krates_units.specs.declared.sides.Side.{Side}
 
 -- what a unit is compiled for: the host, where the build itself runs it, or a machine that the build is for
 pub data Platform : Type 0 where
@@ -52,6 +43,7 @@ pub data Fact : Type 0 where
   Available : (krate : Id) (text : Text) → Fact  -- the text is an enabled feature, for a target that requires it
   -- what is compiled, and what is run
   Compiled : (unit : CompiledUnit) → Fact  -- the unit is compiled
-  Needed : (edge : Edge) (from : Platform) (library : CompiledUnit) → Fact  -- what is compiled for this platform needs the library over the edge
+  -- what is compiled for this platform needs the library, by the dependency that the edge resolves
+  Needed : (edge : Edge) (dep : DependencyModel) (from : Platform) (library : CompiledUnit) → Fact
   ScriptRun : (krate : Id) (placement : Placement) → Fact  -- the crate's build script is run for what is placed so
   ScriptCompiled : (krate : Id) (side : Side) → Fact  -- the crate's build script is compiled, for the host, with the features of this side

@@ -12,7 +12,7 @@ use Rattle.krates_rules.specs.DeclaredDependency.{declared_name}
 use Rattle.krates_rules.specs.Facts.{Id, Edge}
 use Rattle.krates_rules.specs.Features.{HasReference}
 use Rattle.krates_rules.specs.Resolved.{Resolved}
-use Rattle.krates_units.specs.BuildFacts.{Fact, Met, LinkedReference, LinkedFeature, LinkedName, Linked, Lost, Activated, ActivatedReference, ActivatedFeature, ActivatedName, Used, Available, Compiled, Needed, ScriptRun, ScriptCompiled, CompiledUnit, Meeting, as_root, as_dependency, Side, for_targets, Platform, host, machine, Placement}
+use Rattle.krates_units.specs.BuildFacts.{Fact, Met, LinkedReference, LinkedFeature, LinkedName, Linked, Lost, Activated, ActivatedReference, ActivatedFeature, ActivatedName, Used, Available, Compiled, Needed, ScriptRun, ScriptCompiled, CompiledUnit, Platform, host, machine, Placement}
 use Rattle.krates_units.specs.BuildSetting.{BuildSettingModel, machines}
 use Rattle.krates_units.specs.BuildTargets.{IsLibrary, IsLinkable, IsScript, HasTarget, HasTargetThat, AsksFor, RunsPrograms}
 use Rattle.krates_units.specs.FeaturesNamed.{NamesDependency, NamesFeatureOf}
@@ -22,6 +22,10 @@ use Rattle.krates_units.specs.Resolves.{Resolves, LacksEdge}
 use Rattle.krates_units.specs.Sides.{TakesKind, machine_of, StartsOn, Counts, Leads, LooksOn, HasFeaturesOf, host_placement, GoesTo, HasKind}
 use Rattle.krates_units.specs.declared.kinds.Mode.{Mode}
 use Rattle.krates_units.specs.declared.kinds.Mode.TheVariants as modes
+use Rattle.krates_units.specs.declared.sides.Meeting.{Meeting}
+use Rattle.krates_units.specs.declared.sides.Meeting.TheVariants as meetings
+use Rattle.krates_units.specs.declared.sides.Side.{Side}
+use Rattle.krates_units.specs.declared.sides.Side.TheVariants as sides
 
 -- a fact that is used only if the dependency is optional
 abbrev pub if_optional : DependencyModel → Fact → List Fact
@@ -37,7 +41,7 @@ unit p t mode at = record { krate = p; target = t; mode = mode; placement = at }
 
 -- what is for a machine that the build is for
 abbrev pub machine_placement : MachineModel → Placement
-machine_placement m = record { platform = machine m; side = for_targets }
+machine_placement m = record { platform = machine m; side = sides.Targets }
 
 -- the target of a selected crate is asked for, in this mode, and is placed so
 pub record IsAsked (r : Resolved) (s : BuildSettingModel) (u : CompiledUnit) : Type 0 where
@@ -59,8 +63,8 @@ pub record IsBuiltFrom (r : Resolved) (s : BuildSettingModel) (k : Platform) (e 
 pub data Rule (r : Resolved) (s : BuildSettingModel) : List Fact → Fact → Type 0 where
   -- ---- which dependencies exist (Cargo Book, "Dependency Resolution")
   -- a root is met, with what is requested of it
-  root_met : {p : Id} → IsBuildRoot r s p → Rule r s [] (Met p as_root)
-  root_linked : {p : Id} {v : Reference} → IsRequested r s p v → Rule r s [] (LinkedReference p as_root v)
+  root_met : {p : Id} → IsBuildRoot r s p → Rule r s [] (Met p meetings.Root)
+  root_linked : {p : Id} {v : Reference} → IsRequested r s p v → Rule r s [] (LinkedReference p meetings.Root v)
   -- an enabled feature lists its references; these enable features and turn dependencies on, whether weak or not
   linked_reference : {p : Id} {w : Meeting} {f : Text} {v : Reference} → HasReference r p f v
       → Rule r s (LinkedFeature p w f ∷ []) (LinkedReference p w v)
@@ -71,14 +75,14 @@ pub data Rule (r : Resolved) (s : BuildSettingModel) : List Fact → Fact → Ty
       → Rule r s (LinkedReference p w (strong c g) ∷ []) (LinkedFeature p w c)
   linked_toggled : {e : Edge} {d : DependencyModel} {w : Meeting} {v : Reference} {g : Text} → Resolves r e d → TakesKind w e.kind
       → NamesFeatureOf v (declared_name d) g
-      → Rule r s (LinkedReference e.parent w v ∷ []) (LinkedFeature e.child as_dependency g)
+      → Rule r s (LinkedReference e.parent w v ∷ []) (LinkedFeature e.child meetings.Dependency g)
   -- a crate that is met links its dependencies, optional ones if they are turned on; what is linked is met, with the features that
   -- the dependency gives
   linked : {e : Edge} {d : DependencyModel} {w : Meeting} → Resolves r e d → TakesKind w e.kind
       → Rule r s (Met e.parent w ∷ if_optional d (LinkedName e.parent w (declared_name d))) (Linked e d)
-  linked_met : {e : Edge} {d : DependencyModel} → Rule r s (Linked e d ∷ []) (Met e.child as_dependency)
+  linked_met : {e : Edge} {d : DependencyModel} → Rule r s (Linked e d ∷ []) (Met e.child meetings.Dependency)
   linked_given : {e : Edge} {d : DependencyModel} {g : Text} → GivesFeature r d e.child g
-      → Rule r s (Linked e d ∷ []) (LinkedFeature e.child as_dependency g)
+      → Rule r s (Linked e d ∷ []) (LinkedFeature e.child meetings.Dependency g)
   lost : {p : Id} {d : DependencyModel} {w : Meeting} → LacksEdge r p d → TakesKind w d.kind
       → Rule r s (Met p w ∷ if_optional d (LinkedName p w (declared_name d))) (Lost p d)
   -- ---- features of each side (Cargo Book, "Features", "Feature resolver version 2")
@@ -110,30 +114,30 @@ pub data Rule (r : Resolved) (s : BuildSettingModel) : List Fact → Fact → Ty
   toggled : {e : Edge} {d : DependencyModel} {n m : Side} {v : Reference} {g : Text} → NamesFeatureOf v (declared_name d) g
       → Leads r s n e m → Rule r s (ActivatedReference e.parent n v ∷ Used e d n ∷ []) (ActivatedFeature e.child m g)
   -- a target may require a feature of its crate, or `d/f`, one of a linked dependency (Cargo Book, "The `required-features` field")
-  available : {p : Id} {f : Text} → Rule r s (ActivatedFeature p for_targets f ∷ []) (Available p f)
+  available : {p : Id} {f : Text} → Rule r s (ActivatedFeature p sides.Targets f ∷ []) (Available p f)
   available_below : {e : Edge} {d : DependencyModel} {m : Side} {f : Text} → LooksOn r s e m
       → Rule r s (Linked e d ∷ ActivatedFeature e.child m f ∷ []) (Available e.parent (declared_name d ++ codes "/" ++ f))
   -- ---- units (Cargo Book, "Cargo Targets", "Build Scripts", "Platform specific dependencies")
   -- what is asked for is compiled, if the features are there that it requires; a library requires none
   asked_library : {u : CompiledUnit} → IsAsked r s u → IsLibrary u.target → Rule r s [] (Compiled u)
-  asked : {u : CompiledUnit} → IsAsked r s u → Rule r s (requires u.krate u.target) (Compiled u)
+  asked : {u : CompiledUnit} → IsAsked r s u → ¬ IsLibrary u.target → Rule r s (requires u.krate u.target) (Compiled u)
   -- a unit needs the libraries of its dependencies: those that pass where it runs, optional ones if they are turned on
   library_below : {u : CompiledUnit} {e : Edge} {d : DependencyModel} {l : TargetModel} {n : Side} {at : Placement}
       → e.parent ≡ u.krate → HasKind u.target u.mode e.kind → IsBuiltFrom r s u.placement.platform e l
       → HasFeaturesOf s u.placement.side n → GoesTo l u.placement at
       → Rule r s (Compiled u ∷ Linked e d ∷ if_optional d (ActivatedName e.parent n (declared_name d)))
-      (Needed e u.placement.platform (unit e.child l modes.Build at))
-  needed_library : {e : Edge} {k : Platform} {u : CompiledUnit} → Rule r s (Needed e k u ∷ []) (Compiled u)
+      (Needed e d u.placement.platform (unit e.child l modes.Build at))
+  needed_library : {e : Edge} {d : DependencyModel} {k : Platform} {u : CompiledUnit} → Rule r s (Needed e d k u ∷ []) (Compiled u)
   -- it needs its crate's library, and with its tests it may need its crate's programs
   own_library : {u : CompiledUnit} {l : TargetModel} {at : Placement} → ¬ IsLibrary u.target → HasTarget r u.krate l → IsLinkable l
       → GoesTo l u.placement at → Rule r s (Compiled u ∷ []) (Compiled (unit u.krate l modes.Build at))
   own_program : {u : CompiledUnit} {b : TargetModel} → RunsPrograms u.target u.mode → HasTarget r u.krate b → Contains b.kind Bin
       → Rule r s (Compiled u ∷ requires u.krate b)
-      (Compiled (unit u.krate b modes.Build (record { platform = u.placement.platform; side = for_targets })))
+      (Compiled (unit u.krate b modes.Build (record { platform = u.placement.platform; side = sides.Targets })))
   -- it needs a run of its crate's build script, which is compiled for the host, with the features of its crate's side
   script_run : {u : CompiledUnit} → HasTargetThat r u.krate IsScript → Rule r s (Compiled u ∷ []) (ScriptRun u.krate u.placement)
   script_compiled : {p : Id} {at : Placement} → Rule r s (ScriptRun p at ∷ []) (ScriptCompiled p at.side)
   script_below : {e : Edge} {d : DependencyModel} {l : TargetModel} {m n : Side} → e.kind ≡ Build → IsBuiltFrom r s host e l
       → HasFeaturesOf s m n
       → Rule r s (ScriptCompiled e.parent m ∷ Linked e d ∷ if_optional d (ActivatedName e.parent n (declared_name d)))
-      (Needed e host (unit e.child l modes.Build host_placement))
+      (Needed e d host (unit e.child l modes.Build host_placement))

@@ -3,10 +3,11 @@ use Rattle.std.specs.Prelude.{◌≡◌, ◌⊎◌, List, [], ◌∷◌}
 use Rattle.krates_cm.specs.Document.{Text, DependencyModel}
 use Rattle.krates_rules.specs.Facts.{Id, Edge}
 use Rattle.krates_rules.specs.Resolved.{Resolved}
-use Rattle.krates_units.specs.BuildFacts.{Fact, Lost, ActivatedFeature, Compiled, Needed, ScriptCompiled, CompiledUnit, Platform, host, Side}
+use Rattle.krates_units.specs.BuildFacts.{Fact, Lost, ActivatedFeature, Compiled, Needed, ScriptCompiled, CompiledUnit, Platform, host}
 use Rattle.krates_units.specs.BuildRules.{Rule}
 use Rattle.krates_units.specs.BuildSetting.{BuildSettingModel}
 use Rattle.krates_units.specs.Sides.{HasFeaturesOf}
+use Rattle.krates_units.specs.declared.sides.Side.{Side}
 
 -- one of a list of facts
 abbrev pub IsPremise : Fact → List Fact → Type 0
@@ -33,7 +34,7 @@ IsBuiltWith r s i k f = (n : Side) × (m : Side) × IsCompiled r s i k n × HasF
 
 -- over the edge, what cargo builds for the first platform needs what it builds for the second
 abbrev pub IsNeeded : Resolved → BuildSettingModel → Edge → Platform → Platform → Type 0
-IsNeeded r s e k l = (u : CompiledUnit) × IsDerivable r s (Needed e k u) × (u.placement.platform ≡ l)
+IsNeeded r s e k l = (d : DependencyModel) × (u : CompiledUnit) × IsDerivable r s (Needed e d k u) × (u.placement.platform ≡ l)
 
 -- the document lacks nothing that the build requires
 abbrev pub IsComplete : Resolved → BuildSettingModel → Type 0

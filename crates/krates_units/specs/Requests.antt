@@ -41,13 +41,23 @@ pub data GivesFeature (r : Resolved) (d : DependencyModel) (child : Id) : Text �
 
 -- ---- what is selected
 
--- the crate is the package of the folder of the build
-abbrev pub IsCurrent : Resolved → Id → Type 0
-IsCurrent r i = (t : Text) × (r.graph.root ≡ Some t) × ReadsAs t i
+-- the crate is the package of the folder of the build, which is a member
+pub record IsCurrent (r : Resolved) (i : Id) : Type 0 where
+  pub text : Text
+  pub root : r.graph.root ≡ Some text
+  pub id : ReadsAs text i
+  pub member : IsMember r i
 
--- the crate is a default member: a document that doesn't say has the package of the folder, or else all members
+-- one of these texts is read as the crate
+pub record IsReadAmong (texts : List Text) (i : Id) : Type 0 where
+  pub text : Text
+  pub among : Contains texts text
+  pub id : ReadsAs text i
+
+-- The crate is a default member. A document that doesn't say has the package of the folder, or else all members. One that names
+-- none has none: cargo then builds nothing, and refuses.
 pub data IsDefaultMember (r : Resolved) (i : Id) : Type 0 where
-  written : {ids : List Text} {t : Text} → r.metadata.workspace_default_members ≡ Some ids → Contains ids t → ReadsAs t i
+  written : {ids : List Text} → r.metadata.workspace_default_members ≡ Some ids → IsReadAmong ids i → IsMember r i
       → IsDefaultMember r i
   current : r.metadata.workspace_default_members ≡ None → IsCurrent r i → IsDefaultMember r i
   member : r.metadata.workspace_default_members ≡ None → r.graph.root ≡ None → IsMember r i → IsDefaultMember r i

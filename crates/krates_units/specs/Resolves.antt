@@ -22,8 +22,10 @@ pub data IsCalled (r : Resolved) (child : Id) (d : DependencyModel) : Text → T
       → IsNameOf called t.name → IsCalled r child d called
 
 -- The declared dependency is resolved by the edge: the parent's node lists it, for the same kind and target text, under the name
--- by which code calls it, and its child is of the declared name and of a version that the requirement allows.
+-- by which code calls it, and its child has a package, is of the declared name and of a version that the requirement allows.
 pub record Resolves (r : Resolved) (e : Edge) (d : DependencyModel) : Type 0 where
+  pub pkg : PackageModel
+  pub has_package : HasPackage r e.child pkg
   pub declared : HasDeclared r e.parent d
   pub dep : NodeDepModel
   pub lists : ListsEdge r e dep

@@ -11,7 +11,7 @@ use crate::setting::TargetFlags;
 use krates_cm::{Target, TargetKind};
 
 /// How a target is compiled.
-#[derive(Clone, Copy, Debug, PartialEq, Eq)]
+#[derive(Clone, Copy, Debug, PartialEq, Eq, PartialOrd, Ord)]
 pub enum Mode {
     /// As itself.
     Build,

@@ -8,7 +8,9 @@ pub mod laws;
 mod lines;
 pub mod machine;
 pub mod setting;
+pub mod sides;
 
 pub use kinds::Mode;
 pub use machine::{Machine, MachineError};
 pub use setting::{BuildSetting, PackageSelection, Resolver, TargetFlags};
+pub use sides::{Meeting, Side};

@@ -1,7 +1,7 @@
 //! A machine that builds, or that a build is for, as rustc describes it.
 //!
 //! Source: the Cargo Book, "Platform specific dependencies".
-ghost use Rattle.std.specs.Prelude.{◌≡◌, ◌↔◌, IfOk, IfErr, IsTrue, map, option_map};
+ghost use Rattle.std.specs.Prelude.{◌≡◌, ◌↔◌, ◌&&◌, IfOk, IfErr, IsTrue, map, option_map};
 ghost use Rattle.krates_units.specs.Machines.{HoldsAt, HoldsOnSome, PassesOn, machine_view};
 ghost use Rattle.krates_units.specs.RustcLines.{IsPrinted};
 ghost use Rattle.krates_units.specs.MachineFaults.{IsFaultOf};
@@ -77,6 +77,17 @@ impl Machine {
         self.triple.as_str()
     }
 
+    /// Whether another machine is the same: it has the triple, the words and the pairs of this one, in their order. Time
+    /// O(length).
+    pub fn is_same(&self, other: &Machine) -> bool
+        ensures { IsTrue result ↔ (machine_view self.now ≡ machine_view other.now) }
+    {
+        let triple = self.triple == other.triple;
+        let words = self.words == other.words;
+        let pairs = self.pairs == other.pairs;
+        all_three(triple, words, pairs)
+    }
+
     /// Whether the target text of a dependency holds at the machine: a cfg expression if it is true where the machine's words and
     /// pairs hold and no others, and any other text if it is the triple. The only error is running out of memory. Time
     /// O(length + predicates of the expression × cfgs of the machine).
@@ -93,6 +104,13 @@ impl Machine {
             Err(CfgError::Syntax | CfgError::TooDeep) => Ok(text == self.triple.as_str()),
         }
     }
+}
+
+/// Whether all three hold.
+fn all_three(one: bool, two: bool, three: bool) -> bool
+    ensures { result ≡ (one && two && three) }
+{
+    one && two && three
 }
 
 /// Whether a dependency with this target text passes on some of these machines. One without a target text passes on any, even
