@@ -4,13 +4,29 @@ ghost use Rattle.std.specs.Prelude.{◌≡◌, length, option_map};
 ghost use Rattle.krates_cm.specs.Document.{node_view, package_view};
 ghost use Rattle.krates_questions.specs.Lookup.{IsPackageOf, resolved_view, IsNodeOf};
 ghost use Rattle.krates_questions.specs.FeatureTable.{listed_features};
+ghost use Rattle.krates_rules.specs.Admission.{IsRootId};
 ghost use Rattle.krates_rules.specs.Resolved.{id_of};
 
 use crate::questions::Document;
-use krates_cm::{Node, Package};
+use krates_cm::{Metadata, Node, Package};
 use krates_ids::Kid;
 
 impl<'a> Document<'a> {
+    /// The document itself. Time O(1).
+    pub fn metadata(&self) -> &'a Metadata
+        ensures { result.now ≡ self.now.metadata.now }
+    {
+        self.lookup.metadata
+    }
+
+    /// The id of the graph's root; none where it has no root. Time O(1).
+    pub fn graph_root(&self) -> Option<&'a Kid>
+        ensures { IsRootId (resolved_view self.now).graph.root (option_map (λ root. root.now) result) }
+    {
+        self.agrees();
+        self.lookup.ids.root.as_ref()
+    }
+
     /// The package of a crate; none where the document has none. It is found by binary search. Time O(log n) in the crates.
     pub fn package_of(&self, krate: &Kid) -> Option<&'a Package>
         ensures { IsPackageOf (resolved_view self.now) (id_of krate.now) (option_map
