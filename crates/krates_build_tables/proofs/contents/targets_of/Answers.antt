@@ -1,0 +1,14 @@
+use Rattle.std.proofs.Common.{map, sym, ap}
+use Rattle.krates_cm.specs.Document.{target_view, package_view}
+use Rattle.krates_questions.specs.Lookup.{resolved_view}
+use Rattle.krates_rules.specs.Resolved.{id_of}
+use Rattle.krates_build_tables.proofs.PackageContents.{targets_here, no_targets}
+use Rattle.krates_build_tables.proofs.contents.targets_of.Goals as goal
+
+pub returns-in-Some : goal.returns-in-Some
+returns-in-Some c =
+    targets_here (resolved_view c.args.document.now) (id_of c.args.krate.now) (package_view c.in-Some.pkg.now) (map target_view c.deref.result.now) c.agrees.ensures.distinct c.in-Some.ensures
+    (ap (map target_view) (sym c.deref.ensures.value))
+
+pub returns-in-None : goal.returns-in-None
+returns-in-None c = no_targets (resolved_view c.args.document.now) (id_of c.args.krate.now) c.in-None.ensures

@@ -1,0 +1,26 @@
+//! What a document and a build say to the rules of what cargo builds, as tables in which each side condition is decided.
+#![tactic(auto)]
+
+mod contents;
+mod features;
+mod fitting;
+mod given;
+mod lacking;
+mod links;
+mod machines;
+mod package_names;
+mod pairs;
+mod pushing;
+pub mod reference;
+mod requests;
+mod roots;
+mod selection;
+mod sides;
+pub mod tables;
+pub mod tables_of;
+mod taken;
+mod targets;
+mod texts;
+
+pub use reference::FeatureReference;
+pub use tables::{CrateEntry, Lacking, Link, LinkPlace, Tables, TargetEntry, TargetPlace};
