@@ -1,0 +1,11 @@
+use Rattle.std.proofs.Common.{[], ◌∷◌, map, take}
+use Rattle.krates_units.specs.declared.sides.Meeting.TheVariants as meetings
+use Rattle.krates_grounding.specs.FactModels.{Linked, LinkedFeature}
+use Rattle.krates_grounding.specs.Grounding.{HasWritten}
+use Rattle.krates_grounding.specs.Rows.{rule}
+use Rattle.krates_grounding.proofs.linking_rows.write_given.Given as goal
+
+-- those of the features so far are written
+abbrev pub invariant-loop-feature : goal.invariant-loop-feature
+invariant-loop-feature l =
+    HasWritten l.initial.ground l.ground (map (λ g. rule (Linked l.fn.place ∷ []) (LinkedFeature l.link.child meetings.Dependency g.now)) (take l.feature-index l.link.given.items))
