@@ -1,0 +1,7 @@
+//! Worked examples of what cargo builds, reckoned by hand from the Cargo Book.
+#![tactic(auto)]
+
+#[cfg(test)]
+mod builds;
+#[cfg(test)]
+mod tables;
