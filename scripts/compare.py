@@ -3,6 +3,8 @@
 
     scripts/compare.py WORD [FOLDER]
     scripts/compare.py certificates [FOLDER [COUNT]]
+    scripts/compare.py built FOLDER
+    scripts/compare.py cargo WORKSPACE [WORD..]
 
 A document is FOLDER/NAME/metadata.json, which may be compressed, as metadata.json.gz. Where no folder is given, the
 documents are the two small ones of scripts/documents. The word is one of these:
@@ -15,17 +17,20 @@ documents are the two small ones of scripts/documents. The word is one of these:
     written        what is read of a document that was read and written with what was read of it at first
     certificates   the certificates that cargo-krates writes, and COUNT damaged ones (1,000 where none is given), with
                    what krates-check says of them
+    built          what built-units derives about builds with the unit graphs of cargo, which FOLDER has in files of its own
+    cargo          what built-units derives about a build of WORKSPACE that the words of `cargo build` ask for, with what the installed
+                   cargo would build
 
 The module of the word, in scripts/compare, says more. The programs are those that `rt run` builds in
-crates/krates_list, crates/cargo_krates and crates/krates_check, or $KRATES_LIST, $CARGO_KRATES and $KRATES_CHECK;
-`written` makes its own.
+crates/krates_list, crates/cargo_krates, crates/krates_check and crates/built_units, or $KRATES_LIST, $CARGO_KRATES,
+$KRATES_CHECK and $BUILT_UNITS; `written` makes its own.
 
 The status is 0 where nothing differs and something was compared, 1 where not, and 2 where a program isn't there.
 """
 import pathlib
 import sys
 
-from compare import certificates, expected, queries, why, words, written
+from compare import built, cargo, certificates, expected, queries, why, words, written
 from compare.programs import is_there, program
 from krates_sources import ROOT, wrong_words
 
@@ -38,6 +43,8 @@ WORDS = {
     "words": (words.compare, ["cargo_krates"]),
     "written": (written.compare, []),
     "certificates": (certificates.compare, ["cargo_krates", "krates_check"]),
+    "built": (built.compare, ["built_units"]),
+    "cargo": (cargo.compare, ["built_units"]),
 }
 
 
@@ -45,8 +52,8 @@ def main(given):
     """Does what the words ask, and returns the status."""
     word, rest = (given or [""])[0], given[1:]
     folder = pathlib.Path(rest[0]) if rest else ROOT / "scripts" / "documents"
-    counts = [int(count) for count in rest[1:] if count.isdecimal()]
-    is_short = len(rest) < 2 or (word == "certificates" and len(rest) == 2 and counts)
+    more = rest[1:] if word == "cargo" else [int(count) for count in rest[1:] if count.isdecimal()]
+    is_short = len(rest) < 2 or word == "cargo" or (word == "certificates" and len(rest) == 2 and more)
     if word not in WORDS:
         return wrong_words(__doc__, f"no such word: {word}" if word else "a word is missing")
     if not is_short:
@@ -58,7 +65,7 @@ def main(given):
         if not is_there(crate):
             print(f"there is no program {program(crate)}: run 'rt run < stdin' in crates/{crate}", file=sys.stderr)
             return 2
-    return 0 if compare(folder, *counts) else 1
+    return 0 if compare(folder, *more) else 1
 
 
 if __name__ == "__main__":

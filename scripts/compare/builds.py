@@ -1,0 +1,97 @@
+"""What built-units derives about a build, beside the unit graph that cargo prints for it.
+
+Compared are the units, each with its features, and from which package an edge leads to which other, and the platforms at both
+ends. Edges between two runs of build scripts aren't compared, since `links` makes them, of which the rules say nothing.
+"""
+import collections
+import json
+
+from compare.programs import run
+
+SHOWN = 10
+
+
+class Build:
+    """What is asked of cargo, and what the program derives about it."""
+
+    def __init__(self, asked, words, document):
+        """Runs the program; `asked` is the resolver, the folder with what rustc says of machines, and the host."""
+        self.resolver, self.words, self.document = str(asked[0]), words, document
+        self.status, out, self.said = run("built_units", [*(str(word) for word in asked), *words], document)
+        self.facts = collections.defaultdict(list)
+        for line in out.splitlines():
+            word, *rest = line.split("\t")
+            self.facts[word].append(rest)
+
+    def platform(self, text):
+        """A platform, as cargo tells it: without `--target` everything is for the host."""
+        return text if "--target" in self.words else "host"
+
+    def features(self):
+        """The features of each package, by side."""
+        found = collections.defaultdict(list)
+        for krate, side, feature in self.facts["feature"]:
+            found[krate, side].append(feature)
+        return found
+
+    def scripts(self):
+        """The kinds and the name of the build script of each package that has one."""
+        scripts = {}
+        for package in json.loads(self.document)["packages"]:
+            for target in package["targets"]:
+                if "custom-build" in target["kind"]:
+                    scripts.setdefault(package["id"], ("+".join(target["kind"]), target["name"]))
+        return scripts
+
+    def units(self):
+        """The units that are derived: package, kinds, name, mode, platform and features."""
+        features, scripts = self.features(), self.scripts()
+
+        def on(krate, side):
+            return tuple(sorted(features[krate, "targets" if self.resolver == "1" else side]))
+
+        units = {(krate, kinds, name, mode, self.platform(platform), on(krate, side))
+                 for krate, kinds, name, mode, platform, side in self.facts["unit"]}
+        units |= {(krate, *scripts[krate], "run-custom-build", self.platform(platform), on(krate, side))
+                  for krate, platform, side in self.facts["run"]}
+        return units | {(krate, *scripts[krate], "build", "host", on(krate, side))
+                        for krate, side, _ in self.facts["script"]}
+
+    def edges(self):
+        """The edges that are derived: package and platform, at both ends."""
+        edges = {(one, self.platform(here), other, self.platform(there)) for one, here, other, there in self.facts["needed"]}
+        return {edge for edge in edges if edge[0] != edge[2]}
+
+    def differences(self, graph):
+        """What only one of the program and a unit graph has, or that the program derives nothing."""
+        if self.status:
+            return [f"status {self.status}: {self.said.strip()}"]
+        if self.facts["lost"]:
+            return [f"lost here: {self.facts['lost'][0]}"]
+        units, edges = printed(graph)
+        return differing("unit", units, self.units()) + differing("edge", edges, self.edges())
+
+
+def printed(graph):
+    """The units and the edges of a unit graph."""
+    units, edges = json.loads(graph)["units"], set()
+    for unit in units:
+        for dep in unit["dependencies"]:
+            other = units[dep["index"]]
+            are_runs = unit["mode"] == other["mode"] == "run-custom-build"
+            if unit["pkg_id"] != other["pkg_id"] and not are_runs:
+                edges.add((unit["pkg_id"], unit["platform"] or "host", other["pkg_id"], other["platform"] or "host"))
+    return {shown(unit) for unit in units}, edges
+
+
+def shown(unit):
+    """A unit that cargo printed, as derived ones are."""
+    target = unit["target"]
+    kinds = "+".join(target["kind"])
+    return unit["pkg_id"], kinds, target["name"], unit["mode"], unit["platform"] or "host", tuple(sorted(unit["features"]))
+
+
+def differing(what, of_cargo, derived):
+    """What only cargo has, and what only the program has."""
+    return ([f"only cargo has the {what} {it}" for it in sorted(of_cargo - derived)]
+            + [f"only the program has the {what} {it}" for it in sorted(derived - of_cargo)])
