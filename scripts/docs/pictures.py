@@ -31,7 +31,7 @@ ROOMS = {
     ),
     "checkers": ("#fdeaea", ["krates_derive", "krates_checkers", "krates_certificate", "krates_verdict"]),
     "the graph": ("#e6f6f6", ["krates_drawing", "krates_queries", "krates"]),
-    "what cargo builds": ("#fdf3d8", ["krates_closure", "krates_units"]),
+    "what cargo builds": ("#fdf3d8", ["krates_closure", "krates_units", "krates_build_tables", "krates_grounding"]),
     "programs": (
         "#eceff1",
         [
@@ -44,7 +44,7 @@ ROOMS = {
 
 def shown(name):
     """Whether a crate is more than tests, or what only tests use."""
-    return not name.endswith("_tests") and name not in {"krates_samples", "fake_cargo"}
+    return not name.endswith("_tests") and name not in {"krates_samples", "fake_cargo", "built_units"}
 
 
 def reaches(uses, start):

@@ -22,10 +22,12 @@ TOGETHER = {
         "krates_check",
     ),
     "samples and tests": (
+        "built_units",
         "fake_cargo",
         "krates_samples",
         "krates_basic_tests",
         "krates_build_tests",
+        "krates_built_tests",
         "krates_program_tests",
     ),
 }

@@ -49,7 +49,7 @@ SHOWN_BY = {
     "Document::is_open": (
         "Document::node_place child_place Document::crate_number node_number child_number_at"
     ).split(),
-    "Document::is_root": ("Document::is_member", "is_root_member", "is_same"),
+    "Document::is_root": ("Document::is_member", "is_root_member"),
     "Document::lists": ("Document::feature_number", "features_at", "listed_feature"),
     "Document::values": ("values_at",),
     # a certificate is judged under a choice's setting, beside the words that mean it
@@ -59,12 +59,13 @@ SHOWN_BY = {
     "Document::referent": ("is_library_rename",),
     "Document::referents": ("referents_of",),
     "Document::roots": ("Document::root_choice",),
+    # what follows is that of clauses, which may name more facts as they are written
+    "Derived::of": ("Clauses::grow",),
     # a selection is made of what a document has
     "select": (
         "select_in Context::exclusions Context::availability_at Work::new Work::count_krate"
         " Work::count_feature Reason::by_nothing Reason::by_one Reason::by_two put_krate enable toggle"
-        " Document::packages Document::nodes Document::node_ids Document::crate_ids Document::feature_count Document::agrees"
-        ""
+        " Document::packages Document::nodes Document::node_ids Document::feature_count Document::agrees"
         " expand expand_entry links_of Links::kept Links::is_asked Links::let_wait kept_edges kept_features"
         " kept_toggled KeptTables::crate_at KeptTables::new"
     ).split(),
