@@ -61,6 +61,18 @@ const STEPS: &[Row] = &[
     ("6 6>5; 6", ">6; 6 6>5"),
 ];
 
+/// Clauses, and a fact; the steps that derive it, or `none`. What isn't needed for it isn't among them.
+const DERIVATIONS: &[Row] = &[
+    ("7: 7", ">7"),
+    ("7: 6", "none"),
+    ("0>1; 1>2; 0: 1", ">0; 0>1"),
+    ("0>1; 1>2; 0: 2", ">0; 0>1; 1>2"),
+    ("0>1; 0>2; 0; 2>3: 3", ">0; 0>2; 2>3"),
+    ("2 1 0>3; 0 1>2; 0>1; 0: 3", ">0; 0>1; 0 1>2; 2 1 0>3"),
+    ("0>1; 1>0: 0", "none"),
+    ("6 6>5; 6; 7: 5", ">6; 6 6>5"),
+];
+
 /// Numbers of facts, and whether clauses may name all of them.
 const NAMED: &[Row] = &[
     ("", "true"),
@@ -164,6 +176,26 @@ impl Tell for Steps {
     }
 }
 
+/// The steps that derive one fact.
+struct Derivation;
+
+impl Tell for Derivation {
+    fn tell(told: &mut Text, line: &str) -> Result<(), Fail> {
+        let alloc = told.allocator();
+        let (line, fact) = line.split_once(": ").unwrap_or((line, ""));
+        let closure = Closure::of(alloc, clauses_in(alloc, line)?)?;
+        let Some(steps) = closure.derivation(alloc, FactNumber::new(fact.parse()?))? else {
+            told.push_str("none");
+            return Ok(());
+        };
+        for &step in &steps {
+            let clause = closure.clauses().clause(step).ok_or("no such clause")?;
+            push_step(told, clause);
+        }
+        Ok(())
+    }
+}
+
 /// Whether clauses over ten facts may name the facts with these numbers.
 struct Named;
 
@@ -200,6 +232,7 @@ impl Tell for Chain {
 fn what_is_derivable_holds_by_steps(rt: HostRuntime) -> Result<(), Fail> {
     hold::<Holding>(rt.alloc(), HOLD)?;
     hold::<Steps>(rt.alloc(), STEPS)?;
+    hold::<Derivation>(rt.alloc(), DERIVATIONS)?;
     hold::<Named>(rt.alloc(), NAMED)?;
     hold::<Chain>(rt.alloc(), CHAINS)
 }

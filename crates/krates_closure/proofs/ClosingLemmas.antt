@@ -18,7 +18,7 @@ use Rattle.krates_closure.proofs.ClosureLemmas.{Derivable-given, IsDerivation-pu
 -- ---- marks
 
 -- a mark stays
-stays_marked : (marks : List Bool) (fact other : ℕ) → fact < length marks → HasMark marks other → HasMark (set marks fact true) other
+pub stays_marked : (marks : List Bool) (fact other : ℕ) → fact < length marks → HasMark marks other → HasMark (set marks fact true) other
 stays_marked marks fact other inside h = elim (eqb_tells fact other) [
   | inl w ↦ rw (← w.1) (get_or-set_same marks fact true false inside)
   | inr w ↦ rw (get_or-set_other marks fact other true false (λ (same : other ≡ fact). w.1 (sym same))) h
@@ -47,7 +47,7 @@ IsMet-past marks premises place past before premise h =
 -- ---- what is found
 
 -- the clause with a number
-slice_get-clause_at : (clauses : List ClauseModel) (number : ℕ) → number < length clauses → slice_get clauses number ≡ Some (clause_at clauses number)
+pub slice_get-clause_at : (clauses : List ClauseModel) (number : ℕ) → number < length clauses → slice_get clauses number ≡ Some (clause_at clauses number)
 slice_get-clause_at clauses number within = slice_get-get_or clauses number (record { premises = []; fact = 0 }) within
 
 -- no more steps than facts

@@ -11,7 +11,7 @@ use Rattle.krates_closure.specs.Clauses.{ClauseModel}
 use Rattle.krates_closure.specs.Closure.{Derivable, by_clause, IsDerivation, MayFollow, given_by}
 
 -- what stands at a number is among all
-Contains-slice_get : {X : Type 0} (xs : List X) (number : ℕ) (x : X) → slice_get xs number ≡ Some x → Contains xs x
+pub Contains-slice_get : {X : Type 0} (xs : List X) (number : ℕ) (x : X) → slice_get xs number ≡ Some x → Contains xs x
 Contains-slice_get xs number x at = (number, slice_get_within xs number x at, get_or_from_slice_get xs number x x at)
 
 -- one more step gives the fact of its clause

@@ -1,5 +1,5 @@
 -- What follows from clauses.
-use Rattle.std.specs.Prelude.{◌≡◌, ◌↔◌, ℕ, List, Contains, Some, option_map, slice_get, take}
+use Rattle.std.specs.Prelude.{◌≡◌, ◌⊎◌, ◌↔◌, ℕ, List, Contains, Some, option_map, slice_get, take}
 use Rattle.std.specs.List.{filter_map}
 use Rattle.krates_closure.specs.Clauses.{ClauseModel, ClausesModel}
 
@@ -28,6 +28,20 @@ IsDerivation clauses steps = (place step : ℕ) → slice_get steps place ≡ So
 pub record IsClosure (clauses : List ClauseModel) (steps : List ℕ) : Type 0 where
   pub derivation : IsDerivation clauses steps
   pub exactly : (fact : ℕ) → Contains (given_by clauses steps) fact ↔ Derivable clauses fact
+
+-- the fact is a premise of the clause of a step
+pub record IsPremiseIn (clauses : List ClauseModel) (steps : List ℕ) (fact : ℕ) : Type 0 where
+  pub step : ℕ
+  pub among : Contains steps step
+  pub clause : ClauseModel
+  pub at : slice_get clauses step ≡ Some clause
+  pub premise : Contains clause.premises fact
+
+-- the steps are a derivation that gives the fact, and nothing else but what one of them needs
+pub record IsDerivationOf (clauses : List ClauseModel) (steps : List ℕ) (fact : ℕ) : Type 0 where
+  pub derivation : IsDerivation clauses steps
+  pub gives : Contains (given_by clauses steps) fact
+  pub needed : (other : ℕ) → Contains (given_by clauses steps) other → (other ≡ fact) ⊎ IsPremiseIn clauses steps other
 
 -- clauses, and the steps that derive what follows from them
 pub record ClosureModel : Type 0 where

@@ -1,12 +1,13 @@
 //! The closure of clauses.
-ghost use Rattle.std.specs.Prelude.{◌≡◌, ◌↔◌, IfOk, IsTrue};
-ghost use Rattle.krates_closure.specs.Closure.{ClosureModel, Derivable, IsClosure};
+ghost use Rattle.std.specs.Prelude.{◌≡◌, ◌↔◌, IfNone, IfOk, IfSome, IsTrue};
+ghost use Rattle.krates_closure.specs.Closure.{ClosureModel, Derivable, IsClosure, IsDerivationOf};
 ghost use Rattle.krates_closure.specs.Marks.{AreMarks};
 
 use crate::clause_number::ClauseNumber;
 use crate::clauses::Clauses;
 use crate::closing;
 use crate::fact_number::FactNumber;
+use crate::needed::needed_steps;
 use std::alloc::{AllocError, Global};
 use std::marker::Model;
 
@@ -74,6 +75,30 @@ impl Closure {
         ensures closure { IsClosure self.now.clauses.list result.now }
     {
         &self.steps
+    }
+
+    /// A derivation of one fact: what its steps give is the fact itself, or what another of them needs. `None` where the fact isn't
+    /// derivable. The only error is running out of memory. Time O(size + steps + premises).
+    ///
+    /// ```text
+    /// if let Some(steps) = closure.derivation(alloc, b)? {
+    ///     println!(rt; "b follows in {} steps", steps.len())?;
+    /// }
+    /// ```
+    pub fn derivation(
+        &self,
+        alloc: Global,
+        fact: FactNumber,
+    ) -> Result<Option<Vec<ClauseNumber>>, AllocError>
+        ensures found { IfOk result (λ found. IfSome found (λ steps.
+            IsDerivationOf self.now.clauses.list steps.items fact)) }
+        ensures none { IfOk result (λ found. IfNone found (¬ Derivable self.now.clauses.list fact)) }
+    {
+        if !self.holds(fact) {
+            return Ok(None);
+        }
+        let steps = needed_steps(alloc, &self.clauses, &self.steps, fact)?;
+        Ok(Some(steps))
     }
 
     /// The clauses, as they were given. Time O(1).

@@ -11,6 +11,7 @@ mod closing;
 pub mod closure;
 pub mod fact_number;
 pub mod laws;
+mod needed;
 
 pub use clause_number::ClauseNumber;
 pub use clauses::{Clause, Clauses};
