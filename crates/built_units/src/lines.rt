@@ -6,7 +6,7 @@ use krates_cm::TargetKind;
 use krates_grounding::{BuildFact, Derived, PlacementNumber, PlatformNumber, UnitPlace};
 use krates_questions::Document;
 use krates_shown::Shown;
-use krates_units::{BuildSetting, Mode, Side};
+use krates_units::{Mode, Side};
 use std::alloc::{AllocError, Global};
 
 /// What has the names of what facts say by numbers.
@@ -14,7 +14,6 @@ use std::alloc::{AllocError, Global};
 struct Names<'a, 'b> {
     alloc: Global,
     document: &'b Document<'a>,
-    setting: &'b BuildSetting,
     derived: &'b Derived<'a>,
 }
 
@@ -22,14 +21,12 @@ struct Names<'a, 'b> {
 pub(crate) fn lines_of<'a, 'b>(
     alloc: Global,
     document: &'b Document<'a>,
-    setting: &'b BuildSetting,
     derived: &'b Derived<'a>,
 ) -> Result<String, AllocError> {
     let facts = derived.facts(alloc)?;
     let names = Names {
         alloc,
         document,
-        setting,
         derived,
     };
     let has_lost = facts.iter().any(is_lost);
@@ -145,9 +142,9 @@ impl Names<'_, '_> {
     fn platform(&self, platform: PlatformNumber) -> Shown<'_> {
         match platform {
             PlatformNumber::Host => Shown("host"),
-            PlatformNumber::Machine(number) => match self.setting.targets.get(number) {
+            PlatformNumber::Machine(number) => match self.derived.tables().machine(number) {
                 Some(machine) => Shown(machine.triple()),
-                None => Shown(self.setting.host.triple()),
+                None => Shown(""),
             },
         }
     }

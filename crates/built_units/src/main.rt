@@ -66,7 +66,7 @@ fn built(
     if is_repeated {
         derive_again(alloc, &document, setting)?;
     }
-    Ok(lines_of(alloc, &document, setting, &derived)?)
+    Ok(lines_of(alloc, &document, &derived)?)
 }
 
 fn main(rt: HostRuntime) -> Result<(), anyhow::Error> {

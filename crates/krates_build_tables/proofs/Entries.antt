@@ -3,9 +3,9 @@ use Rattle.std.proofs.Common.{◌≡◌, ◌↔◌, ◌⊎◌, ◌≤◌, ℕ, z
 use Rattle.std.proofs.lemmas.List.{length-append, take_all, take_more}
 use Rattle.std.proofs.lemmas.Option.{slice_get-map, same_Some}
 use Rattle.std.specs.List.{AllZip, slice_get}
-use Rattle.krates_cm.specs.Document.{DependencyModel, TargetModel}
+use Rattle.krates_cm.specs.Document.{DependencyModel, PackageModel, TargetModel, target_view}
 use Rattle.krates_rules.specs.Facts.{Id, Edge}
-use Rattle.krates_rules.specs.Resolved.{Resolved}
+use Rattle.krates_rules.specs.Resolved.{Resolved, HasPackage}
 use Rattle.krates_rules.proofs.OnlyOne.{place_in}
 use Rattle.krates_rules.proofs.Readings.{left_of, right_of}
 use Rattle.krates_rules.proofs.Standings.{contains_at}
@@ -40,9 +40,18 @@ placed_push P xs y each here k x h = elim (push_cases xs y k x h) [
   | inr e ↦ rw (e.0, e.1) here
 ]
 
+-- what each element of a list makes of its own in another
+zipped_map : {A B : Type 0} {R : A → B → Type 0} (f : B → A) (xs : List A) (ys : List B) → ((x : A) (y : B) → R x y → f y ≡ x) → AllZip R xs ys → map f ys ≡ xs
+zipped_map f [] [] is zip = refl
+zipped_map f [] (y ∷ ys) is zip = absurd zip
+zipped_map f (x ∷ xs) [] is zip = absurd zip
+zipped_map f (x ∷ xs) (y ∷ ys) is zip = rw (is x y zip.0, zipped_map f xs ys is zip.1) refl
+
 pub entries_targets : (r : Resolved) (s : BuildSettingModel) (number : ℕ) (i : Id) (ts : List TargetModel) (entries : List TargetEntry)
-    → ((t : TargetModel) → (HasTarget r i t → Contains ts t) × (Contains ts t → HasTarget r i t)) → AreTargetEntries s number ts entries → AreTargetsOf r s number i entries
-entries_targets r s number i ts entries same are = record {
+    → ((t : TargetModel) → (HasTarget r i t → Contains ts t) × (Contains ts t → HasTarget r i t)) → ((p : PackageModel) → HasPackage r i p → ts ≡ p.targets)
+    → AreTargetEntries s number ts entries → AreTargetsOf r s number i entries
+entries_targets r s number i ts entries same whole are = record {
+  whole = λ p has. zipped_map (λ x. target_view x.target.now) ts entries (λ t x says. says.target) are.says ∙ whole p has;
   each = λ k x h. (
       let w = left_of (λ t x. TargetSays s x t) ts entries k x are.says h in
       (w.0, (same w.0).1 (contains_at ts k w.0 w.1), w.2));

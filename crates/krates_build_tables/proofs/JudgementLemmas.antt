@@ -1,5 +1,5 @@
 -- Lemmas of machines, and of where a dependency passes.
-use Rattle.std.proofs.Common.{◌≡◌, ◌↔◌, ◌||◌, ℕ, List, [], ◌∷◌, ◌++◌, get_or, Bool, true, false, IsTrue, Option, Some, None, Contains, Bor, not, option_map, is_some, refl, sym, ◌∙◌, subst, inl, inr, arith}
+use Rattle.std.proofs.Common.{◌≡◌, ◌↔◌, ◌||◌, ℕ, List, [], ◌∷◌, ◌++◌, get_or, take, ◌<◌, Bool, true, false, IsTrue, Option, Some, None, Contains, Bor, not, option_map, is_some, refl, sym, ◌∙◌, subst, inl, inr, arith}
 use Rattle.std.proofs.lemmas.Bool.{or_cases, or_left, or_right}
 use Rattle.std.proofs.lemmas.List.Elements.{Contains-append_left, Contains-push, Contains-push_cases}
 use Rattle.std.proofs.lemmas.Option.{get_or_from_slice_get, slice_get_within}
@@ -11,7 +11,7 @@ use Rattle.krates_rules.proofs.Standings.{contains_at}
 use Rattle.krates_units.specs.BuildSetting.{machines}
 use Rattle.krates_units.specs.Machines.{HoldsAt, HoldsOnSome, MachineModel, PassesOn}
 use Rattle.krates_build_tables.specs.Judgements.{AreJudged, IsJudged}
-use Rattle.krates_build_tables.specs.TablesOf.{HasEachOnce}
+use Rattle.krates_build_tables.specs.TablesOf.{ComeInOrder, HasEachOnce}
 use Rattle.krates_build_tables.proofs.Entries.{push_cases}
 
 only : {A : Type 0} (x y : A) → Contains (x ∷ []) y → x ≡ y
@@ -38,6 +38,30 @@ once_more xs y new once j k x h g = elim (push_cases xs y j x h) [
   | inr a ↦ elim (push_cases xs y k x g) [
     | inl b ↦ absurd (new (subst (Contains xs) a.1 (contains_at xs k x b)))
     | inr b ↦ a.0 ∙ sym b.0
+  ]
+]
+
+-- ---- lists in the order of another
+
+pub order_none : {A : Type 0} (all : List A) → ComeInOrder all []
+order_none all j k x y at_j at_k lt = absurd cc
+
+pub order_one : {A : Type 0} (all : List A) (z : A) → ComeInOrder all (z ∷ [])
+order_one all z j k x y at_j at_k lt =
+    let p = slice_get_within (z ∷ []) k y at_k in
+    absurd (omega (arith, p, lt))
+
+-- one more, that isn't yet up to a place where the others are
+pub order_more : {A : Type 0} (all ys : List A) (n : ℕ) (y : A) → ((x : A) → Contains ys x → Contains (take n all) x) → (Contains (take n all) y → ⊥)
+    → ComeInOrder all ys → ComeInOrder all (ys ++ y ∷ [])
+order_more all ys n y seen new ordered j k x z at_j at_k lt = elim (push_cases ys y k z at_k) [
+  | inl e ↦ elim (push_cases ys y j x at_j) [
+    | inl d ↦ ordered j k x z d e lt
+    | inr d ↦ (let within = slice_get_within ys k z e in absurd (omega (arith, within, d.0, lt)))
+  ]
+  | inr e ↦ elim (push_cases ys y j x at_j) [
+    | inl d ↦ (n, seen x (contains_at ys j x d), subst (λ w. Contains (take n all) w → ⊥) (sym e.1) new)
+    | inr d ↦ absurd (omega (arith, d.0, e.0, lt))
   ]
 ]
 

@@ -4,12 +4,12 @@ use Rattle.krates_cm.specs.Document.{Text}
 use Rattle.krates_rules.specs.Facts.{Id}
 use Rattle.krates_rules.specs.Resolved.{Resolved}
 use Rattle.krates_units.specs.BuildSetting.{BuildSettingModel}
-use Rattle.krates_units.specs.Machines.{MachineModel}
 use Rattle.krates_units.specs.Requests.{HasFeature, KnowsOptional}
 use Rattle.krates_units.specs.Sides.{StartsOn}
 use Rattle.krates_units.specs.declared.sides.Side.TheVariants as sides
 use Rattle.krates_build_tables.specs.Builds.{ids_in, machines_in, resolved_in, setting_in}
 use Rattle.krates_build_tables.specs.FeatureLists.{AreFeaturesOf}
+use Rattle.krates_build_tables.specs.Judgements.{lent_machines}
 use Rattle.krates_build_tables.specs.TablesOf.{AreLackingOf, AreLinksOf, AreTables, AreTargetsOf, CrateAt, CrateSays}
 use Rattle.krates_build_tables.specs.declared.links.Build.{Build}
 use Rattle.krates_build_tables.specs.declared.tables.CrateEntry.{CrateEntry}
@@ -31,7 +31,6 @@ pub record AreCrates (b : Build) (n : ℕ) (entries : List CrateEntry) : Type 0 
   pub each : (number : ℕ) (i : Id) (e : CrateEntry) → CrateAt (ids_in b) number i → slice_get entries number ≡ Some e
       → CrateSays (resolved_in b) (setting_in b) (ids_in b) (machines_in b) number i e
 
--- The tables are those of the document and the build, where the crates have these ids, by number, and the machines that the build is for
--- some order.
+-- the tables are those of the document and the build, where the crates have these ids, by number
 abbrev pub AreTablesOf : Resolved → BuildSettingModel → List Id → Tables → Type 0
-AreTablesOf r s ids t = (ms : List MachineModel) × AreTables r s ids ms t
+AreTablesOf r s ids t = AreTables r s ids (lent_machines t.machines.items) t

@@ -2,10 +2,10 @@ pub mod References
 pub mod Requests
 pub mod RequestsFlags
 pub mod RequestsTaken
+pub mod Judgements
 pub mod TablesOf
 pub mod Entries
 pub mod FeatureLists
-pub mod Judgements
 pub mod Pairs
 pub mod Builds
 pub mod CrateParts

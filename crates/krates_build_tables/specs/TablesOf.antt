@@ -1,5 +1,5 @@
 -- Which tables are those of a document and a build: each entry decides a side condition of the rules.
-use Rattle.std.specs.Prelude.{◌≡◌, ◌↔◌, ℕ, List, [], ◌∷◌, false, Option, Some, IsTrue, Contains, length, map, option_map, slice_get, slice_index_or}
+use Rattle.std.specs.Prelude.{◌≡◌, ◌↔◌, ◌<◌, ℕ, List, [], ◌∷◌, false, Option, Some, IsTrue, Contains, length, map, option_map, slice_get, slice_index_or, take}
 use Rattle.std.specs.BTreeMap.{get_by}
 use Rattle.std.specs.Cmp.Lexicographic.{slice_cmp}
 use Rattle.std.specs.Global.{Vec}
@@ -20,6 +20,7 @@ use Rattle.krates_units.specs.Sides.{Counts, Leads, LooksOn, StartsOn}
 use Rattle.krates_units.specs.declared.kinds.Mode.TheVariants as modes
 use Rattle.krates_units.specs.declared.sides.Side.{Side}
 use Rattle.krates_units.specs.declared.sides.Side.TheVariants as sides
+use Rattle.krates_build_tables.specs.Judgements.{lent_machines}
 use Rattle.krates_build_tables.specs.References.{reference_view}
 use Rattle.krates_build_tables.specs.declared.reference.FeatureReference.{FeatureReference}
 use Rattle.krates_build_tables.specs.declared.tables.CrateEntry.{CrateEntry}
@@ -35,6 +36,14 @@ CrateAt ids number i = slice_get ids number ≡ Some i
 -- the list has no element twice
 abbrev pub HasEachOnce : {A : Type 0} → List A → Type 0
 HasEachOnce {A} xs = (j k : ℕ) (x : A) → slice_get xs j ≡ Some x → slice_get xs k ≡ Some x → j ≡ k
+
+-- from the beginning of the list to some place there is the first element, and the second isn't yet
+abbrev pub ComesBefore : {A : Type 0} → List A → A → A → Type 0
+ComesBefore xs x y = (n : ℕ) × Contains (take n xs) x × ¬ Contains (take n xs) y
+
+-- the elements of the second list come in the order in which they first stand in the first
+abbrev pub ComeInOrder : {A : Type 0} → List A → List A → Type 0
+ComeInOrder {A} xs ys = (j k : ℕ) (x y : A) → slice_get ys j ≡ Some x → slice_get ys k ≡ Some y → j < k → ComesBefore xs x y
 
 -- ---- links
 
@@ -102,8 +111,9 @@ pub record TargetSays (s : BuildSettingModel) (x : TargetEntry) (t : TargetModel
   pub asked_with_tests : IsTrue x.is_asked_with_tests ↔ AsksFor s.kinds t modes.Test
   pub required : map (λ text. text.now) x.required.items ≡ t.required_features
 
--- these are the targets of the crate
+-- these are the targets of the crate, in the order of its package
 pub record AreTargetsOf (r : Resolved) (s : BuildSettingModel) (number : ℕ) (i : Id) (targets : List TargetEntry) : Type 0 where
+  pub whole : (p : PackageModel) → HasPackage r i p → map (λ x. target_view x.target.now) targets ≡ p.targets
   pub each : (k : ℕ) (x : TargetEntry) → slice_get targets k ≡ Some x → (t : TargetModel) × HasTarget r i t × TargetSays s x t
   pub places : (k : ℕ) (x : TargetEntry) → slice_get targets k ≡ Some x → x.place ≡ record { krate = number; index = k }
   pub all : (t : TargetModel) → HasTarget r i t → (k : ℕ) × (x : TargetEntry) × (slice_get targets k ≡ Some x) × TargetSays s x t
@@ -130,12 +140,14 @@ pub record CrateSays (r : Resolved) (s : BuildSettingModel) (ids : List Id) (ms 
 
 -- ---- the tables
 
--- The tables are those of the document and the build, where the crates have these ids, by number, and the build is for these machines.
+-- The tables are those of the document and the build, where the crates have these ids, and the machines that the build is for are these,
+-- by number.
 pub record AreTables (r : Resolved) (s : BuildSettingModel) (ids : List Id) (ms : List MachineModel) (t : Tables) : Type 0 where
   pub first : IsTrue t.is_first ↔ IsFirst s.resolver
   pub machines_are : (m : MachineModel) → Contains (machines s.host s.targets) m ↔ Contains ms m
   pub machines_once : HasEachOnce ms
-  pub machine_count : t.machine_count ≡ length ms
+  pub machines_in_order : ComeInOrder (machines s.host s.targets) ms
+  pub machines_told : lent_machines t.machines.items ≡ ms
   pub ids_once : HasEachOnce ids
   pub packages : (i : Id) (p : PackageModel) → HasPackage r i p → (number : ℕ) × CrateAt ids number i
   pub roots : (i : Id) → IsBuildRoot r s i → (number : ℕ) × CrateAt ids number i

@@ -1,9 +1,9 @@
 //! What the package of a crate has.
 
-ghost use Rattle.std.specs.Prelude.{◌↔◌, Contains, map};
-ghost use Rattle.krates_cm.specs.Document.{DependencyModel, TargetModel, dependency_view, target_view};
+ghost use Rattle.std.specs.Prelude.{◌≡◌, ◌↔◌, Contains, map};
+ghost use Rattle.krates_cm.specs.Document.{DependencyModel, PackageModel, TargetModel, dependency_view, target_view};
 ghost use Rattle.krates_questions.specs.Lookup.{resolved_view};
-ghost use Rattle.krates_rules.specs.Resolved.{id_of};
+ghost use Rattle.krates_rules.specs.Resolved.{HasPackage, id_of};
 ghost use Rattle.krates_units.specs.BuildTargets.{HasTarget};
 ghost use Rattle.krates_units.specs.Resolves.{HasDeclared};
 
@@ -13,8 +13,10 @@ use krates_questions::Document;
 
 /// The targets of a crate's package, in the order of the document; none where it has no package. Time O(log n) in the crates.
 pub(crate) fn targets_of<'a>(document: &Document<'a>, krate: &Kid) -> &'a [Target]
-    ensures { (t : TargetModel) → HasTarget (resolved_view document.now) (id_of krate.now) t
+    ensures has { (t : TargetModel) → HasTarget (resolved_view document.now) (id_of krate.now) t
         ↔ Contains (map target_view result.now) t }
+    ensures whole { (p : PackageModel) → HasPackage (resolved_view document.now) (id_of krate.now) p
+        → map target_view result.now ≡ p.targets }
 {
     document.agrees();
     match document.package_of(krate) {

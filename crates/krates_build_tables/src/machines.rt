@@ -4,12 +4,12 @@ ghost use Rattle.std.specs.Prelude.{◌≡◌, ◌↔◌, ◌||◌, [], ◌∷�
 ghost use Rattle.krates_units.specs.BuildSetting.{build_setting_view, machines};
 ghost use Rattle.krates_units.specs.Machines.{MachineModel, PassesOn, machine_view};
 ghost use Rattle.krates_build_tables.specs.Judgements.{AreJudged, IsPassing, lent_machines};
-ghost use Rattle.krates_build_tables.specs.TablesOf.{HasEachOnce};
+ghost use Rattle.krates_build_tables.specs.TablesOf.{ComeInOrder, HasEachOnce};
 
 use krates_units::{BuildSetting, Machine};
 use std::alloc::{AllocError, Global};
 
-/// The machines that a build is for, each once.
+/// The machines that a build is for, each once, in the order in which they are asked for first.
 pub(crate) fn distinct_machines<'a>(
     alloc: Global,
     setting: &'a BuildSetting,
@@ -18,6 +18,8 @@ pub(crate) fn distinct_machines<'a>(
         IfOk result (λ all. (m : MachineModel) → Contains (machines s.host s.targets) m
         ↔ Contains (lent_machines all.items) m) }
     ensures once { IfOk result (λ all. HasEachOnce (lent_machines all.items)) }
+    ensures in_order { let s = build_setting_view setting.now in
+        IfOk result (λ all. ComeInOrder (machines s.host s.targets) (lent_machines all.items)) }
 {
     if setting.targets.is_empty() {
         alone(alloc, &setting.host)
@@ -35,11 +37,13 @@ fn alone<'a>(alloc: Global, machine: &'a Machine) -> Result<Vec<&'a Machine>, Al
     Ok(all)
 }
 
-/// These machines, each once.
+/// These machines, each once, where it first stands.
 fn each_once<'a>(alloc: Global, machines: &'a [Machine]) -> Result<Vec<&'a Machine>, AllocError>
     ensures same { IfOk result (λ all. (m : MachineModel)
         → Contains (map machine_view machines.now) m ↔ Contains (lent_machines all.items) m) }
     ensures once { IfOk result (λ all. HasEachOnce (lent_machines all.items)) }
+    ensures in_order { IfOk result (λ all.
+        ComeInOrder (map machine_view machines.now) (lent_machines all.items)) }
 {
     let mut all = Vec::new(alloc);
     for machine in machines {

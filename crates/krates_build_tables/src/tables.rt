@@ -3,7 +3,7 @@ ghost use Rattle.std.specs.Prelude.{◌≡◌, option_copied, slice_get};
 
 use crate::reference::FeatureReference;
 use krates_cm::{Dependency, DependencyKind, Target};
-use krates_units::Side;
+use krates_units::{Machine, Side};
 use std::collections::BTreeMap;
 
 /// Where a link is: the number of the crate that has the dependency, and the place among its links.
@@ -29,8 +29,8 @@ pub struct TargetPlace {
 pub struct Tables<'a> {
     /// Whether the first resolver is asked for.
     pub is_first: bool,
-    /// How many machines the build is for.
-    pub machine_count: usize,
+    /// The machines that the build is for, each at its number: each once, in the order in which they were asked for first.
+    pub machines: Vec<&'a Machine>,
     /// The crates of the document, each at its number: in the order of their ids.
     pub crates: Vec<CrateEntry<'a>>,
 }
@@ -147,6 +147,13 @@ impl<'a> Tables<'a> {
         ensures { option_copied result ≡ slice_get self.now.crates.items number }
     {
         self.crates.get(number)
+    }
+
+    /// The machine with that number; `None` where there is none. Time O(1).
+    pub fn machine(&self, number: usize) -> Option<&'a Machine>
+        ensures { result ≡ slice_get self.now.machines.items number }
+    {
+        self.machines.get(number).copied()
     }
 }
 

@@ -50,7 +50,7 @@ pub fn tables_of<'a>(
     let crates = crates_of(alloc, &build, &requests)?;
     Ok(Tables {
         is_first: !is_later(setting),
-        machine_count: distinct.len(),
+        machines: distinct,
         crates,
     })
 }

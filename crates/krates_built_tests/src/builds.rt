@@ -51,6 +51,11 @@ pub(crate) const BUILT: &[Row] = &[
         "a b&on=cfg(windows)|b / targets a:bin b:lib / build 2 target=linux target=windows",
         "a Bin@linux, a Bin@windows, b Lib@windows, ",
     ),
+    // a machine that is asked for again is one all the same, and they come in the order in which they were asked for first
+    (
+        "a / targets a:bin / build 2 target=windows target=linux target=windows",
+        "a Bin@windows, a Bin@linux, ",
+    ),
     // that of a build dependency at the host
     (
         "a b&build&on=cfg(windows)|b / targets a:bin,custom-build b:lib / build 2 target=windows",
@@ -192,7 +197,7 @@ fn add_targets(
 }
 
 /// The document of a line, with the targets of its packages; its default members are those that cargo chooses by itself.
-fn document_of(alloc: Global, line: &str) -> Result<Metadata, Fail> {
+pub(crate) fn document_of(alloc: Global, line: &str) -> Result<Metadata, Fail> {
     let mut metadata = documents::metadata(alloc, line)?;
     metadata.workspace_default_members = WorkspaceDefaultMembers(None);
     let targets = documents::section(line, "targets ").unwrap_or("");
@@ -234,7 +239,7 @@ fn read_word(alloc: Global, setting: &mut BuildSetting, word: &str) -> Result<()
 }
 
 /// What the section `build` of a line asks for.
-fn setting_of(alloc: Global, line: &str) -> Result<BuildSetting, Fail> {
+pub(crate) fn setting_of(alloc: Global, line: &str) -> Result<BuildSetting, Fail> {
     let mut setting = BuildSetting {
         resolver: Resolver::V2,
         host: machine_of(alloc, "linux")?,
@@ -263,7 +268,6 @@ fn setting_of(alloc: Global, line: &str) -> Result<BuildSetting, Fail> {
 #[derive(Clone, Copy)]
 struct Told<'a, 's> {
     document: &'s Document<'a>,
-    setting: &'s BuildSetting,
     tables: &'s Tables<'a>,
 }
 
@@ -280,8 +284,8 @@ fn push_platform(told: &mut Text, of: Told<'_, '_>, platform: PlatformNumber) {
     match platform {
         PlatformNumber::Host => told.push_str("@host"),
         PlatformNumber::Machine(number) => {
-            let machine = of.setting.targets.get(number).unwrap_or(&of.setting.host);
-            write!(told, "@{}", machine.triple());
+            let triple = of.tables.machine(number).map_or("", |it| it.triple());
+            write!(told, "@{triple}");
         }
     }
 }
@@ -404,7 +408,6 @@ fn push_built(told: &mut Text, line: &str, shown: Shown) -> Result<(), Fail> {
     facts.sort()?;
     let of = Told {
         document: &document,
-        setting: &setting,
         tables: derived.tables(),
     };
     push_facts(told, of, &facts, shown);

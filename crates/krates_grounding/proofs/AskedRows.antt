@@ -24,7 +24,7 @@ use Rattle.krates_build_tables.specs.declared.tables.CrateEntry.{CrateEntry}
 use Rattle.krates_build_tables.specs.declared.tables.Tables.{Tables}
 use Rattle.krates_build_tables.specs.declared.tables.TargetEntry.{TargetEntry}
 use Rattle.krates_grounding.specs.FactModels.{RuleModel, Compiled}
-use Rattle.krates_grounding.specs.InitialRows.{asked_for_machine, asked_in, asked_requires, asked_rows, initial_in, initial_rows, machine_place, root_rows}
+use Rattle.krates_grounding.specs.InitialRows.{asked_for_machine, asked_in, asked_requires, asked_rows, initial_in, initial_rows, machine_count, machine_place, root_rows}
 use Rattle.krates_grounding.specs.Meanings.{Follows, PlacementMeans}
 use Rattle.krates_grounding.specs.Rows.{goes_to, requires, rule}
 use Rattle.krates_grounding.specs.declared.facts.UnitPlace.{UnitPlace}
@@ -34,7 +34,7 @@ use Rattle.krates_grounding.proofs.Placements.{goes_number, goes_somewhere}
 use Rattle.krates_grounding.proofs.Requirements.{requires_derived, requires_follow}
 use Rattle.krates_grounding.proofs.RootRows.{root_rows_sound}
 use Rattle.krates_grounding.proofs.RowLists.{Each, each_unless, here, in_flat_at, in_if, in_unless, in_where, none_premise, rows_append, rows_flat, rows_if, rows_unless, rows_where, there}
-use Rattle.krates_grounding.proofs.TableEntries.{beside, crate_of, entry_of}
+use Rattle.krates_grounding.proofs.TableEntries.{beside, crate_of, entry_of, machine_count_is}
 use Rattle.krates_grounding.proofs.TargetEntries.{UnitHere, target_at, target_of, unit_here, unit_means_there, unit_same}
 use Rattle.krates_grounding.proofs.Tests.{untrue}
 
@@ -92,14 +92,14 @@ module _ (r : Resolved) (s : BuildSettingModel) (ids : List Id) (ms : List Machi
 
   asked_sound : (c j k : ℕ) (e : CrateEntry) (x : TargetEntry) (mode : Mode) → slice_get t.crates.items c ≡ Some e
       → slice_get e.targets.items j ≡ Some x → e.is_selected ≡ true → x.is_script ≡ false
-      → Contains (range_with_len 0 t.machine_count) k → ((m : TargetModel) → TargetSays s x m → AsksFor s.kinds m mode)
+      → Contains (range_with_len 0 (machine_count t)) k → ((m : TargetModel) → TargetSays s x m → AsksFor s.kinds m mode)
       → IsSound r s ids ms t (asked_requires x) (Compiled (asked_unit x mode k))
   asked_sound c j k e x mode entry at selected no_script number asks each =
       let crate = crate_of r s ids ms t tables c e entry in
       let i = crate.0 in
       let target = target_of r s ids ms t tables c j i e x crate.1 at in
       let m = target.0 in
-      let machine_at = element_at ms t.machine_count k tables.machine_count number in
+      let machine_at = element_at ms (machine_count t) k (machine_count_is tables) number in
       let placed = machine_means ms k machine_at.0 machine_at.1 in
       let goes = goes_somewhere s ms x m (machine_place k) (machine_placement machine_at.0) x.is_macro refl target.1.says placed in
       let u = unit i m mode goes.0 in
@@ -125,13 +125,13 @@ module _ (r : Resolved) (s : BuildSettingModel) (ids : List Id) (ms : List Machi
       }
 
   targets_sound : (c : ℕ) (e : CrateEntry) → slice_get t.crates.items c ≡ Some e → e.is_selected ≡ true
-      → AreSound r s ids ms t (flat_map (asked_rows t.machine_count) e.targets.items)
+      → AreSound r s ids ms t (flat_map (asked_rows (machine_count t)) e.targets.items)
   targets_sound c e entry selected =
       let P = IsSound r s ids ms t in
-      rows_flat P (asked_rows t.machine_count) e.targets.items (λ x among.
+      rows_flat P (asked_rows (machine_count t)) e.targets.items (λ x among.
       (let place = place_in e.targets.items x among in
-      rows_unless P x.is_script (flat_map (asked_for_machine x) (range_with_len 0 t.machine_count)) (λ no_script.
-      rows_flat P (asked_for_machine x) (range_with_len 0 t.machine_count) (λ k number.
+      rows_unless P x.is_script (flat_map (asked_for_machine x) (range_with_len 0 (machine_count t))) (λ no_script.
+      rows_flat P (asked_for_machine x) (range_with_len 0 (machine_count t)) (λ k number.
       rows_append P (asked_in x.is_asked modes.Build x k) (asked_in x.is_asked_with_tests modes.Test x k)
       (rows_if P x.is_asked (asked_requires x) (Compiled (asked_unit x modes.Build k)) (λ is.
       asked_sound c place.0 k e x modes.Build entry place.1 selected no_script number (λ m says. says.asked.0 is)))
@@ -141,24 +141,24 @@ module _ (r : Resolved) (s : BuildSettingModel) (ids : List Id) (ms : List Machi
   pub sound_initial : AreSound r s ids ms t (initial_rows t)
   sound_initial =
       let P = IsSound r s ids ms t in
-      rows_flat P (initial_in t.machine_count) t.crates.items (λ e among.
+      rows_flat P (initial_in (machine_count t)) t.crates.items (λ e among.
       (let place = place_in t.crates.items e among in
-      rows_append P (root_rows e) (if e.is_selected then flat_map (asked_rows t.machine_count) e.targets.items else [])
+      rows_append P (root_rows e) (if e.is_selected then flat_map (asked_rows (machine_count t)) e.targets.items else [])
       (root_rows_sound r s ids ms t tables place.0 e place.1)
-      (rows_where P e.is_selected (flat_map (asked_rows t.machine_count) e.targets.items) (targets_sound place.0 e place.1))))
+      (rows_where P e.is_selected (flat_map (asked_rows (machine_count t)) e.targets.items) (targets_sound place.0 e place.1))))
 
   -- ---- what the rules ask for is so by rows
 
   among_rows : (c j k : ℕ) (e : CrateEntry) (x : TargetEntry) (row : RuleModel) → slice_get t.crates.items c ≡ Some e
       → slice_get e.targets.items j ≡ Some x → e.is_selected ≡ true → x.is_script ≡ false
-      → slice_get (range_with_len 0 t.machine_count) k ≡ Some k → Contains (asked_for_machine x k) row → Contains (initial_rows t) row
+      → slice_get (range_with_len 0 (machine_count t)) k ≡ Some k → Contains (asked_for_machine x k) row → Contains (initial_rows t) row
   among_rows c j k e x row entry at selected no_script number there =
-      in_flat_at (initial_in t.machine_count) t.crates.items c e row entry
-      (Contains-append_right (root_rows e) (if e.is_selected then flat_map (asked_rows t.machine_count) e.targets.items else []) row
-      (in_where e.is_selected (flat_map (asked_rows t.machine_count) e.targets.items) row selected
-      (in_flat_at (asked_rows t.machine_count) e.targets.items j x row at
-      (in_unless x.is_script (flat_map (asked_for_machine x) (range_with_len 0 t.machine_count)) row no_script
-      (in_flat_at (asked_for_machine x) (range_with_len 0 t.machine_count) k k row number there)))))
+      in_flat_at (initial_in (machine_count t)) t.crates.items c e row entry
+      (Contains-append_right (root_rows e) (if e.is_selected then flat_map (asked_rows (machine_count t)) e.targets.items else []) row
+      (in_where e.is_selected (flat_map (asked_rows (machine_count t)) e.targets.items) row selected
+      (in_flat_at (asked_rows (machine_count t)) e.targets.items j x row at
+      (in_unless x.is_script (flat_map (asked_for_machine x) (range_with_len 0 (machine_count t))) row no_script
+      (in_flat_at (asked_for_machine x) (range_with_len 0 (machine_count t)) k k row number there)))))
 
   -- a number of what is asked for follows, if what it requires does
   asked_follows : (u : CompiledUnit) (w : UnitPlace) (e : CrateEntry) (x : TargetEntry) → IsAsked r s u → UnitHere r s ids ms t w u e x
@@ -171,7 +171,7 @@ module _ (r : Resolved) (s : BuildSettingModel) (ids : List Id) (ms : List Machi
       let no_script : x.is_script ≡ false = untrue x.is_script (λ is. asked.no_script (here.target.says.script.0 is)) in
       let there = among_rows w.target.krate w.target.index k e x row here.crate.at here.target.at
       (here.crate.says.selected.1 asked.selected) no_script
-      (number_at ms t.machine_count k asked.target tables.machine_count number.1)
+      (number_at ms (machine_count t) k asked.target (machine_count_is tables) number.1)
       (among_modes s x u.target u.mode k here.target.says asked.asked) in
       let placed =
       goes_number s ms x u.target (machine_place k) (machine_placement asked.target) u.placement x.is_macro refl here.target.says

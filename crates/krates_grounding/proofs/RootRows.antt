@@ -23,7 +23,7 @@ use Rattle.krates_build_tables.specs.TablesOf.{AreTables, CrateAt}
 use Rattle.krates_build_tables.specs.declared.tables.CrateEntry.{CrateEntry}
 use Rattle.krates_build_tables.specs.declared.tables.Tables.{Tables}
 use Rattle.krates_grounding.specs.FactModels.{FactModel, RuleModel, Activated, ActivatedReference, LinkedReference, Met}
-use Rattle.krates_grounding.specs.InitialRows.{asked_rows, initial_in, initial_rows, requested, root_rows}
+use Rattle.krates_grounding.specs.InitialRows.{asked_rows, initial_in, initial_rows, machine_count, requested, root_rows}
 use Rattle.krates_grounding.specs.Meanings.{Follows, Means}
 use Rattle.krates_grounding.specs.Rows.{rule, rule_if}
 use Rattle.krates_grounding.proofs.Claims.{AreSound, IsCovered, IsSound}
@@ -110,8 +110,8 @@ module _ (r : Resolved) (s : BuildSettingModel) (ids : List Id) (ms : List Machi
   among_rows : (c : ℕ) (i : Id) (e : CrateEntry) (row : RuleModel) → CrateHere r s ids ms t c i e → IsBuildRoot r s i
       → Contains (root_itself e ++ requested_rows e) row → Contains (initial_rows t) row
   among_rows c i e row crate root there =
-      in_flat_at (initial_in t.machine_count) t.crates.items c e row crate.at
-      (Contains-append_left (root_rows e) (if e.is_selected then flat_map (asked_rows t.machine_count) e.targets.items else []) row
+      in_flat_at (initial_in (machine_count t)) t.crates.items c e row crate.at
+      (Contains-append_left (root_rows e) (if e.is_selected then flat_map (asked_rows (machine_count t)) e.targets.items else []) row
       (in_where e.is_root (root_itself e ++ requested_rows e) row (crate.says.root.1 root) there))
 
   -- a number of the fact follows by the row

@@ -1,12 +1,13 @@
 -- What the tables say of crates, of links and of what is lacking, by number and by place.
-use Rattle.std.proofs.Common.{◌≡◌, ℕ, zero, suc, List, [], ◌∷◌, Some, length, refl, sym, ◌∙◌, subst, arith}
+use Rattle.std.proofs.Common.{◌≡◌, ℕ, zero, suc, List, [], ◌∷◌, Some, length, refl, sym, ap, ◌∙◌, subst, arith}
+use Rattle.std.proofs.lemmas.List.{length-map}
 use Rattle.std.specs.List.{Contains, slice_get}
 use Rattle.krates_cm.specs.Document.{DependencyModel}
 use Rattle.krates_rules.specs.Facts.{Id, Edge}
 use Rattle.krates_rules.specs.Resolved.{Resolved}
 use Rattle.krates_rules.proofs.OnlyOne.{place_in}
 use Rattle.krates_units.specs.BuildSetting.{BuildSettingModel}
-use Rattle.krates_units.specs.Machines.{MachineModel}
+use Rattle.krates_units.specs.Machines.{MachineModel, machine_view}
 use Rattle.krates_units.specs.Resolves.{LacksEdge, Resolves}
 use Rattle.krates_build_tables.specs.TablesOf.{AreTables, CrateAt, CrateSays, LackingSays, LinkSays}
 use Rattle.krates_build_tables.specs.declared.tables.CrateEntry.{CrateEntry}
@@ -14,9 +15,13 @@ use Rattle.krates_build_tables.specs.declared.tables.Lacking.{Lacking}
 use Rattle.krates_build_tables.specs.declared.tables.Link.{Link}
 use Rattle.krates_build_tables.specs.declared.tables.LinkPlace.{LinkPlace}
 use Rattle.krates_build_tables.specs.declared.tables.Tables.{Tables}
+use Rattle.krates_grounding.specs.InitialRows.{machine_count}
 use Rattle.krates_grounding.specs.Meanings.{LackingMeans, LinkMeans}
 
 -- ---- what there is
+
+pub machine_count_is : {r : Resolved} {s : BuildSettingModel} {ids : List Id} {ms : List MachineModel} {t : Tables} → AreTables r s ids ms t → machine_count t ≡ length ms
+machine_count_is {r} {s} {ids} {ms} {t} tables = sym (length-map t.machines.items (λ m. machine_view m.now)) ∙ ap length tables.machines_told
 
 -- the crate with its entry, by number
 pub record CrateHere (r : Resolved) (s : BuildSettingModel) (ids : List Id) (ms : List MachineModel) (t : Tables) (c : ℕ) (i : Id)

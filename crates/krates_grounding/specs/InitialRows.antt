@@ -1,5 +1,5 @@
 -- The instances of the rules that use no fact, and those of what is asked for, which a build begins with.
-use Rattle.std.specs.Prelude.{ℕ, ◌&&◌, Bool, true, false, not, if◌then◌else◌, List, [], ◌∷◌, ◌++◌, map}
+use Rattle.std.specs.Prelude.{ℕ, Bool, if◌then◌else◌, List, [], ◌∷◌, ◌++◌, length}
 use Rattle.std.specs.List.{flat_map, range_with_len}
 use Rattle.krates_text.specs.FeatureReference.{Reference}
 use Rattle.krates_build_tables.specs.References.{reference_view}
@@ -54,5 +54,9 @@ asked_rows machines x = if x.is_script then [] else flat_map (asked_for_machine 
 abbrev pub initial_in : ℕ → CrateEntry → List RuleModel
 initial_in machines e = root_rows e ++ (if e.is_selected then flat_map (asked_rows machines) e.targets.items else [])
 
+-- how many machines the build is for
+abbrev pub machine_count : Tables → ℕ
+machine_count t = length t.machines.items
+
 abbrev pub initial_rows : Tables → List RuleModel
-initial_rows t = flat_map (initial_in t.machine_count) t.crates.items
+initial_rows t = flat_map (initial_in (machine_count t)) t.crates.items

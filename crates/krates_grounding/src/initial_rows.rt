@@ -22,7 +22,7 @@ pub(crate) fn write_initial<'a>(
     ensures { OnOk result (HasWritten ground.old ground.new (initial_rows tables.now)) }
 {
     for entry in &tables.crates {
-        write_of_crate(tables.machine_count, entry, ground)?;
+        write_of_crate(tables.machines.len(), entry, ground)?;
     }
     Ok(())
 }

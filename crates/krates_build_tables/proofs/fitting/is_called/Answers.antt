@@ -13,4 +13,4 @@ returns-in-Some c =
 pub returns-in-None : goal.returns-in-None
 returns-in-None c =
     library_told (resolved_view c.args.document.now) (id_of c.args.child.now) (dependency_view c.args.declared.now) c.args.name.now (map target_view c.targets_of.result.now) c.has_library_called.result
-    (ap (option_map text_view) c.in-None.is) c.targets_of.ensures c.has_library_called.ensures
+    (ap (option_map text_view) c.in-None.is) c.targets_of.ensures.has c.has_library_called.ensures

@@ -8,5 +8,5 @@ use Rattle.krates_build_tables.proofs.targets.has_macro.Goals as goal
 
 pub returns : goal.returns
 returns c =
-    let same = target_that (resolved_view c.args.document.now) (id_of c.args.krate.now) IsMacro (map target_view c.targets_of.result.now) c.targets_of.ensures in
+    let same = target_that (resolved_view c.args.document.now) (id_of c.args.krate.now) IsMacro (map target_view c.targets_of.result.now) c.targets_of.ensures.has in
     (λ t. same.1 (c.some_macro.ensures.0 t), λ h. c.some_macro.ensures.1 (same.0 h))

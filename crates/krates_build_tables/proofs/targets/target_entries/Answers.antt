@@ -10,4 +10,4 @@ use Rattle.krates_build_tables.proofs.targets.target_entries.Goals as goal
 pub returns : goal.returns
 returns c =
     IfOk-weaker c.entries_of.result _ _ (λ entries are. entries_targets (resolved_view c.args.document.now) (build_setting_view c.args.setting.now) c.args.number (id_of c.args.krate.now)
-    (map target_view c.targets_of.result.now) entries.items c.targets_of.ensures are) c.entries_of.ensures
+    (map target_view c.targets_of.result.now) entries.items c.targets_of.ensures.has c.targets_of.ensures.whole are) c.entries_of.ensures
