@@ -5,3 +5,5 @@
 mod builds;
 #[cfg(test)]
 mod tables;
+#[cfg(test)]
+mod why;

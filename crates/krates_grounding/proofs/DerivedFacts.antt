@@ -1,9 +1,9 @@
 -- What is told of a fact by its number.
-use Rattle.std.proofs.Common.{◌≡◌, ◌↔◌, ℕ, List, All, Bool, IsTrue, Contains, MatchOption, Option, Some, None, map, length, sym, ap, subst}
+use Rattle.std.proofs.Common.{◌≡◌, ℕ, List, All, Contains, Some, None, length, subst}
 use Rattle.std.proofs.lemmas.Option.{get_or_from_slice_get}
 use Rattle.std.specs.BTreeMap.{BTreeMap, get}
 use Rattle.krates_build_tables.specs.declared.tables.Tables.{Tables}
-use Rattle.krates_closure.specs.Clauses.{ClauseModel, ClausesModel, NamesBelow}
+use Rattle.krates_closure.specs.Clauses.{ClausesModel, NamesBelow}
 use Rattle.krates_closure.specs.Closure.{Derivable}
 use Rattle.krates_grounding.specs.FactModels.{FactModel, Lost, fact_view}
 use Rattle.krates_grounding.specs.Grounding.{SaysNoText}
@@ -13,10 +13,10 @@ use Rattle.krates_grounding.specs.declared.facts.BuildFact.{BuildFact}
 use Rattle.krates_grounding.proofs.FollowingNumbers.{derived_follows, follows_derived}
 
 module _ (t : Tables) (all : List FactModel) (numbers : BTreeMap BuildFact ℕ) (clauses : ClausesModel) (h : AreDerived t all numbers clauses) where
-  below : All (NamesBelow (length all)) clauses.list
+  pub below : All (NamesBelow (length all)) clauses.list
   below = subst (λ n. All (NamesBelow n) clauses.list) h.ground.size h.ground.below
 
-  number_here : (q : BuildFact) (n : ℕ) → get fact_cmp numbers q ≡ Some n → IsOnlyAt all (fact_view q) n
+  pub number_here : (q : BuildFact) (n : ℕ) → get fact_cmp numbers q ≡ Some n → IsOnlyAt all (fact_view q) n
   number_here q n is = subst (IsNumberOf all (fact_view q)) is (h.ground.are_numbers q)
 
   pub told_sound : (q : BuildFact) (n : ℕ) → get fact_cmp numbers q ≡ Some n → Derivable clauses.list n → Follows t (fact_view q)

@@ -1,5 +1,5 @@
 -- What follows from the instances that the tables have is what the clauses derive that stand for those that were written.
-use Rattle.std.proofs.Common.{◌≡◌, ◌⊎◌, inl, inr, ℕ, ◌+◌, ◌<◌, List, [], ◌∷◌, ◌++◌, All, Contains, Some, length, get_or, map, option_map, arith, refl, sym, ap, ◌∙◌, subst}
+use Rattle.std.proofs.Common.{◌≡◌, ◌⊎◌, inl, inr, ℕ, ◌<◌, List, [], ◌∷◌, ◌++◌, All, Contains, Some, length, map, arith, sym, ap, ◌∙◌, subst}
 use Rattle.std.proofs.lemmas.List.Elements.{All-contains, All-head, Contains-append_cases, Contains-append_left, Contains-append_right}
 use Rattle.std.proofs.lemmas.Option.{slice_get-get_or}
 use Rattle.std.specs.List.{flat_map, slice_get}
@@ -9,7 +9,7 @@ use Rattle.krates_build_tables.specs.declared.tables.Tables.{Tables}
 use Rattle.krates_closure.specs.Clauses.{ClauseModel, NamesBelow}
 use Rattle.krates_closure.specs.Closure.{Derivable, by_clause}
 use Rattle.krates_grounding.specs.FactModels.{FactModel, RuleModel, Met, LinkedReference, LinkedFeature, LinkedName, Linked, Lost, Activated, ActivatedReference, ActivatedFeature, ActivatedName, Used, Available, Compiled, Needed, ScriptRun, ScriptCompiled}
-use Rattle.krates_grounding.specs.Grounding.{AreNamed, GroundModel, IsGrounded, SaysNoText, fact_at, facts_of, rule_of}
+use Rattle.krates_grounding.specs.Grounding.{IsGrounded, SaysNoText, fact_at, facts_of, rule_of}
 use Rattle.krates_grounding.specs.InitialRows.{initial_rows}
 use Rattle.krates_grounding.specs.Meanings.{Follows, IsRow, by_row}
 use Rattle.krates_grounding.specs.Rows.{rows_of, rule}
@@ -50,7 +50,7 @@ begins_with (ScriptCompiled c s) ps n first = inl (tt, first)
 module _ (t : Tables) (facts : List FactModel) (clauses : List ClauseModel) (g : IsGrounded t (record { facts = facts; rules = map (rule_of facts) clauses })) (below : All (NamesBelow (length facts)) clauses) where
   -- ---- what the clauses derive follows
 
-  row_of : (clause : ClauseModel) → Contains clauses clause → IsRow t (map (fact_at facts) clause.premises) (fact_at facts clause.fact)
+  pub row_of : (clause : ClauseModel) → Contains clauses clause → IsRow t (map (fact_at facts) clause.premises) (fact_at facts clause.fact)
   row_of clause among =
       let one = rule_of facts clause in
       let all : Contains (initial_rows t ++ flat_map (rows_of t) facts) one = subst (λ (rules : List RuleModel). Contains rules one) g.rules_are (contains_image (rule_of facts) clauses clause among) in

@@ -1,5 +1,5 @@
 -- Facts that get numbers, one by one, and the instances over them.
-use Rattle.std.proofs.Common.{◌≡◌, ◌⊎◌, ℕ, zero, suc, ◌+◌, ◌-◌, ◌<◌, ◌≤◌, Bool, true, false, cond, List, [], ◌∷◌, ◌++◌, All, Contains, Equal, MatchOption, Option, Some, None, Ordering, Less, Greater, length, map, take, arith, refl, sym, ap, ◌∙◌, subst, inl, inr}
+use Rattle.std.proofs.Common.{◌≡◌, ◌⊎◌, ℕ, zero, suc, ◌+◌, ◌-◌, ◌<◌, ◌≤◌, Bool, true, false, cond, List, [], ◌∷◌, ◌++◌, All, Contains, Equal, Option, Some, None, Ordering, Less, Greater, length, map, take, arith, refl, sym, ap, ◌∙◌, subst, inl, inr}
 use Rattle.std.proofs.lemmas.List.{get_or_append_left, length-map, length_push, map-append, take_at}
 use Rattle.std.proofs.lemmas.List.Elements.{All-cons, All-head, All-map, All-push, All-tail, All-weaker, Contains-get_or, Contains-push_cases}
 use Rattle.std.proofs.lemmas.Option.{same_Some}
@@ -10,8 +10,8 @@ use Rattle.std.specs.Ordering.{is_eq}
 use Rattle.krates_rules.proofs.Standings.{contains_at}
 use Rattle.krates_closure.specs.Clauses.{ClauseModel, ClausesModel, NamesBelow}
 use Rattle.krates_grounding.specs.FactModels.{FactModel, RuleModel, Lost, fact_view}
-use Rattle.krates_grounding.specs.Grounding.{AreDistinct, AreNamed, GroundModel, HasNumbered, fact_at, facts_of, rule_of}
-use Rattle.krates_grounding.specs.Numbers.{AreNumbersOf, IsGround, IsNumberOf, IsOnlyAt, fact_cmp}
+use Rattle.krates_grounding.specs.Grounding.{AreDistinct, AreNamed, HasNumbered, fact_at, facts_of, rule_of}
+use Rattle.krates_grounding.specs.Numbers.{AreNumbersOf, IsGround, IsNumberOf, fact_cmp}
 use Rattle.krates_grounding.specs.declared.facts.BuildFact.{BuildFact}
 use Rattle.krates_grounding.proofs.FactOrder.{fact_tells}
 

@@ -31,3 +31,4 @@ pub mod ToldFacts
 pub mod UniqueMeanings
 pub mod UnitLibraryRows
 pub mod WrittenRules
+pub mod StepLemmas

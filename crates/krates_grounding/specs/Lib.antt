@@ -4,3 +4,4 @@ pub mod InitialRows
 pub mod Meanings
 pub mod Numbers
 pub mod Rows
+pub mod Steps

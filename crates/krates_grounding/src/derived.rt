@@ -1,12 +1,14 @@
 //! What follows from the tables of a document and a build.
-ghost use Rattle.std.specs.Prelude.{◌≡◌, All, Contains, IfOk, IsTrue, length, map};
+ghost use Rattle.std.specs.Prelude.{◌≡◌, All, Contains, IfNone, IfOk, IfSome, IsTrue, length, map};
 ghost use Rattle.krates_grounding.specs.FactModels.{FactModel, fact_view};
 ghost use Rattle.krates_grounding.specs.Grounding.{AreDistinct, AreToldUpTo, SaysNoText};
 ghost use Rattle.krates_grounding.specs.Meanings.{Follows};
+ghost use Rattle.krates_grounding.specs.Steps.{AreStepsTo, step_view};
 
 use crate::facts::BuildFact;
 use crate::ground::Ground;
 use crate::grounding::grounded;
+use crate::steps::{BuildStep, steps_of};
 use krates_build_tables::Tables;
 use krates_closure::{Closure, FactNumber};
 use std::alloc::{AllocError, Global};
@@ -107,6 +109,36 @@ impl<'a> Derived<'a> {
     {
         let told = holding(alloc, &self.facts, &self.closure)?;
         Ok(told)
+    }
+
+    /// Why a fact follows: steps, each after those that give what it follows from. What they give is the fact itself, or what another of
+    /// them needs. `None` where it doesn't follow; that a text is available is told as `holds` tells it. The only error is running out of
+    /// memory. Time O(n) in the facts that may follow, their instances and premises.
+    ///
+    /// ```text
+    /// if let Some(steps) = derived.why(alloc, &BuildFact::Met(0, Meeting::Root))? {
+    ///     println!(rt; "met in {} steps", steps.len())?;
+    /// }
+    /// ```
+    pub fn why(
+        &self,
+        alloc: Global,
+        fact: &BuildFact<'a>,
+    ) -> Result<Option<Vec<BuildStep<'a>>>, AllocError>
+        ensures steps { IfOk result (λ found. IfSome found (λ steps.
+            AreStepsTo self.now (map step_view steps.items) (fact_view fact.now))) }
+        ensures none { IfOk result (λ found. IfNone found
+            (SaysNoText (fact_view fact.now) → ¬ Follows self.now (fact_view fact.now))) }
+    {
+        let Some(number) = self.numbers.get(fact) else {
+            return Ok(None);
+        };
+        let Some(numbers) = self.closure.derivation(alloc, FactNumber::new(*number))? else {
+            return Ok(None);
+        };
+        let clauses = self.closure.clauses().as_slice();
+        let steps = steps_of(alloc, &self.facts, clauses, &numbers)?;
+        Ok(Some(steps))
     }
 }
 

@@ -10,7 +10,9 @@ pub mod laws;
 mod linking_rows;
 mod rows;
 mod side_rows;
+pub mod steps;
 mod unit_rows;
 
 pub use derived::Derived;
 pub use facts::{BuildFact, PlacementNumber, PlatformNumber, UnitPlace};
+pub use steps::BuildStep;
