@@ -9,10 +9,10 @@ use Rattle.krates_rules.specs.Resolved.{Resolved}
 use Rattle.krates_rules.proofs.PutElements.{none_there}
 use Rattle.krates_text.specs.FeatureReference.{Reference}
 use Rattle.krates_units.specs.BuildSetting.{BuildSettingModel}
-use Rattle.krates_units.specs.Requests.{RootKind, IsGiven}
+use Rattle.krates_units.specs.Requests.{RootKind, IsGiven, Takes}
 use Rattle.krates_build_tables.specs.References.{reference_view}
 use Rattle.krates_build_tables.specs.Requests.{Adds, AsksDefault, AsksEach, IsRequestedAs, TakesGiven}
-use Rattle.krates_build_tables.specs.RequestsTaken.{Takes, TellsTaken}
+use Rattle.krates_build_tables.specs.RequestsTaken.{TellsTaken}
 use Rattle.krates_build_tables.specs.declared.reference.FeatureReference.{FeatureReference}
 
 -- ---- one step

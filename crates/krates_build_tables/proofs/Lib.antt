@@ -4,6 +4,7 @@ pub mod CurrentCrates
 pub mod Entries
 pub mod FeatureKeys
 pub mod FeatureLemmas
+pub mod FirstWithout
 pub mod Flagged
 pub mod GivenReferences
 pub mod JudgementLemmas
@@ -19,3 +20,4 @@ pub mod SeenFlags
 pub mod Selected
 pub mod SideLemmas
 pub mod TakenReferences
+pub mod TakingCrates

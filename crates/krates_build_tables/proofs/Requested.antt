@@ -1,37 +1,22 @@
 -- What is requested of a crate, by why it is a root.
 use Rattle.std.proofs.Common.{◌≡◌, ◌↔◌, IsTrue, [], Option, Some, None, Contains, is_some, inl, inr, refl, sym, subst}
 use Rattle.std.proofs.lemmas.Option.{none-some, same_Some}
-use Rattle.krates_cm.specs.Document.{Text}
 use Rattle.krates_rules.specs.Facts.{Id}
 use Rattle.krates_rules.specs.Resolved.{Resolved}
 use Rattle.krates_rules.proofs.PutElements.{none_there}
-use Rattle.krates_text.specs.FeatureReference.{Reference, simple}
+use Rattle.krates_text.specs.FeatureReference.{Reference}
 use Rattle.krates_units.specs.BuildSetting.{BuildSettingModel}
-use Rattle.krates_units.specs.FeaturesNamed.{NamesFeatureOf}
-use Rattle.krates_units.specs.Requests.{RootKind, IsBuildRoot, IsBuildRootAs, IsGiven, IsRequested, alike, unselected, current, other, default, each, own, of_dependency, by_crate, of_current, of_other}
+use Rattle.krates_units.specs.Requests.{RootKind, IsBuildRoot, IsBuildRootAs, IsRequested, default, each, taken}
 use Rattle.krates_build_tables.specs.RequestsFlags.{TellsRoot, root_kind}
 use Rattle.krates_build_tables.specs.Requests.{IsRequestedAs}
-use Rattle.krates_build_tables.specs.RequestsTaken as taking
-use Rattle.krates_build_tables.specs.RequestsTaken.{Takes, TakesAlike, TakesOther}
 use Rattle.krates_build_tables.specs.declared.roots.RootAs.{RootAs}
 
--- ---- what a root of one kind takes is requested
-
-taken_alike : (r : Resolved) (s : BuildSettingModel) (i : Id) (g w : Reference) → IsBuildRootAs r s i alike → IsGiven s g → TakesAlike r i g w → IsRequested r s i w
-taken_alike r s i g w root given (taking.own {f = f} is may) = subst (IsRequested r s i) (sym is) (own root (subst (IsGiven s) is given) may)
-taken_alike r s i g w root given (taking.of_dependency name f names knows) = of_dependency name f root given names knows
-taken_alike r s i g w root given (taking.by_crate name f names lacks is may) = by_crate name f root given names lacks is may
-
-taken_requested : (r : Resolved) (s : BuildSettingModel) (i : Id) (kind : RootKind) (g w : Reference) → IsBuildRootAs r s i kind → IsGiven s g → Takes r s i kind g w → IsRequested r s i w
-taken_requested r s i alike g w root given takes = taken_alike r s i g w root given takes
-taken_requested r s i unselected g w root given takes = absurd takes
-taken_requested r s i current g w root given takes = subst (IsRequested r s i) (sym takes.1) (of_current root given takes.0)
-taken_requested r s i other g w root given takes = subst (IsRequested r s i) (sym takes.is) (of_other i.name takes.feature root given takes.names refl)
+-- ---- what is requested for a reason of one kind
 
 requested_there : (r : Resolved) (s : BuildSettingModel) (i : Id) (kind : RootKind) (v : Reference) → IsBuildRootAs r s i kind → IsRequestedAs r s i kind v → IsRequested r s i v
 requested_there r s i kind v root (inl d) = subst (IsRequested r s i) (sym d.is) (default kind root d.asks d.has)
 requested_there r s i kind v root (inr (inl e)) = subst (IsRequested r s i) (sym e.is) (each kind root e.asks.0 e.asks.1 e.has)
-requested_there r s i kind v root (inr (inr t)) = taken_requested r s i kind t.reference v root t.given t.takes
+requested_there r s i kind v root (inr (inr t)) = taken kind root t.given t.takes
 
 -- ---- and what is requested is for a reason of the one kind
 
@@ -44,13 +29,7 @@ record RequestedSome (r : Resolved) (s : BuildSettingModel) (i : Id) (v : Refere
 requested_some : (r : Resolved) (s : BuildSettingModel) (i : Id) (v : Reference) → IsRequested r s i v → RequestedSome r s i v
 requested_some r s i v (default kind root asks has) = record { kind = kind; root = root; requested = inl (record { asks = asks; has = has; is = refl }) }
 requested_some r s i v (each {f = f} kind root apart all has) = record { kind = kind; root = root; requested = inr (inl (record { asks = (apart, all); feature = f; has = has; is = refl })) }
-requested_some r s i v (own {f = f} root given may) = record { kind = alike; root = root; requested = inr (inr (record { reference = simple f; given = given; takes = taking.own refl may })) }
-requested_some r s i v (of_dependency name f root given names knows) = record { kind = alike; root = root; requested = inr (inr (record { reference = v; given = given; takes = taking.of_dependency name f names knows })) }
-requested_some r s i v (by_crate {v = g} name f root given names lacks is may) =
-    record { kind = alike; root = root; requested = inr (inr (record { reference = g; given = given; takes = taking.by_crate name f names lacks is may })) }
-requested_some r s i v (of_current root given none) = record { kind = current; root = root; requested = inr (inr (record { reference = v; given = given; takes = (none, refl) })) }
-requested_some r s i v (of_other {v = g} name f root given names is) =
-    record { kind = other; root = root; requested = inr (inr (record { reference = g; given = given; takes = record { feature = f; names = subst (λ (n : Text). NamesFeatureOf g n f) (sym is) names; is = refl } })) }
+requested_some r s i v (taken {v = g} kind root given takes) = record { kind = kind; root = root; requested = inr (inr (record { reference = g; given = given; takes = takes })) }
 
 -- ---- by the answer
 

@@ -12,9 +12,9 @@ use Rattle.krates_rules.specs.Resolved.{Resolved, IsMember}
 use Rattle.krates_rules.proofs.Readings.{ReadsOnce}
 use Rattle.krates_units.specs.BuildSetting.{BuildSettingModel}
 use Rattle.krates_units.specs.FeaturesNamed.{NamesFeatureOf}
-use Rattle.krates_units.specs.Requests.{IsCurrent, IsForOther, current, IsSelected, KnowsName, MayAsk}
+use Rattle.krates_units.specs.Requests.{IsCurrent, IsForOther, current, IsSelected, KnowsName, MayAsk, Takes, TakesAlike, own, of_dependency, by_crate}
 use Rattle.krates_build_tables.specs.RequestsFlags.{AreFlags, flagged}
-use Rattle.krates_build_tables.specs.RequestsTaken.{IsForOtherBy, Takes, TakesAlike, own, of_dependency, by_crate, feature_parts}
+use Rattle.krates_build_tables.specs.RequestsTaken.{IsForOtherBy, feature_parts}
 use Rattle.krates_build_tables.specs.declared.selection.CrateFlags.{CrateFlags}
 use Rattle.krates_build_tables.proofs.Flagged.{member_flagged, selected_flagged}
 use Rattle.krates_build_tables.proofs.NumberedCrates.{numbered_ids}

@@ -9,3 +9,4 @@ pub mod FeatureLists
 pub mod Pairs
 pub mod Builds
 pub mod CrateParts
+pub mod Unanswered

@@ -9,10 +9,9 @@ use Rattle.krates_rules.specs.Resolved.{Resolved, id_of}
 use Rattle.krates_rules.specs.Rules.{default_name}
 use Rattle.krates_questions.specs.Lookup.{resolved_view}
 use Rattle.krates_units.specs.BuildSetting.{BuildSettingModel, build_setting_view}
-use Rattle.krates_units.specs.Requests.{RootKind, AsksAlike, AsksDefaults, HasFeature, IsBuildRoot, IsGiven, IsRequested, IsSelected, SelectsNoMember, unselected}
+use Rattle.krates_units.specs.Requests.{RootKind, AsksAlike, AsksDefaults, HasFeature, IsBuildRoot, IsGiven, IsRequested, IsSelected, SelectsNoMember, Takes, unselected}
 use Rattle.krates_build_tables.specs.References.{reference_view}
 use Rattle.krates_build_tables.specs.RequestsFlags.{AreFlags}
-use Rattle.krates_build_tables.specs.RequestsTaken.{Takes}
 use Rattle.krates_build_tables.specs.declared.reference.FeatureReference.{FeatureReference}
 use Rattle.krates_build_tables.specs.declared.requests.Asking.{Asking}
 use Rattle.krates_build_tables.specs.declared.requests.Request.{Request}

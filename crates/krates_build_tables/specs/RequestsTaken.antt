@@ -8,8 +8,7 @@ use Rattle.krates_rules.specs.DeclaredDependency.{declared_name}
 use Rattle.krates_rules.specs.Facts.{Id}
 use Rattle.krates_rules.specs.Resolved.{Resolved}
 use Rattle.krates_units.specs.BuildSetting.{BuildSettingModel}
-use Rattle.krates_units.specs.FeaturesNamed.{NamesFeatureOf}
-use Rattle.krates_units.specs.Requests.{RootKind, IsForOther, KnowsName, MayAsk, alike, unselected, current, other}
+use Rattle.krates_units.specs.Requests.{RootKind, Takes}
 use Rattle.krates_build_tables.specs.References.{reference_view}
 use Rattle.krates_build_tables.specs.declared.reference.FeatureReference.{FeatureReference}
 use Rattle.krates_build_tables.specs.declared.selection.CrateFlags.{CrateFlags}
@@ -62,26 +61,6 @@ pub record IsForOtherBy (flags : List CrateFlags) (v : Reference) : Type 0 where
 -- each text is the reference at its place
 abbrev pub AreReferencesOf : List Text → List Reference → Type 0
 AreReferencesOf texts references = AllZip IsReference texts references
-
--- where members are asked alike, the crate takes this of a reference that is given
-pub data TakesAlike (r : Resolved) (i : Id) (v : Reference) : Reference → Type 0 where
-  own : {f : Text} → v ≡ simple f → MayAsk r i f → TakesAlike r i v v
-  of_dependency : (name f : Text) → NamesFeatureOf v name f → KnowsName r i name → TakesAlike r i v v
-  by_crate : (name f : Text) → NamesFeatureOf v name f → ¬ KnowsName r i name → i.name ≡ name → MayAsk r i f
-      → TakesAlike r i v (simple f)
-
--- the other member takes this of a reference that is given
-pub record TakesOther (i : Id) (v w : Reference) : Type 0 where
-  pub feature : Text
-  pub names : NamesFeatureOf v i.name feature
-  pub is : w ≡ simple feature
-
--- a root of the kind takes this of a reference that is given
-abbrev pub Takes : Resolved → BuildSettingModel → Id → RootKind → Reference → Reference → Type 0
-Takes r s i alike v w = TakesAlike r i v w
-Takes r s i unselected v w = ⊥
-Takes r s i current v w = ¬ IsForOther r s v × (w ≡ v)
-Takes r s i other v w = TakesOther i v w
 
 -- what a root of the kind takes of a reference that is given, or none if it takes nothing
 abbrev pub TellsTaken : Resolved → BuildSettingModel → Id → RootKind → Reference → Option FeatureReference → Type 0

@@ -83,11 +83,11 @@ fn references_of<'a>(
     Ok(references)
 }
 
-/// A value of a feature, read.
-fn reference_of(value: &str) -> FeatureReference<'_>
-    ensures { IsReference value.now (reference_view result) }
+/// The reference that a text is.
+pub(crate) fn reference_of(text: &str) -> FeatureReference<'_>
+    ensures { IsReference text.now (reference_view result) }
 {
-    FeatureReference::from(ParsedFeature::from(value).feat())
+    FeatureReference::from(ParsedFeature::from(text).feat())
 }
 
 /// The names of the optional dependencies of a crate that are features too.

@@ -8,6 +8,7 @@ mod given;
 mod lacking;
 mod links;
 mod machines;
+mod named;
 mod package_names;
 mod pairs;
 mod pushing;
@@ -21,6 +22,8 @@ pub mod tables_of;
 mod taken;
 mod targets;
 mod texts;
+pub mod unanswered;
 
 pub use reference::FeatureReference;
 pub use tables::{CrateEntry, Lacking, Link, LinkPlace, Tables, TargetEntry, TargetPlace};
+pub use unanswered::Unanswered;

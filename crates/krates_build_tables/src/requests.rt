@@ -6,10 +6,9 @@ ghost use Rattle.krates_questions.specs.Lookup.{resolved_view};
 ghost use Rattle.krates_rules.specs.Resolved.{id_of};
 ghost use Rattle.krates_text.specs.FeatureReference.{Reference};
 ghost use Rattle.krates_units.specs.BuildSetting.{build_setting_view};
-ghost use Rattle.krates_units.specs.Requests.{AsksDefaults};
+ghost use Rattle.krates_units.specs.Requests.{AsksDefaults, Takes};
 ghost use Rattle.krates_build_tables.specs.References.{reference_view};
 ghost use Rattle.krates_build_tables.specs.Requests.{Adds, AreRequests, AsksAllOf, AsksDefault, AsksEach, HasSimple, IsAsking, IsRequestedAs, RequestSays, TakesGiven, ids_asked, model_asked, setting_asked};
-ghost use Rattle.krates_build_tables.specs.RequestsTaken.{Takes};
 ghost use Rattle.krates_build_tables.specs.RequestsFlags.{FlagsSay, flagged, root_kind};
 
 use crate::package_names::has_feature;

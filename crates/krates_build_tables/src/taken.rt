@@ -4,10 +4,11 @@ ghost use Rattle.krates_questions.specs.Lookup.{resolved_view};
 ghost use Rattle.krates_rules.specs.Resolved.{id_of};
 ghost use Rattle.krates_text.specs.FeatureReference.{Reference};
 ghost use Rattle.krates_units.specs.BuildSetting.{BuildSettingModel};
+ghost use Rattle.krates_units.specs.Requests.{TakesAlike, TakesOther};
 ghost use Rattle.krates_build_tables.specs.References.{reference_view};
 ghost use Rattle.krates_build_tables.specs.RequestsFlags.{AreFlags, root_kind};
 ghost use Rattle.krates_build_tables.specs.RequestsTaken as definitions;
-ghost use Rattle.krates_build_tables.specs.RequestsTaken.{AreReferencesOf, IsForOtherBy, NamesOther, NamesSelected, TakesAlike, TakesOther, TellsTaken, parts_view};
+ghost use Rattle.krates_build_tables.specs.RequestsTaken.{AreReferencesOf, IsForOtherBy, NamesOther, NamesSelected, TellsTaken, parts_view};
 
 use crate::package_names::{knows_name, may_ask};
 use crate::reference::FeatureReference;

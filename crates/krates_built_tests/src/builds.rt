@@ -228,9 +228,12 @@ fn read_word(alloc: Global, setting: &mut BuildSetting, word: &str) -> Result<()
                 setting.features.push(String::from_str(alloc, feature)?)?;
             }
         }
+        "workspace" => setting.selection = PackageSelection::Workspace,
         "package" => {
             let mut specs = Vec::new(alloc);
-            specs.push(PkgSpec::from_str(alloc, value)?)?;
+            for spec in value.split(',') {
+                specs.push(PkgSpec::from_str(alloc, spec)?)?;
+            }
             setting.selection = PackageSelection::Packages(specs);
         }
         _ => {}

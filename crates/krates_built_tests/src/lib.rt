@@ -6,4 +6,6 @@ mod builds;
 #[cfg(test)]
 mod tables;
 #[cfg(test)]
+mod unanswered;
+#[cfg(test)]
 mod why;

@@ -8,6 +8,7 @@ pub mod BuildFacts
 pub mod FeaturesNamed
 pub mod Resolves
 pub mod Requests
+pub mod Answered
 pub mod Sides
 pub mod BuildRules
 pub mod Built

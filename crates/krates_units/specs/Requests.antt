@@ -130,19 +130,32 @@ pub record IsForOther (r : Resolved) (s : BuildSettingModel) (v : Reference) : T
   pub other : IsNameOfSome (λ i. IsMember r i × ¬ IsCurrent r i) name
   pub selected : IsNameOfSome (IsSelected r s) name
 
+-- where members are asked alike, the crate takes this of the reference: what it has
+pub data TakesAlike (r : Resolved) (i : Id) (v : Reference) : Reference → Type 0 where
+  own : {f : Text} → v ≡ simple f → MayAsk r i f → TakesAlike r i v v
+  of_dependency : (name f : Text) → NamesFeatureOf v name f → KnowsName r i name → TakesAlike r i v v
+  by_crate : (name f : Text) → NamesFeatureOf v name f → ¬ KnowsName r i name → i.name ≡ name → MayAsk r i f
+      → TakesAlike r i v (simple f)
+
+-- another member than the package of the folder takes this of the reference: a feature under its own name
+pub record TakesOther (i : Id) (v w : Reference) : Type 0 where
+  pub feature : Text
+  pub names : NamesFeatureOf v i.name feature
+  pub is : w ≡ simple feature
+
+-- a root of the kind takes this of the reference; where members aren't asked alike, the package of the folder takes all but what is
+-- for another member, even if it has no such feature
+abbrev pub Takes : Resolved → BuildSettingModel → Id → RootKind → Reference → Reference → Type 0
+Takes r s i alike v w = TakesAlike r i v w
+Takes r s i unselected v w = ⊥
+Takes r s i current v w = ¬ IsForOther r s v × (w ≡ v)
+Takes r s i other v w = TakesOther i v w
+
 -- the reference is requested of the root
 pub data IsRequested (r : Resolved) (s : BuildSettingModel) (i : Id) : Reference → Type 0 where
   default : (kind : RootKind) → IsBuildRootAs r s i kind → AsksDefaults s kind → HasFeature r i default_name
       → IsRequested r s i (simple default_name)
   each : {f : Text} (kind : RootKind) → IsBuildRootAs r s i kind → kind ≢ unselected → s.all_features ≡ true → HasFeature r i f
       → IsRequested r s i (simple f)
-  -- where members are asked alike, each takes of the command line what it has
-  own : {f : Text} → IsBuildRootAs r s i alike → IsGiven s (simple f) → MayAsk r i f → IsRequested r s i (simple f)
-  of_dependency : {v : Reference} (name f : Text) → IsBuildRootAs r s i alike → IsGiven s v → NamesFeatureOf v name f
-      → KnowsName r i name → IsRequested r s i v
-  by_crate : {v : Reference} (name f : Text) → IsBuildRootAs r s i alike → IsGiven s v → NamesFeatureOf v name f
-      → ¬ KnowsName r i name → i.name ≡ name → MayAsk r i f → IsRequested r s i (simple f)
-  -- otherwise the package of the folder takes all but what is for another member, and that member takes it
-  of_current : {v : Reference} → IsBuildRootAs r s i current → IsGiven s v → ¬ IsForOther r s v → IsRequested r s i v
-  of_other : {v : Reference} (name f : Text) → IsBuildRootAs r s i other → IsGiven s v → NamesFeatureOf v name f → i.name ≡ name
-      → IsRequested r s i (simple f)
+  taken : {v w : Reference} (kind : RootKind) → IsBuildRootAs r s i kind → IsGiven s v → Takes r s i kind v w
+      → IsRequested r s i w

@@ -2,9 +2,8 @@ use Rattle.std.proofs.Common.{◌≡◌, ◌↔◌, Some, sym, ap, ◌∙◌, su
 use Rattle.krates_questions.specs.Lookup.{resolved_view}
 use Rattle.krates_rules.specs.Resolved.{id_of}
 use Rattle.krates_text.specs.FeatureReference.{Reference, simple}
-use Rattle.krates_units.specs.Requests.{MayAsk}
+use Rattle.krates_units.specs.Requests.{MayAsk, TakesAlike}
 use Rattle.krates_build_tables.specs.References.{reference_view}
-use Rattle.krates_build_tables.specs.RequestsTaken.{TakesAlike}
 use Rattle.krates_build_tables.proofs.TakenReferences.{takes_own, takes_nothing, same_simple, krate_simple, weak_simple, strong_simple}
 use Rattle.krates_build_tables.proofs.taken.taken_as_own.Goals as goal
 
