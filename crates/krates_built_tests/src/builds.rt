@@ -269,13 +269,13 @@ pub(crate) fn setting_of(alloc: Global, line: &str) -> Result<BuildSetting, Fail
 
 /// What facts are told of.
 #[derive(Clone, Copy)]
-struct Told<'a, 's> {
-    document: &'s Document<'a>,
-    tables: &'s Tables<'a>,
+pub(crate) struct Told<'a, 's> {
+    pub(crate) document: &'s Document<'a>,
+    pub(crate) tables: &'s Tables<'a>,
 }
 
 /// The name of the crate with this number.
-fn name_of<'s>(of: Told<'_, 's>, number: usize) -> &'s str {
+pub(crate) fn name_of<'s>(of: Told<'_, 's>, number: usize) -> &'s str {
     match of.document.crate_ids().get(number) {
         Some(kid) => kid.name(),
         None => "",
@@ -283,7 +283,7 @@ fn name_of<'s>(of: Told<'_, 's>, number: usize) -> &'s str {
 }
 
 /// Writes what something is compiled for.
-fn push_platform(told: &mut Text, of: Told<'_, '_>, platform: PlatformNumber) {
+pub(crate) fn push_platform(told: &mut Text, of: Told<'_, '_>, platform: PlatformNumber) {
     match platform {
         PlatformNumber::Host => told.push_str("@host"),
         PlatformNumber::Machine(number) => {
@@ -294,7 +294,7 @@ fn push_platform(told: &mut Text, of: Told<'_, '_>, platform: PlatformNumber) {
 }
 
 /// Writes `^` for the host's side.
-fn push_side(told: &mut Text, side: Side) {
+pub(crate) fn push_side(told: &mut Text, side: Side) {
     if side == Side::Host {
         told.push_str("^");
     }
@@ -302,7 +302,7 @@ fn push_side(told: &mut Text, side: Side) {
 }
 
 /// Writes a unit.
-fn push_unit(told: &mut Text, of: Told<'_, '_>, unit: UnitPlace) {
+pub(crate) fn push_unit(told: &mut Text, of: Told<'_, '_>, unit: UnitPlace) {
     told.push_str(name_of(of, unit.target.krate));
     if let Some(entry) = of.tables.entry(unit.target.krate) {
         if let Some(target) = entry.target(unit.target.index) {
@@ -345,7 +345,7 @@ fn push_fact(told: &mut Text, of: Told<'_, '_>, fact: &BuildFact<'_>) {
 }
 
 /// Writes the name of what a link leads to.
-fn push_child(told: &mut Text, of: Told<'_, '_>, place: LinkPlace) {
+pub(crate) fn push_child(told: &mut Text, of: Told<'_, '_>, place: LinkPlace) {
     if let Some(entry) = of.tables.entry(place.krate) {
         if let Some(link) = entry.link(place.index) {
             told.push_str(name_of(of, link.child));
@@ -407,8 +407,7 @@ fn push_built(told: &mut Text, line: &str, shown: Shown) -> Result<(), Fail> {
     let document = Document::new(alloc, &metadata, &ids)?;
     let tables = tables_of(alloc, &document, &setting)?;
     let derived = Derived::of(alloc, tables)?;
-    let mut facts = derived.facts(alloc)?;
-    facts.sort()?;
+    let facts = derived.facts(alloc)?;
     let of = Told {
         document: &document,
         tables: derived.tables(),

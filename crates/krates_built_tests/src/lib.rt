@@ -4,6 +4,8 @@
 #[cfg(test)]
 mod builds;
 #[cfg(test)]
+mod lists;
+#[cfg(test)]
 mod tables;
 #[cfg(test)]
 mod unanswered;

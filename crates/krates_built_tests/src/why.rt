@@ -68,9 +68,7 @@ impl Tell for Why {
         let ids = admit(alloc, &metadata)?;
         let document = Document::new(alloc, &metadata, &ids)?;
         let derived = Derived::of(alloc, tables_of(alloc, &document, &setting)?)?;
-        let mut facts = derived.facts(alloc)?;
-        facts.sort()?;
-        for fact in &facts {
+        for fact in &derived.facts(alloc)? {
             push_why(told, &derived, fact)?;
         }
         if derived

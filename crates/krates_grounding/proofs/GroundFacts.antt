@@ -15,7 +15,7 @@ use Rattle.krates_grounding.specs.Numbers.{AreNumbersOf, IsGround, IsNumberOf, f
 use Rattle.krates_grounding.specs.declared.facts.BuildFact.{BuildFact}
 use Rattle.krates_grounding.proofs.FactOrder.{fact_tells}
 
-is_equal : (o : Ordering) → is_eq o ≡ true → o ≡ Equal
+pub is_equal : (o : Ordering) → is_eq o ≡ true → o ≡ Equal
 is_equal Less h = absurd cc
 is_equal Equal h = refl
 is_equal Greater h = absurd cc

@@ -1,28 +1,30 @@
 -- The facts that are told, number by number.
-use Rattle.std.proofs.Common.{◌≡◌, inl, inr, ℕ, ◌+◌, ◌<◌, ◌≤◌, List, [], ◌∷◌, ◌++◌, All, Contains, Some, length, get_or, map, option_map, arith, refl, sym, ap, ◌∙◌, subst}
+use Rattle.std.proofs.Common.{◌≡◌, inl, inr, ℕ, ◌+◌, ◌<◌, ◌≤◌, List, [], ◌∷◌, ◌++◌, true, All, Contains, Some, length, get_or, map, option_map, arith, refl, sym, ap, ◌∙◌, subst}
 use Rattle.std.proofs.lemmas.Bool.{cases_order}
 use Rattle.std.proofs.lemmas.List.{length-map, map-append}
 use Rattle.std.proofs.lemmas.List.Elements.{Contains-append_left, Contains-get_or, Contains-push, Contains-push_cases}
-use Rattle.std.proofs.lemmas.Option.{get_or_from_slice_get, slice_get-map, slice_get_read, slice_get_within, same_Some}
+use Rattle.std.proofs.lemmas.Option.{get_or_from_slice_get, slice_get-map, slice_get_read, same_Some}
 use Rattle.std.specs.List.{slice_get}
-use Rattle.krates_rules.proofs.Standings.{contains_at}
+use Rattle.krates_rules.proofs.Elements.{contains_image, contains_source}
 use Rattle.krates_build_tables.specs.declared.tables.Tables.{Tables}
 use Rattle.krates_closure.specs.Clauses.{ClauseModel, ClausesModel, NamesBelow}
 use Rattle.krates_closure.specs.Closure.{Derivable}
 use Rattle.std.specs.BTreeMap.{BTreeMap}
 use Rattle.krates_grounding.specs.FactModels.{FactModel, Lost, fact_view}
-use Rattle.krates_grounding.specs.Grounding.{AreDistinct, AreToldUpTo, SaysNoText}
+use Rattle.krates_grounding.specs.Grounding.{AreToldUpTo, SaysNoText}
 use Rattle.krates_grounding.specs.Meanings.{Follows}
-use Rattle.krates_grounding.specs.Numbers.{AreDerived}
+use Rattle.krates_grounding.specs.Numbers.{AreDerived, fact_cmp}
+use Rattle.krates_grounding.specs.contracts.facts.BuildFactOrd.TheImpl.Laws.{matches_eq-law}
+use Rattle.krates_grounding.specs.contracts.facts.BuildFactPartialEq.TheImpl.{ghosts as fact_equality}
 use Rattle.krates_grounding.specs.declared.facts.BuildFact.{BuildFact}
+use Rattle.krates_grounding.proofs.FactOrder.{fact_tells}
 use Rattle.krates_grounding.proofs.FollowingNumbers.{derived_follows, follows_derived}
-use Rattle.krates_grounding.proofs.GroundFacts.{end_cases}
+use Rattle.krates_grounding.proofs.GroundFacts.{is_equal}
 
 pub none_told : (clauses : List ClauseModel) (all : List FactModel) (items : List BuildFact) → items ≡ [] → AreToldUpTo clauses all (map fact_view items) 0
 none_told clauses all items e = subst (λ (xs : List BuildFact). AreToldUpTo clauses all (map fact_view xs) 0) (sym e) (record {
   each = λ f c. absurd (omega (arith, c.1));
   all_told = λ n f lt at d. absurd (omega (arith, lt));
-  once = λ j k f at other. absurd (let no = slice_get_within [] j f at in omega (arith, no));
 })
 
 -- the next isn't told, since it isn't derivable
@@ -33,17 +35,15 @@ not_told clauses all told n never h = record {
     | inl same ↦ absurd (never (subst (Derivable clauses) same d))
     | inr other ↦ elim other [ inl below ↦ h.all_told m f below at d | inr above ↦ absurd (omega arith) ]
   ];
-  once = h.once;
 }
 
 -- the next is told
-pub one_told : (clauses : List ClauseModel) (all : List FactModel) (told more : List BuildFact) (k : BuildFact) (n : ℕ) → more ≡ told ++ k ∷ [] → slice_get all n ≡ Some (fact_view k) → AreDistinct all
+pub one_told : (clauses : List ClauseModel) (all : List FactModel) (told more : List BuildFact) (k : BuildFact) (n : ℕ) → more ≡ told ++ k ∷ [] → slice_get all n ≡ Some (fact_view k)
     → Derivable clauses n → AreToldUpTo clauses all (map fact_view told) n → AreToldUpTo clauses all (map fact_view more) (n + 1)
-one_told clauses all told more k n pushed here distinct d h =
+one_told clauses all told more k n pushed here d h =
     let f = fact_view k in
     let fs = map fact_view told in
     let same : map fact_view more ≡ fs ++ f ∷ [] = ap (map fact_view) pushed ∙ map-append fact_view told (k ∷ []) in
-    let fresh : Contains fs f → ⊥ = λ c. (let w = h.each f c in let e : w.0 ≡ n = distinct w.0 n f w.2 here in omega (arith, w.1, e)) in
     subst (λ (gs : List FactModel). AreToldUpTo clauses all gs (n + 1)) (sym same) (record {
       each = λ g c. elim (Contains-push_cases fs f g c) [
         | inl before ↦ (let w = h.each g before in (w.0, omega (arith, w.1), w.2, w.3))
@@ -58,17 +58,25 @@ one_told clauses all told more k n pushed here distinct d h =
           | inr above ↦ absurd (omega arith)
         ]
       ];
-      once = λ j i g at other. elim (end_cases fs f g j at) [
-        | inl before ↦ elim (end_cases fs f g i other) [
-          | inl too ↦ h.once j i g before too
-          | inr w ↦ absurd (fresh (subst (Contains fs) (sym w.1) (contains_at fs j g before)))
-        ]
-        | inr v ↦ elim (end_cases fs f g i other) [
-          | inl too ↦ absurd (fresh (subst (Contains fs) (sym v.1) (contains_at fs i g too)))
-          | inr w ↦ v.0 ∙ sym w.0
-        ]
-      ];
     })
+
+-- facts that are equal say the same
+same_fact : (x y : BuildFact) → fact_equality.eq x y ≡ true → fact_view x ≡ fact_view y
+same_fact x y e = (fact_tells x y).0 (is_equal (fact_cmp x y) (sym (matches_eq-law x y) ∙ e))
+
+-- in order, and one of those that are equal, the same facts are told
+pub told_in_order : (clauses : List ClauseModel) (all : List FactModel) (told sorted : List BuildFact) (n : ℕ)
+    → ((x : BuildFact) → Contains sorted x → Contains told x) → ((x : BuildFact) → Contains told x → (y : BuildFact) × Contains sorted y × (fact_equality.eq x y ≡ true))
+    → AreToldUpTo clauses all (map fact_view told) n → AreToldUpTo clauses all (map fact_view sorted) n
+told_in_order clauses all told sorted n from kept h = record {
+  each = λ f c. (
+      let w = contains_source fact_view sorted f c in
+      h.each f (subst (Contains (map fact_view told)) w.2 (contains_image fact_view told w.0 (from w.0 w.1))));
+  all_told = λ m f lt at d. (
+      let w = contains_source fact_view told f (h.all_told m f lt at d) in
+      let k = kept w.0 w.1 in
+      subst (Contains (map fact_view sorted)) (sym (same_fact w.0 k.0 k.2) ∙ w.2) (contains_image fact_view sorted k.0 k.1));
+}
 
 module _ (t : Tables) (all : List FactModel) (numbers : BTreeMap BuildFact ℕ) (clauses : ClausesModel) (h : AreDerived t all numbers clauses) where
   below : All (NamesBelow (length all)) clauses.list

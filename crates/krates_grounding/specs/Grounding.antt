@@ -83,8 +83,7 @@ SaysNoText (ScriptCompiled c n) = ⊤
 
 -- ---- what is told
 
--- of the facts with numbers below the bound, those that are derivable are told, each once
+-- of the facts with numbers below the bound, those that are derivable are told
 pub record AreToldUpTo (clauses : List ClauseModel) (all told : List FactModel) (bound : ℕ) : Type 0 where
   pub each : (f : FactModel) → Contains told f → (n : ℕ) × (n < bound) × (slice_get all n ≡ Some f) × Derivable clauses n
   pub all_told : (n : ℕ) (f : FactModel) → n < bound → slice_get all n ≡ Some f → Derivable clauses n → Contains told f
-  pub once : AreDistinct told

@@ -1,8 +1,10 @@
 //! What follows from the tables of a document and a build.
 ghost use Rattle.std.specs.Prelude.{◌≡◌, All, Contains, IfNone, IfOk, IfSome, IsTrue, length, map};
+ghost use Rattle.std.specs.List.Sorted.{IsStrictlySortedBy};
 ghost use Rattle.krates_grounding.specs.FactModels.{FactModel, fact_view};
-ghost use Rattle.krates_grounding.specs.Grounding.{AreDistinct, AreToldUpTo, SaysNoText};
+ghost use Rattle.krates_grounding.specs.Grounding.{AreToldUpTo, SaysNoText};
 ghost use Rattle.krates_grounding.specs.Meanings.{Follows};
+ghost use Rattle.krates_grounding.specs.Numbers.{fact_cmp};
 ghost use Rattle.krates_grounding.specs.Steps.{AreStepsTo, step_view};
 
 use crate::facts::BuildFact;
@@ -11,6 +13,7 @@ use crate::grounding::grounded;
 use crate::steps::{BuildStep, steps_of};
 use krates_build_tables::Tables;
 use krates_closure::{Closure, FactNumber};
+use krates_document::sorted::in_order;
 use std::alloc::{AllocError, Global};
 use std::collections::BTreeMap;
 use std::marker::Model;
@@ -93,8 +96,8 @@ impl<'a> Derived<'a> {
         }
     }
 
-    /// All facts that follow, each once, in the order in which they were found: those that a build begins with come first. That a text is
-    /// available is told as `holds` tells it. The only error is running out of memory. Time O(n) in the facts that may follow.
+    /// All facts that follow, in ascending order, each once. That a text is available is told as `holds` tells it. The only error is
+    /// running out of memory. Time O(n log n) in the facts that may follow.
     ///
     /// ```text
     /// for fact in derived.facts(alloc)? {
@@ -105,10 +108,11 @@ impl<'a> Derived<'a> {
         ensures sound { IfOk result (λ facts. All (Follows self.now) (map fact_view facts.items)) }
         ensures complete { IfOk result (λ facts. (f : FactModel) → SaysNoText f → Follows self.now f
             → Contains (map fact_view facts.items) f) }
-        ensures once { IfOk result (λ facts. AreDistinct (map fact_view facts.items)) }
+        ensures ordered { IfOk result (λ facts. IsStrictlySortedBy fact_cmp facts.items) }
     {
         let told = holding(alloc, &self.facts, &self.closure)?;
-        Ok(told)
+        let sorted = in_order(told)?;
+        Ok(sorted)
     }
 
     /// Why a fact follows: steps, each after those that give what it follows from. What they give is the fact itself, or what another of
@@ -148,7 +152,6 @@ fn holding<'a>(
     facts: &[BuildFact<'a>],
     closure: &Closure,
 ) -> Result<Vec<BuildFact<'a>>, AllocError>
-    requires { AreDistinct (map fact_view facts.now) }
     ensures { IfOk result (λ told. AreToldUpTo closure.now.clauses.list (map fact_view facts.now)
         (map fact_view told.items) (length facts.now)) }
 {

@@ -12,3 +12,4 @@ pub mod Answered
 pub mod Sides
 pub mod BuildRules
 pub mod Built
+pub mod VisitOrder

@@ -26,7 +26,7 @@ loop-number-preserved c =
       | then-holds+in_ok-push w ↦ (
           let pushed = ap (λ (v : Vec BuildFact). v.items) w.told-is ∙ w.in_ok-push.ensures.items in
           let d = subst (λ (k : ℕ). Derivable clauses k) c.new.ensures (w.if-holds.ensures.0 refl) in
-          one_told clauses all c.loop-number.told.items _ _ n pushed here c.requires d c.loop-number.invariant)
+          one_told clauses all c.loop-number.told.items _ _ n pushed here d c.loop-number.invariant)
       | else-holds w ↦ (
           let never : Derivable clauses n → ⊥ = λ d. false≢true (w.if-holds.ensures.1 (subst (λ (k : ℕ). Derivable clauses k) (sym c.new.ensures) d)) in
           subst (λ (v : Vec BuildFact). AreToldUpTo clauses all (map fact_view v.items) (n + 1)) (sym w.told-is)

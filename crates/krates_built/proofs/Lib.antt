@@ -1,0 +1,9 @@
+pub mod FirstLost
+pub mod FoundLists
+pub mod MeantLists
+pub mod OrderMeanings
+pub mod Picked
+pub mod PlacesRead
+pub mod Picks
+pub mod Refused
+pub mod SameFeatures

@@ -1,0 +1,5 @@
+pub mod BuildLists
+pub mod BuiltBy
+pub mod FactLists
+pub mod OrderAt
+pub mod Refusals

@@ -1,0 +1,132 @@
+//! What cargo builds.
+ghost use Rattle.std.specs.Prelude.{◌≡◌, IfErr, IfOk, map};
+ghost use Rattle.krates_build_tables.specs.CrateParts.{AreTablesOf};
+ghost use Rattle.krates_built.specs.BuildLists.{IsListed};
+ghost use Rattle.krates_built.specs.Refusals.{IsRefusal};
+ghost use Rattle.krates_questions.specs.Lookup.{resolved_view};
+ghost use Rattle.krates_rules.specs.Facts.{Id};
+ghost use Rattle.krates_rules.specs.Resolved.{id_of};
+ghost use Rattle.krates_units.specs.BuildSetting.{build_setting_view};
+ghost use Rattle.krates_units.specs.Built.{IsComplete};
+ghost use Rattle.krates_units.specs.VisitOrder.{DependsOnOrder};
+
+use crate::listed::{Listed, listed_of};
+use crate::not_built::NotBuilt;
+use crate::places::{FeaturePlace, NeedPlace, RunPlace, ScriptPlace};
+use crate::refusal::refusal;
+use krates_build_tables::Tables;
+use krates_grounding::{UnitPlace, laws};
+use krates_questions::Document;
+use krates_units::BuildSetting;
+use std::alloc::Global;
+use std::marker::Model;
+
+/// What cargo builds: each list is in ascending order, by the numbers and places of the tables, and has each element once.
+#[derive(Drop)]
+pub struct Units<'a> {
+    listed: Listed<'a>,
+}
+
+impl<'a> Model for Units<'a> {
+    ghost use Rattle.krates_built.specs.BuildLists.{IsListed};
+    ghost use Rattle.krates_built.specs.contracts.listed.Listed as told;
+    ghost use Rattle.krates_built.specs.declared.listed.Listed.{Listed};
+    ghost use Rattle.krates_grounding.specs.Numbers.{at_any};
+    ghost use Rattle.std.specs.Coded.{codes};
+
+    ghost Value = { Listed };
+
+    ghost coded = { Prim.hlevel (codes, (told.the_row at_any).coded) };
+
+    ghost view = { λ u. u.listed };
+
+    ghost invariant = { λ u. IsListed u.listed };
+}
+
+impl<'a> Units<'a> {
+    /// What always holds: the lists have exactly what follows from the tables.
+    pub fn agrees(&self)
+        ensures { IsListed self.now }
+    {
+        let _ = &self.listed;
+    }
+
+    /// The tables of the document and the build, which say what is at each number and place. Time O(1).
+    pub fn tables(&self) -> &Tables<'a>
+        ensures { result.now ≡ self.now.derived }
+    {
+        self.listed.derived.tables()
+    }
+
+    /// The units that are compiled: targets of crates, each in a mode, by what they are compiled for. Build scripts aren't among them. Time
+    /// O(1).
+    pub fn units(&self) -> &[UnitPlace]
+        ensures { result.now ≡ self.now.lists.units.items }
+    {
+        &self.listed.lists.units
+    }
+
+    /// The build scripts that are compiled, each with the side of its features. Time O(1).
+    pub fn scripts(&self) -> &[ScriptPlace]
+        ensures { result.now ≡ self.now.lists.scripts.items }
+    {
+        &self.listed.lists.scripts
+    }
+
+    /// The runs of build scripts, each with what it is run for. Time O(1).
+    pub fn runs(&self) -> &[RunPlace]
+        ensures { result.now ≡ self.now.lists.runs.items }
+    {
+        &self.listed.lists.runs
+    }
+
+    /// The libraries that are needed, by the links over which they are. Time O(1).
+    pub fn needs(&self) -> &[NeedPlace]
+        ensures { result.now ≡ self.now.lists.needs.items }
+    {
+        &self.listed.lists.needs
+    }
+
+    /// The features that are enabled, also of crates that aren't compiled. Time O(1).
+    pub fn features(&self) -> &[FeaturePlace<'a>]
+        ensures { result.now ≡ self.now.lists.features.items }
+    {
+        &self.listed.lists.features
+    }
+}
+
+/// What cargo builds for a document and a build.
+///
+/// It is refused as `Lost` where the document has no edge for a dependency that the build needs, which names the first of these by the number
+/// of its crate and by its place there; otherwise as `DependsOnOrder` where the dependencies of a build script depend on the order of cargo's
+/// visits, which names the first such crate by number. It may instead return `Memory`. Time as `tables_of`, and O(n log n) for n instances of
+/// rules that begin with facts that may follow; and where dependencies of build scripts differ, that of all features for each of these.
+///
+/// ```text
+/// let units = units_of(alloc, &document, &setting)?;
+/// for unit in units.units() {
+///     println!(rt; "{unit:?}")?;
+/// }
+/// ```
+pub fn units_of<'a>(
+    alloc: Global,
+    document: &Document<'a>,
+    setting: &'a BuildSetting,
+) -> Result<Units<'a>, NotBuilt<'a>>
+    ensures tables { IfOk result (λ built. AreTablesOf (resolved_view document.now)
+        (build_setting_view setting.now) (map id_of document.now.ids.now.table.ids.items) built.derived) }
+    ensures lists { IfOk result IsListed }
+    ensures complete { IfOk result (λ _. IsComplete (resolved_view document.now)
+        (build_setting_view setting.now)) }
+    ensures settled { IfOk result (λ _. (i : Id) → ¬ DependsOnOrder (resolved_view document.now)
+        (build_setting_view setting.now) i) }
+    ensures refused { IfErr result (IsRefusal (resolved_view document.now) (build_setting_view setting.now)
+        (map id_of document.now.ids.now.table.ids.items)) }
+{
+    laws::meaning();
+    let listed = listed_of(alloc, document, setting)?;
+    match refusal(document, &listed) {
+        Some(refusal) => Err(refusal),
+        None => Ok(Units { listed }),
+    }
+}

@@ -1,0 +1,110 @@
+//! What cargo builds for a small document, list by list, or why it isn't said.
+
+use crate::builds::{
+    Told, document_of, name_of, push_child, push_platform, push_side, push_unit, setting_of,
+};
+use krates_built::{Units, units_of};
+use krates_document::admission::admit;
+use krates_questions::Document;
+use krates_samples::table::{Row, Tell, hold};
+use krates_text::text::Text;
+use std::test::Fail;
+
+/// A document and what is asked for, as in `builds`; and each list in its order, or the refusal.
+const LISTS: &[Row] = &[
+    (
+        "a b&build c|b|c;f= / targets a:bin,custom-build b:lib c:lib / build 2 target=windows features=c/f",
+        "c/f, | a Bin@windows, b Lib@host, c Lib@windows, | a script, | a@windows, | a@windows>c@windows, a@host>b@host, ",
+    ),
+    // what the document lacks is named: the first by crate and place
+    (
+        "a b c|b|c / nodes a|b|c / targets a:bin b:lib c:lib / build 2",
+        "the document has no edge for `b`, on which path+file:///w/a#0.1.0 depends",
+    ),
+    // a lost dependency that the build doesn't need is none
+    (
+        "a b?|b / nodes a|b / targets a:bin b:lib / build 2",
+        " | a Bin@linux, |  |  | ",
+    ),
+    // one build script, with the dependencies of the side that cargo meets first (tried: it depends on the name of the member `o`)
+    (
+        "o p&build|p a?&build;on=dep:a|a;x= / members o p / targets o:lib,custom-build p:lib,custom-build a:lib / build 2 features=a/x",
+        "what the build script of path+file:///w/p#0.1.0 depends on is a matter of cargo's order",
+    ),
+    // with one set of features there is one answer
+    (
+        "o p&build|p a?&build;on=dep:a|a;x= / members o p / targets o:lib,custom-build p:lib,custom-build a:lib / build 1 features=a/x",
+        "",
+    ),
+];
+
+/// Writes what is between lists.
+fn push_bar(told: &mut Text) {
+    told.push_str("| ");
+}
+
+/// Writes the features, the units and the build scripts.
+fn push_compiled(told: &mut Text, of: Told<'_, '_>, built: &Units<'_>) {
+    for feature in built.features() {
+        write!(told, "{}/{}", name_of(of, feature.krate), feature.name);
+        push_side(told, feature.side);
+    }
+    push_bar(told);
+    for unit in built.units() {
+        push_unit(told, of, *unit);
+    }
+    push_bar(told);
+    for script in built.scripts() {
+        write!(told, "{} script", name_of(of, script.krate));
+        push_side(told, script.side);
+    }
+    push_bar(told);
+}
+
+/// Writes the runs and the needs.
+fn push_edges(told: &mut Text, of: Told<'_, '_>, built: &Units<'_>) {
+    for run in built.runs() {
+        told.push_str(name_of(of, run.krate));
+        push_platform(told, of, run.placement.platform);
+        told.push_str(", ");
+    }
+    push_bar(told);
+    for need in built.needs() {
+        told.push_str(name_of(of, need.link.krate));
+        push_platform(told, of, need.from);
+        told.push_str(">");
+        push_child(told, of, need.link);
+        push_platform(told, of, need.library.placement.platform);
+        told.push_str(", ");
+    }
+}
+
+/// The lists of a line's build.
+struct Lists;
+
+impl Tell for Lists {
+    fn tell(told: &mut Text, line: &str) -> Result<(), Fail> {
+        let alloc = told.allocator();
+        let metadata = document_of(alloc, line)?;
+        let setting = setting_of(alloc, line)?;
+        let ids = admit(alloc, &metadata)?;
+        let document = Document::new(alloc, &metadata, &ids)?;
+        match units_of(alloc, &document, &setting) {
+            Ok(built) => {
+                let of = Told {
+                    document: &document,
+                    tables: built.tables(),
+                };
+                push_compiled(told, of, &built);
+                push_edges(told, of, &built);
+            }
+            Err(refusal) => write!(told, "{refusal}"),
+        }
+        Ok(())
+    }
+}
+
+#[test]
+fn builds_are_listed(rt: HostRuntime) -> Result<(), Fail> {
+    hold::<Lists>(rt.alloc(), LISTS)
+}
