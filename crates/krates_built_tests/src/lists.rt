@@ -14,7 +14,7 @@ use std::test::Fail;
 const LISTS: &[Row] = &[
     (
         "a b&build c|b|c;f= / targets a:bin,custom-build b:lib c:lib / build 2 target=windows features=c/f",
-        "c/f, | a Bin@windows, b Lib@host, c Lib@windows, | a script, | a@windows, | a@windows>c@windows, a@host>b@host, ",
+        "c/f, | a Bin@windows, b Lib@host, c Lib@windows, | a script, | a@windows, | a@host>b@host, a@windows>c@windows, ",
     ),
     // what the document lacks is named: the first by crate and place
     (
@@ -24,7 +24,7 @@ const LISTS: &[Row] = &[
     // a lost dependency that the build doesn't need is none
     (
         "a b?|b / nodes a|b / targets a:bin b:lib / build 2",
-        " | a Bin@linux, |  |  | ",
+        "| a Bin@linux, | | | ",
     ),
     // one build script, with the dependencies of the side that cargo meets first (tried: it depends on the name of the member `o`)
     (
@@ -34,7 +34,7 @@ const LISTS: &[Row] = &[
     // with one set of features there is one answer
     (
         "o p&build|p a?&build;on=dep:a|a;x= / members o p / targets o:lib,custom-build p:lib,custom-build a:lib / build 1 features=a/x",
-        "",
+        "a/x, | a Lib@host, o Lib@linux, p Lib@host, p Lib@linux, | o script, p script, p script^, | o@linux, p@host, p@linux, | o@host>p@host, p@host>a@host, ",
     ),
 ];
 
