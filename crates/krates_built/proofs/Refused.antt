@@ -1,8 +1,9 @@
 -- A refusal that is true of the tables is true of the document, and where there is none the build is whole.
-use Rattle.std.proofs.Common.{ℕ, List, refl}
+use Rattle.std.proofs.Common.{ℕ, List, refl, sym, subst}
 use Rattle.krates_cm.specs.Document.{DependencyModel, PackageModel, dependency_view}
 use Rattle.krates_rules.specs.Facts.{Id}
 use Rattle.krates_rules.specs.Resolved.{Resolved}
+use Rattle.krates_units.specs.Answered.{IsAnswered}
 use Rattle.krates_units.specs.BuildFacts as means
 use Rattle.krates_units.specs.BuildSetting.{BuildSettingModel}
 use Rattle.krates_units.specs.Built.{IsComplete}
@@ -37,6 +38,7 @@ pub told_lost : (r : Resolved) (ids : List Id) (t : Tables) (place : LostPlace) 
     → IsRefusalAt r ids t x
 told_lost r ids t place (refusals.Lost pkg dep) first h = (place, first, h)
 told_lost r ids t place (refusals.DependsOnOrder pkg) first h = absurd h
+told_lost r ids t place (refusals.NamesNothing request) first h = absurd h
 told_lost r ids t place refusals.Memory first h = absurd h
 
 module _ (exact : FollowsAsDerivable) (complete : EachHasNumber) (r : Resolved) (s : BuildSettingModel) (ids : List Id) (ms : List MachineModel)
@@ -53,21 +55,24 @@ module _ (exact : FollowsAsDerivable) (complete : EachHasNumber) (r : Resolved) 
       let c = number_of exact complete r s ids ms t tables i h in
       none c.0 (depends_at exact complete r s ids ms t tables c.0 i c.1 h)
 
-  pub refused : (x : NotBuilt) → IsRefusalAt r ids t x → IsRefusal r s ids x
-  refused (refusals.Lost pkg dep) (place, first, of_package) = record {
+  pub refused : IsAnswered r s → (x : NotBuilt) → IsRefusalAt r ids t x → IsRefusal r s ids x
+  refused answered (refusals.NamesNothing request) h = absurd h
+  refused answered (refusals.Lost pkg dep) (place, first, of_package) = record {
+    answered = answered;
     tables = t;
-    are = (ms, tables);
+    are = subst (λ (all : List MachineModel). AreTables r s ids all t) (sym tables.machines_told) tables;
     place = place;
     first = first;
     of_package = of_package;
     lost = (exact r s ids ms t tables (lost_fact place) (means.Lost of_package.id (dependency_view dep.now))
         (of_package.id, dependency_view dep.now, of_package.at, refl)).0 first.lost;
   }
-  refused (refusals.DependsOnOrder pkg) (none, (krate, first, of_package)) = record {
+  refused answered (refusals.DependsOnOrder pkg) (none, (krate, first, of_package)) = record {
+    answered = answered;
     complete = complete_of none;
     number = krate;
     of_package = of_package;
     depends = depends_on exact complete r s ids ms t tables krate of_package.id of_package.at first.depends;
     first = λ other i lt at h. first.first other lt (depends_at exact complete r s ids ms t tables other i at h);
   }
-  refused refusals.Memory h = absurd h
+  refused answered refusals.Memory h = absurd h

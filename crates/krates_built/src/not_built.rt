@@ -2,14 +2,17 @@
 ghost use Rattle.std.specs.Prelude.{◌≡◌};
 ghost use Rattle.krates_built.specs.declared.not_built.NotBuilt.TheVariants.{Memory};
 
+use krates_build_tables::Unanswered;
 use krates_cm::{Dependency, Package};
-use krates_shown::Shown;
+use krates_shown::{Shown, ShownValue};
 use std::alloc::AllocError;
 use std::fmt;
 
 /// Why it isn't said what cargo builds.
 #[derive(Clone, Copy, Debug, thiserror::Error)]
 pub enum NotBuilt<'a> {
+    /// A request of the build names nothing, so that cargo refuses it.
+    NamesNothing(Unanswered<'a>),
     /// The document has no edge for a declared dependency that the build needs: it was asked of cargo with other features, or the dependency
     /// has no library.
     Lost {
@@ -32,6 +35,20 @@ pub enum NotBuilt<'a> {
 impl fmt::Display for NotBuilt<'_> {
     fn fmt<W: fmt::Write>(&self, f: &mut fmt::Formatter<W>) -> fmt::Result {
         match self {
+            NotBuilt::NamesNothing(Unanswered::Package(spec)) => {
+                write!(f, "no package fits `{}`", ShownValue(*spec))
+            }
+            NotBuilt::NamesNothing(Unanswered::Selection) => f.write_str("no package is asked for"),
+            NotBuilt::NamesNothing(Unanswered::Feature(text)) => {
+                write!(
+                    f,
+                    "no package that is asked for has the feature `{}`",
+                    Shown(text)
+                )
+            }
+            NotBuilt::NamesNothing(Unanswered::FeatureFlag) => {
+                f.write_str("no member is asked for that could take the flags for features")
+            }
             NotBuilt::Lost {
                 package,
                 dependency,

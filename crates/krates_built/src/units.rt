@@ -6,6 +6,7 @@ ghost use Rattle.krates_built.specs.Refusals.{IsRefusal};
 ghost use Rattle.krates_questions.specs.Lookup.{resolved_view};
 ghost use Rattle.krates_rules.specs.Facts.{Id};
 ghost use Rattle.krates_rules.specs.Resolved.{id_of};
+ghost use Rattle.krates_units.specs.Answered.{IsAnswered};
 ghost use Rattle.krates_units.specs.BuildSetting.{build_setting_view};
 ghost use Rattle.krates_units.specs.Built.{IsComplete};
 ghost use Rattle.krates_units.specs.VisitOrder.{DependsOnOrder};
@@ -15,6 +16,7 @@ use crate::not_built::NotBuilt;
 use crate::places::{FeaturePlace, NeedPlace, RunPlace, ScriptPlace};
 use crate::refusal::refusal;
 use krates_build_tables::Tables;
+use krates_build_tables::unanswered::first_unanswered;
 use krates_grounding::{UnitPlace, laws};
 use krates_questions::Document;
 use krates_units::BuildSetting;
@@ -97,8 +99,9 @@ impl<'a> Units<'a> {
 
 /// What cargo builds for a document and a build.
 ///
-/// It is refused as `Lost` where the document has no edge for a dependency that the build needs, which names the first of these by the number
-/// of its crate and by its place there; otherwise as `DependsOnOrder` where the dependencies of a build script depend on the order of cargo's
+/// It is refused as `NamesNothing` where a request names nothing, which gives the first as `first_unanswered` does; otherwise as `Lost` where
+/// the document has no edge for a dependency that the build needs, which names the first of these by the number of its crate and by its
+/// place there; otherwise as `DependsOnOrder` where the dependencies of a build script depend on the order of cargo's
 /// visits, which names the first such crate by number. It may instead return `Memory`. Time as `tables_of`, and O(n log n) for n instances of
 /// rules that begin with facts that may follow; and where dependencies of build scripts differ, that of all features for each of these.
 ///
@@ -116,6 +119,8 @@ pub fn units_of<'a>(
     ensures tables { IfOk result (λ built. AreTablesOf (resolved_view document.now)
         (build_setting_view setting.now) (map id_of document.now.ids.now.table.ids.items) built.derived) }
     ensures lists { IfOk result IsListed }
+    ensures answered { IfOk result (λ _. IsAnswered (resolved_view document.now)
+        (build_setting_view setting.now)) }
     ensures complete { IfOk result (λ _. IsComplete (resolved_view document.now)
         (build_setting_view setting.now)) }
     ensures settled { IfOk result (λ _. (i : Id) → ¬ DependsOnOrder (resolved_view document.now)
@@ -124,6 +129,10 @@ pub fn units_of<'a>(
         (map id_of document.now.ids.now.table.ids.items)) }
 {
     laws::meaning();
+    let unanswered = first_unanswered(alloc, document, setting)?;
+    if let Some(request) = unanswered {
+        return Err(NotBuilt::NamesNothing(request));
+    }
     let listed = listed_of(alloc, document, setting)?;
     match refusal(document, &listed) {
         Some(refusal) => Err(refusal),

@@ -16,6 +16,15 @@ const LISTS: &[Row] = &[
         "a b&build c|b|c;f= / targets a:bin,custom-build b:lib c:lib / build 2 target=windows features=c/f",
         "c/f, | a Bin@windows, b Lib@host, c Lib@windows, | a script, | a@windows, | a@host>b@host, a@windows>c@windows, ",
     ),
+    // a request that names nothing is refused, as cargo does
+    (
+        "a;x= / targets a:bin / build 2 features=x,y",
+        "no package that is asked for has the feature `y`",
+    ),
+    (
+        "a / targets a:bin / build 2 package=b",
+        "no package fits `b`",
+    ),
     // what the document lacks is named: the first by crate and place
     (
         "a b c|b|c / nodes a|b|c / targets a:bin b:lib c:lib / build 2",

@@ -4,6 +4,7 @@ use Rattle.std.specs.Option.{option_copied}
 use Rattle.krates_cm.specs.Document.{DependencyModel, PackageModel}
 use Rattle.krates_questions.specs.Lookup.{resolved_view}
 use Rattle.krates_rules.specs.Resolved.{id_of}
+use Rattle.krates_build_tables.specs.Judgements.{lent_machines}
 use Rattle.krates_build_tables.specs.declared.tables.Tables.{Tables}
 use Rattle.krates_built.specs.Refusals.{IsLostOf, TellsLost}
 use Rattle.krates_built.specs.declared.places.LostPlace.{LostPlace}
@@ -21,7 +22,7 @@ lost_at-requires c =
     let at = subst (λ (xs : List LostPlace). slice_get xs 0 ≡ Some place) c.deref.ensures.value (sym c.first.ensures.value ∙ ap option_copied c.in-Some.is) in
     let first = first_lost t c.args.listed.now.lists.lost.items place c.requires.listed.lost at in
     subst (λ (u : Tables). (pkg : PackageModel) × (d : DependencyModel) × IsLostOf r ids u place pkg d) (sym c.tables.ensures)
-    (lost_of c.meaning.ensures.sound r c.requires.tables.0 ids c.requires.tables.1.0 t c.requires.tables.1.1 place first.lost)
+    (lost_of c.meaning.ensures.sound r c.requires.tables.0 ids (lent_machines t.machines.items) t c.requires.tables.1 place first.lost)
 
 pub returns-in-Some : goal.returns-in-Some
 returns-in-Some c =
@@ -35,5 +36,5 @@ returns-in-Some c =
 
 pub package_at-package-requires : goal.package_at-package-requires
 package_at-package-requires c =
-    package_of c.meaning.ensures.exact c.meaning.ensures.complete (resolved_view c.args.document.now) c.requires.tables.0 (map id_of c.args.document.now.ids.now.table.ids.items) c.requires.tables.1.0 c.args.listed.now.derived c.requires.tables.1.1
+    package_of c.meaning.ensures.exact c.meaning.ensures.complete (resolved_view c.args.document.now) c.requires.tables.0 (map id_of c.args.document.now.ids.now.table.ids.items) (lent_machines c.args.listed.now.derived.machines.items) c.args.listed.now.derived c.requires.tables.1
     c.in_ok-krate.krate c.in_ok-krate.ensures.depends
