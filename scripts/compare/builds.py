@@ -66,8 +66,8 @@ class Build:
         """What only one of the program and a unit graph has, or that the program derives nothing."""
         if self.status:
             return [f"status {self.status}: {self.said.strip()}"]
-        if self.facts["lost"]:
-            return [f"lost here: {self.facts['lost'][0]}"]
+        if self.facts["refused"]:
+            return [f"refused here: {self.facts['refused'][0]}"]
         units, edges = printed(graph)
         return differing("unit", units, self.units()) + differing("edge", edges, self.edges())
 

@@ -43,7 +43,7 @@ def answer(folder, case):
     cfg = os.environ.get("KRATES_CFG", str(folder / "cfg"))
     build = Build((case["resolver"], cfg, HOST), case["words"], document_of(folder, case["doc"]))
     if case["verdict"] == "lost":
-        return "lost" if build.facts["lost"] else ["nothing is lost here"]
+        return "lost" if build.facts["lost"] and build.facts["refused"] else ["nothing is lost here"]
     graph = file_of(folder / "units", case["units"].removesuffix(".gz"))
     return build.differences(graph) or "agree"
 
@@ -63,6 +63,7 @@ def compare(folder):
             if not isinstance(found, str) and len(first) < SHOWN:
                 first.append((case, found))
     for case, found in first:
-        print("\n".join([f"different: {case['doc']}, resolver {case['resolver']}: {' '.join(case['words'])}", *found[:SHOWN]]))
+        lines = [f"different: {case['doc']}, resolver {case['resolver']}: {' '.join(case['words'])}", *found[:SHOWN]]
+        print("\n".join(ascii(line) for line in lines))
     print(f"{counts['agree']} agree, {counts['lost']} are lost in both, {counts['differ']} differ")
     return len(cases) > 0 and not counts["differ"]

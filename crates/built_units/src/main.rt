@@ -1,6 +1,7 @@
 //! `built-units`: reads the document of `cargo metadata --format-version 1` from standard input, and writes what follows about a build, a
-//! line for each fact. Its words are the resolver, a folder with what `rustc --print cfg` prints for each machine in a file TRIPLE.txt,
-//! the triple of the machine that builds, and those of `cargo build`. With `--ten-times`, all is derived ten times more.
+//! line for each fact, and why it isn't said what cargo builds, if it isn't. Its words are the resolver, a folder with what
+//! `rustc --print cfg` prints for each machine in a file TRIPLE.txt, the triple of the machine that builds, and those of `cargo build`.
+//! With `--ten-times`, all is derived ten times more.
 #![tactic(auto)]
 
 mod asked;
@@ -9,6 +10,7 @@ mod lines;
 use crate::asked::setting_of;
 use crate::lines::lines_of;
 use krates_build_tables::tables_of::tables_of;
+use krates_built::units_of;
 use krates_cm_json::parse;
 use krates_grounding::Derived;
 use krates_questions::{Document, admit};
@@ -66,7 +68,12 @@ fn built(
     if is_repeated {
         derive_again(alloc, &document, setting)?;
     }
-    Ok(lines_of(alloc, &document, &derived)?)
+    let mut lines = lines_of(alloc, &document, &derived)?;
+    if let Err(refusal) = units_of(alloc, &document, setting) {
+        let line = format!(in alloc; "refused\t{refusal}\n")?;
+        lines.push_str(line.as_str())?;
+    }
+    Ok(lines)
 }
 
 fn main(rt: HostRuntime) -> Result<(), anyhow::Error> {
