@@ -26,55 +26,40 @@ folder=$(realpath -m "${1:-${CARGO_HOME:-$HOME/.cargo}/bin}")
 cd "$(dirname "$0")/.."
 want rt
 
+. scripts/unproved/jobs.sh
 room=$(mktemp -d)
-running=()
-trap '[ ${#running[@]} -eq 0 ] || kill "${running[@]}" 2> /dev/null || true; wait; rm -rf "$room"' EXIT
+trap 'stop_jobs; rm -rf "$room"' EXIT
 
 # Says what has been done, and how many seconds after the start.
 step() {
     printf '%4d s  %s\n' "$SECONDS" "$*"
 }
 
-# The crate that a program is made of.
-crate_of() {
-    echo "${1//-/_}"
-}
-
-# Says of each program which step has ended, until none is left.
-tell_steps() {
-    local crate ended
-    while read -r crate ended; do
-        case $ended in
-            read) step "$crate: sources read" ;;
-            compiled) step "$crate: compiled" ;;
-            *) return ;;
-        esac
-    done < "$room/steps"
-}
-
-# Compiles the programs side by side, each to the folder of this run.
-compile_all() {
-    local name is_failed=
-    step "compiling ${programs[*]} side by side, unproved, which takes three to four minutes"
-    mkdir "$room/copy"
-    scripts/unproved/copy.sh "$room/copy"
-    mkfifo "$room/steps"
-    exec 3<> "$room/steps"
-    local compile=$PWD/scripts/unproved/compile.sh
-    for name in "${programs[@]}"; do
-        (cd "$room/copy/crates/$(crate_of "$name")" && exec "$compile" program "$room/$name" "$room/steps") > "$room/$name.said" 2>&1 &
+# Compiles these programs: what is below them is read once, and then each is compiled beside the others.
+compile_together() {
+    local own=$room/$1.own name running=() scripts=$PWD/scripts/unproved
+    mkdir -p "$own/copy"
+    "$scripts/copy.sh" "$own/copy" --marked
+    "$scripts/join.sh" programs "$own/copy" "${@//-/_}"
+    env -C "$own/copy/crates/joined" "$scripts/read.sh" "$own/text" >&2
+    for name; do
+        step "$name: sources read"
+        {
+            "$scripts/compile.sh" program "$own/text" "$room/$name" $((${#running[@]} + 1))
+            step "$name: compiled"
+        } &
         running+=($!)
     done
-    tell_steps &
-    running+=($!)
-    local at
-    for at in "${!programs[@]}"; do
-        wait "${running[at]}" || { cat "$room/${programs[at]}.said" >&2 && is_failed=yes; }
-    done
-    echo end >&3
-    wait "${running[-1]}"
-    running=()
-    [ -z "$is_failed" ] || exit 1
+    for name in "${running[@]}"; do wait "$name"; done
+}
+
+# Compiles the programs. krates-list has least below it: it is done while the others are read, which keeps a second processor from waiting.
+compile_all() {
+    step "compiling ${programs[*]} side by side, unproved, which takes three to four minutes"
+    begin compile_together cargo-krates krates_check
+    begin compile_together krates-list
+    end 0
+    end 1
 }
 
 # Takes the proved programs that are here, and proves those that aren't.
@@ -82,7 +67,8 @@ prove_all() {
     local name crate left
     . scripts/release/gate.sh
     for name in "${programs[@]}"; do
-        crate=$(crate_of "$name") left=crates/$crate/out/$crate
+        crate=${name//-/_}
+        left=crates/$crate/out/$crate
         if gate_left "$left"; then
             step "$name: as the gate left it"
         else

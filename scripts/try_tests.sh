@@ -3,8 +3,11 @@
 #
 #     scripts/try_tests.sh [CRATE..]
 #
-# Without a name: those of all crates, as many side by side as there are processors, each by scripts/try_tests/crate.sh. What is compiled is kept in
-# out/tried, so that a crate isn't compiled again while it and those below it, the toolchain and these scripts are as they were.
+# Without a name: those of all crates. First the tests of all crates are compiled as one, and beside them all programs as one, since most of the
+# time goes into reading the crates below. This is kept in out/tried, so that a crate isn't compiled again while it and those below it, the
+# toolchain and these scripts are as they were. Then each crate is run by scripts/try_tests/crate.sh, as many side by side as there are processors.
+# What runs stops where a sum wraps, or a call breaks a `requires` that can be seen. Accesses to memory aren't checked, as `rt try` checks them: that
+# takes twice the time, and isn't possible where a test starts its own program with little memory.
 #
 # Prints a line as each crate ends: how many of its tests passed and failed, how many weren't run, and the seconds since the start; above it what those
 # said that failed, or why not all were run; a program is one test. The last line is of all crates. The status is 0 where all were run and passed,
@@ -13,7 +16,9 @@
 set -euo pipefail
 cd "$(dirname "$0")/.."
 . scripts/words.sh
+. scripts/unproved/jobs.sh
 want rt
+trap stop_jobs EXIT
 
 # Prints how many tests a crate has; its program is one.
 count() {
@@ -28,11 +33,14 @@ crates=("$@")
 if [ ${#crates[@]} -eq 0 ]; then
     mapfile -t crates < <(for it in crates/*; do echo "$(count "${it#*/}") ${it#*/}"; done | sort -rn | sed '/^0 /d; s/.* //')
 fi
+tested=() programs=()
 for crate in "${crates[@]}"; do
     if [ "$(count "$crate")" -eq 0 ]; then
         echo "$crate: there is no such crate, or it has no tests and is no program" >&2
         exit 2
     fi
+    [ ! -f "crates/$crate/src/main.rt" ] || programs+=("$crate")
+    ! grep -rqE '^ *#\[test\]' "crates/$crate/src" --include=*.rt || tested+=("$crate")
 done
 
 # Prints what is to be said of a crate's tests, of which there are so many: the words are the crate, their count and the seconds.
@@ -61,11 +69,25 @@ try_one() {
     # what is said of one crate stays together
     judge "$1" "$(count "$1")" $(($(date +%s) - began)) <<< "$told" | flock "$kept" cat
 }
+
+# Compiles those of a kind of these crates together, and says when that is done, or why it can't be.
+compile() {
+    [ $# -gt 1 ] || return 0
+    if scripts/try_tests/kept.sh "$1" "$kept" "${@:2}"; then
+        echo "compiled, or kept: ${*:2} ($(($(date +%s) - began)) s)"
+    else
+        echo "not compiled: ${*:2}"
+    fi
+}
 export -f count judge try_one
 began=$(date +%s) kept=$PWD/out/tried
 export began kept
 mkdir -p "$kept"
-echo "crates to try: ${#crates[@]}, $(nproc) side by side, in minutes where they are compiled first"
+echo "crates to try: ${#crates[@]}, in minutes where they are compiled first"
+begin compile tests "${tested[@]}"
+begin compile tried "${programs[@]}"
+end 0
+end 1
 
 printf '%s\n' "${crates[@]}" | xargs -P "$(nproc)" -I{} bash -c 'try_one "$1"' _ {} | awk -v crates="${#crates[@]}" '
     { print; fflush() }

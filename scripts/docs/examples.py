@@ -17,20 +17,23 @@ import tempfile
 from krates_sources import ROOT
 
 PAGES = ("README.md", "docs/GUIDE.md")
+TRIED = ROOT / "out/tried"
 PROGRAMS = {"cargo-krates": "cargo_krates", "krates_check": "krates_check", "krates-list": "krates_list"}
 
 BLOCK = re.compile(r"^```\n(\$ .*?)^```$", re.M | re.S)
 
 
-def found(crate, may_compile):
-    """The program of a crate, or nothing where there is none of these sources; says so then."""
-    if crate.upper() in os.environ:
-        return os.environ[crate.upper()]
-    words = [ROOT / "scripts/try_tests/kept.sh", "tried", ROOT / "out/tried", *["--no-compiling"] * (not may_compile)]
-    ran = subprocess.run(words, cwd=ROOT / "crates" / crate, text=True, stdout=subprocess.PIPE, check=False)
-    if ran.returncode:
-        print(ran.stdout.strip(), file=sys.stderr)
-    return "" if ran.returncode else ran.stdout.strip()
+def found(may_compile):
+    """The programs by their names, or nothing where one isn't there as it is compiled of these sources; says so then."""
+    given = {shown: os.environ.get(crate.upper()) for shown, crate in PROGRAMS.items()}
+    wanted = [PROGRAMS[shown] for shown, path in given.items() if not path]
+    if wanted:
+        words = [ROOT / "scripts/try_tests/kept.sh", "tried", TRIED, *["--no-compiling"] * (not may_compile), *wanted]
+        ran = subprocess.run(words, cwd=ROOT, text=True, stdout=subprocess.PIPE, check=False)
+        if ran.returncode:
+            print(ran.stdout.strip(), file=sys.stderr)
+            return {}
+    return {shown: path or TRIED / f"{PROGRAMS[shown]}.tried" for shown, path in given.items()}
 
 
 def asked(block):
@@ -69,8 +72,8 @@ def compare(programs):
 
 def check(may_compile=False):
     """Whether every command prints what is shown; says what to run where the programs aren't there."""
-    programs = {shown: found(crate, may_compile) for shown, crate in PROGRAMS.items()}
-    if all(programs.values()):
+    programs = found(may_compile)
+    if programs:
         return compare(programs)
     print("what the pages show of the programs can't be compared: first run scripts/try_tests.sh", file=sys.stderr)
     return False

@@ -8,17 +8,19 @@ set -euo pipefail
 cd "$(dirname "$0")/../.."
 kit=$(dirname "$(dirname "$(realpath "$(command -v rt)")")")
 out=$PWD/bindings/out
-compile=$PWD/scripts/unproved/compile.sh
+. scripts/unproved/jobs.sh
 room=$(mktemp -d)
-trap '[ -z "${compiling:-}" ] || kill "$compiling" 2> /dev/null || true; wait; rm -rf "$room"' EXIT
+trap 'stop_jobs; rm -rf "$room"' EXIT
 
 echo "compiling the static library, unproved, which takes two minutes"
 mkdir -p "$out" "$room/copy"
-scripts/unproved/copy.sh "$room/copy"
-(cd "$room/copy/crates/krates_c" && exec "$compile" archive "$room/libkrates_c.a") &
-compiling=$!
-wait "$compiling"
-compiling=
+scripts/unproved/copy.sh "$room/copy" --marked
+scripts/unproved/join.sh library "$room/copy" krates_c
+begin env -C "$room/copy/crates/joined" "$PWD/scripts/unproved/read.sh" "$room/text" >&2
+end 0
+mapfile -t names < <(sed -n 's/^pub extern "C" fn \(\w*\)(.*/\1/p' crates/krates_c/src/*.rt)
+begin scripts/unproved/compile.sh archive "$room/text" "$room/libkrates_c.a" "${names[@]}"
+end 1
 mv "$room/libkrates_c.a" "$out"
 cp "$kit/c/liblibc_c.a" "$out"
 echo "bindings/out/libkrates_c.a: $(stat -c %s "$out/libkrates_c.a") bytes, not proved on this machine"

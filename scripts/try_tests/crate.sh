@@ -1,13 +1,13 @@
 #!/usr/bin/env bash
-# Compiles and runs the tests of the crate in this folder without a proof, and the program that it is.
+# Runs the tests of the crate in this folder without a proof, and the program that it is.
 #
 #     ../../scripts/try_tests/crate.sh [FOLDER]
 #
-# What is compiled is kept in FOLDER, and isn't compiled again where it would be the same; without a folder it isn't kept. The program is run on its
+# They are taken from FOLDER, where kept.sh has compiled them; without a folder they are compiled first, and not kept. The program is run on its
 # stdin with its args beside the files of data/, and has to write its stdout and to end with status 0. Each runs without an environment.
 #
 # Prints a line for each test, which ends in `ok` or `FAILED`, and what it said if it failed; the program is a test by the name of the crate. Before
-# or in place of these lines comes why something can't be compiled.
+# or in place of these lines comes why something can't be run.
 
 set -euo pipefail
 here=$(dirname "$(realpath "$0")")
@@ -15,7 +15,8 @@ kit=$(dirname "$(dirname "$(realpath "$(command -v rt)")")")
 crate=$(basename "$PWD")
 room=$(mktemp -d)
 trap 'rm -rf "$room"' EXIT
-folder=${1:-$room}
+folder=$(realpath -m "${1:-$room}") how=(--no-compiling)
+[ -n "${1:-}" ] || how=()
 # a test that fails on purpose leaves no picture of its memory
 ulimit -c 0
 
@@ -33,18 +34,20 @@ try_program() {
     else
         echo "test $crate ... FAILED"
         echo "its status is $status"
-        diff "$room/out" "$room/wanted" | head -5
+        diff "$room/out" "$room/wanted" | head -5 || true
         tail -3 "$room/err"
     fi
 }
 
-if [ -f src/main.rt ]; then
-    if program=$("$here/kept.sh" tried "$folder"); then try_program "$program"; else echo "$program"; fi
-fi
-if grep -rqE '^ *#\[test\]' src --include=*.rt; then
-    if tests=$("$here/kept.sh" tests "$folder"); then
-        cd "$room" && env -i "$kit/bin/rattle-test" --seconds 60 "$tests" 2>&1 || true
-    else
-        echo "$tests"
-    fi
+# Whether what is of this kind is there, compiled of these sources; says otherwise why not.
+is_there() {
+    (cd ../.. && "$here/kept.sh" "$1" "$folder" "${how[@]}" "$crate")
+}
+
+if [ -f src/main.rt ] && is_there tried; then try_program "$folder/$crate.tried"; fi
+if grep -rqE '^ *#\[test\]' src --include=*.rt && is_there tests; then
+    cd "$room"
+    # the crate's name is in front of its tests, and of its files, since it was joined to others
+    env -i "$kit/bin/rattle-test" --seconds 60 --filter "$crate::" "$folder/$crate.tests" 2>&1 |
+        sed "s/\b$crate:://g; s#\bsrc/$crate/#src/#g; s#\bsrc/$crate\.rt#src/lib.rt#g" || true
 fi
