@@ -2,6 +2,7 @@
 use Rattle.std.specs.Prelude.{◌≡◌, ◌↔◌, ℕ, ◌<◌, List, Option, Some, None, MatchOption, IsTrue, Contains, map, slice_get}
 use Rattle.krates_ids.specs.PackageSpecification.{spec_view}
 use Rattle.krates_questions.specs.Lookup.{resolved_view}
+use Rattle.krates_rules.specs.Facts.{Id}
 use Rattle.krates_rules.specs.Resolved.{Resolved, id_of}
 use Rattle.krates_units.specs.Answered.{HasIdleFlag, IsAnswered, NamesFeature, NamesFeatures, NamesPackage, NamesPackages, SelectsSome, specifications}
 use Rattle.krates_units.specs.BuildSetting.{BuildSettingModel, build_setting_view}
@@ -40,15 +41,18 @@ TellsUnanswered r s None = IsAnswered r s
 
 -- ---- what decides which crates take a reference
 
--- the document and the setting
+-- the document, the setting, and the ids of the crates
 abbrev pub model_taking : Taking → Resolved
 model_taking t = resolved_view t.document.now
 
 abbrev pub setting_taking : Taking → BuildSettingModel
 setting_taking t = build_setting_view t.setting.now
 
+abbrev pub ids_taking : Taking → List Id
+ids_taking t = map id_of t.document.now.ids.now.table.ids.items
+
 -- the flags are those of the document and the setting
 pub record IsTaking (t : Taking) : Type 0 where
-  pub flags : AreFlags (model_taking t) (setting_taking t) (map id_of t.document.now.ids.now.table.ids.items) t.flags.now
+  pub flags : AreFlags (model_taking t) (setting_taking t) (ids_taking t) t.flags.now
   pub alike : IsTrue t.alike ↔ AsksAlike (model_taking t) (setting_taking t)
   pub none_selected : IsTrue t.none_selected ↔ SelectsNoMember (model_taking t) (setting_taking t)

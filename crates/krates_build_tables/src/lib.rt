@@ -1,4 +1,5 @@
-//! What a document and a build say to the rules of what cargo builds, as tables in which each side condition is decided.
+//! What a document and a build say to the rules of what cargo builds, as tables in which each side condition is decided; and which
+//! request of a build names nothing.
 #![tactic(auto)]
 
 mod contents;

@@ -49,7 +49,8 @@ pub(crate) fn names_feature(taking: &Taking<'_, '_>, text: &str) -> bool
 fn is_taken(taking: &Taking<'_, '_>, given: &FeatureReference<'_>) -> bool
     requires { IsTaking taking.now }
     ensures { IsTrue result
-        ↔ ((i : Id) × TakesSome (model_taking taking.now) (setting_taking taking.now) (reference_view given.now) i) }
+        ↔ ((i : Id) × TakesSome (model_taking taking.now) (setting_taking taking.now)
+        (reference_view given.now) i) }
 {
     taking.document.agrees();
     ids::one_reading();
@@ -65,7 +66,8 @@ fn is_taken(taking: &Taking<'_, '_>, given: &FeatureReference<'_>) -> bool
 fn is_lacking(taking: &Taking<'_, '_>, given: &FeatureReference<'_>) -> bool
     requires { IsTaking taking.now }
     ensures { IsTrue result
-        ↔ ((i : Id) × TakesLacking (model_taking taking.now) (setting_taking taking.now) (reference_view given.now) i) }
+        ↔ ((i : Id) × TakesLacking (model_taking taking.now) (setting_taking taking.now)
+        (reference_view given.now) i) }
 {
     taking.document.agrees();
     ids::one_reading();

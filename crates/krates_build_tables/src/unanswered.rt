@@ -90,7 +90,8 @@ fn unanswered_by<'a>(taking: &Taking<'_, 'a>) -> Option<Unanswered<'a>>
 
 /// The specifications of the packages that are asked for.
 fn specifications<'a>(setting: &'a BuildSetting) -> &'a [PkgSpec]
-    ensures { map spec_view result.now ≡ definitions.specifications (build_setting_view setting.now).selection }
+    ensures { map spec_view result.now
+        ≡ definitions.specifications (build_setting_view setting.now).selection }
 {
     match &setting.selection {
         PackageSelection::Packages(specs) => specs,

@@ -3,8 +3,10 @@
 use crate::builds::{document_of, setting_of};
 use krates_build_tables::Unanswered;
 use krates_build_tables::unanswered::first_unanswered;
+use krates_cm::Metadata;
 use krates_document::admission::admit;
 use krates_questions::Document;
+use krates_samples::documents;
 use krates_samples::table::{Row, Tell, hold};
 use krates_text::text::Text;
 use std::test::Fail;
@@ -100,25 +102,50 @@ const PACKAGES: &[Row] = &[
     ("build 1 package=nosuch features=none", "package nosuch"),
 ];
 
-/// The first request of a line's build that names nothing.
+/// What is asked of a workspace that has no default members, and of one that has no members.
+const UNSELECTED: &[Row] = &[
+    ("a;x= / build 2", "selection"),
+    ("a;x= / build 2 features=x", "selection"),
+    ("a;x= / build 2 workspace features=x", ""),
+    ("a;x= / build 2 package=a features=x", ""),
+    ("a / members / build 2", "selection"),
+    ("a / members / build 2 workspace", "selection"),
+];
+
+/// Writes the first request of a line's build that names nothing in a document.
+fn push_first(told: &mut Text, metadata: &Metadata, line: &str) -> Result<(), Fail> {
+    let alloc = told.allocator();
+    let setting = setting_of(alloc, line)?;
+    let ids = admit(alloc, metadata)?;
+    let document = Document::new(alloc, metadata, &ids)?;
+    match first_unanswered(alloc, &document, &setting)? {
+        Some(Unanswered::Package(spec)) => write!(told, "package {spec}"),
+        Some(Unanswered::Selection) => told.push_str("selection"),
+        Some(Unanswered::Feature(text)) => write!(told, "feature {text}"),
+        Some(Unanswered::FeatureFlag) => told.push_str("flag"),
+        None => {}
+    }
+    Ok(())
+}
+
+/// The first request of a line's build that names nothing in the workspace.
 struct First;
 
 impl Tell for First {
     fn tell(told: &mut Text, line: &str) -> Result<(), Fail> {
-        let alloc = told.allocator();
-        let line = format!(in alloc; "{WORKSPACE} / {line}")?;
-        let metadata = document_of(alloc, line.as_str())?;
-        let setting = setting_of(alloc, line.as_str())?;
-        let ids = admit(alloc, &metadata)?;
-        let document = Document::new(alloc, &metadata, &ids)?;
-        match first_unanswered(alloc, &document, &setting)? {
-            Some(Unanswered::Package(spec)) => write!(told, "package {spec}"),
-            Some(Unanswered::Selection) => told.push_str("selection"),
-            Some(Unanswered::Feature(text)) => write!(told, "feature {text}"),
-            Some(Unanswered::FeatureFlag) => told.push_str("flag"),
-            None => {}
-        }
-        Ok(())
+        let line = format!(in told.allocator(); "{WORKSPACE} / {line}")?;
+        let metadata = document_of(told.allocator(), line.as_str())?;
+        push_first(told, &metadata, line.as_str())
+    }
+}
+
+/// The same in the workspace of a line, which has no default members.
+struct WithoutDefaults;
+
+impl Tell for WithoutDefaults {
+    fn tell(told: &mut Text, line: &str) -> Result<(), Fail> {
+        let metadata = documents::metadata(told.allocator(), line)?;
+        push_first(told, &metadata, line)
     }
 }
 
@@ -135,4 +162,9 @@ fn features_of_members_are_named(rt: HostRuntime) -> Result<(), Fail> {
 #[test]
 fn packages_are_named(rt: HostRuntime) -> Result<(), Fail> {
     hold::<First>(rt.alloc(), PACKAGES)
+}
+
+#[test]
+fn packages_are_selected(rt: HostRuntime) -> Result<(), Fail> {
+    hold::<WithoutDefaults>(rt.alloc(), UNSELECTED)
 }

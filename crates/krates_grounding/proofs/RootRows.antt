@@ -13,7 +13,7 @@ use Rattle.krates_units.specs.BuildRules as rules
 use Rattle.krates_units.specs.BuildSetting.{BuildSettingModel}
 use Rattle.krates_units.specs.Built.{IsDerivable}
 use Rattle.krates_units.specs.Machines.{MachineModel}
-use Rattle.krates_units.specs.Requests.{IsBuildRoot, IsRequested, default, each, own, of_dependency, by_crate, of_current, of_other, alike, current, other}
+use Rattle.krates_units.specs.Requests.{IsBuildRoot, IsRequested, default, each, taken}
 use Rattle.krates_units.specs.Sides.{StartsOn, on_targets}
 use Rattle.krates_units.specs.declared.sides.Meeting.TheVariants as meetings
 use Rattle.krates_units.specs.declared.sides.Side.{Side}
@@ -36,11 +36,7 @@ use Rattle.krates_grounding.proofs.TableEntries.{CrateHere, crate_of, entry_of}
 requested_root : (r : Resolved) (s : BuildSettingModel) (i : Id) (v : Reference) → IsRequested r s i v → IsBuildRoot r s i
 requested_root r s i v (default kind is asks has) = (kind, is)
 requested_root r s i v (each kind is differs all has) = (kind, is)
-requested_root r s i v (own is given may) = (alike, is)
-requested_root r s i v (of_dependency name f is given names knows) = (alike, is)
-requested_root r s i v (by_crate name f is given names unknown named may) = (alike, is)
-requested_root r s i v (of_current is given here) = (current, is)
-requested_root r s i v (of_other name f is given names named) = (other, is)
+requested_root r s i v (taken kind is given takes) = (kind, is)
 
 -- a root's rows, but for what is requested
 abbrev pub host_row : CrateEntry → List RuleModel

@@ -1,6 +1,7 @@
 -- Which requests of a build name something (Cargo Book, "cargo build", "Package Selection", and "Features", "Command-line feature
--- options"; who takes a feature was found by trial). Cargo refuses a build of which a request names nothing. Whether a dependency
--- has the feature that is named of it isn't asked here.
+-- options"; who takes a feature was found by trial). Cargo refuses a build of which a request names nothing. What else it refuses
+-- isn't asked here: a dependency that lacks the feature which is named of it, and a specification that fits several packages, or
+-- only one that the build doesn't reach.
 use Rattle.std.specs.Prelude.{◌≡◌, ◌⊎◌, List, [], true, Contains}
 use Rattle.krates_cm.specs.Document.{Text, PackageModel}
 use Rattle.krates_ids.specs.PackageSpecification.{Specification, SpecFits}
