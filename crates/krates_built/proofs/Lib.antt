@@ -1,3 +1,4 @@
+pub mod FeatureNames
 pub mod FirstLost
 pub mod FoundLists
 pub mod MeantLists

@@ -1,5 +1,6 @@
 pub mod BuildLists
 pub mod BuiltBy
 pub mod FactLists
+pub mod FeaturesOf
 pub mod OrderAt
 pub mod Refusals

@@ -2,6 +2,7 @@
 //! be said.
 #![tactic(auto)]
 
+mod features;
 pub mod laws;
 pub mod listed;
 mod lists;

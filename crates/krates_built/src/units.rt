@@ -1,8 +1,11 @@
 //! What cargo builds.
 ghost use Rattle.std.specs.Prelude.{◌≡◌, IfErr, IfOk, map};
+ghost use Rattle.std.specs.Cmp.Lexicographic.{slice_cmp};
+ghost use Rattle.std.specs.Ordering.{nat_cmp};
 ghost use Rattle.krates_build_tables.specs.CrateParts.{AreTablesOf};
-ghost use Rattle.krates_built.specs.BuildLists.{IsListed};
+ghost use Rattle.krates_built.specs.BuildLists.{IsListOf, IsListed};
 ghost use Rattle.krates_built.specs.Refusals.{IsRefusal};
+ghost use Rattle.krates_grounding.specs.FactModels.{ActivatedFeature};
 ghost use Rattle.krates_questions.specs.Lookup.{resolved_view};
 ghost use Rattle.krates_rules.specs.Facts.{Id};
 ghost use Rattle.krates_rules.specs.Resolved.{id_of};
@@ -11,6 +14,7 @@ ghost use Rattle.krates_units.specs.BuildSetting.{build_setting_view};
 ghost use Rattle.krates_units.specs.Built.{IsComplete};
 ghost use Rattle.krates_units.specs.VisitOrder.{DependsOnOrder};
 
+use crate::features::names_of;
 use crate::listed::{Listed, listed_of};
 use crate::not_built::NotBuilt;
 use crate::places::{FeaturePlace, NeedPlace, RunPlace, ScriptPlace};
@@ -19,8 +23,8 @@ use krates_build_tables::Tables;
 use krates_build_tables::unanswered::first_unanswered;
 use krates_grounding::{UnitPlace, laws};
 use krates_questions::Document;
-use krates_units::BuildSetting;
-use std::alloc::Global;
+use krates_units::{BuildSetting, Side};
+use std::alloc::{AllocError, Global};
 use std::marker::Model;
 
 /// What cargo builds: each list is in ascending order, by the numbers and places of the tables, and has each element once.
@@ -94,6 +98,26 @@ impl<'a> Units<'a> {
         ensures { result.now ≡ self.now.lists.features.items }
     {
         &self.listed.lists.features
+    }
+
+    /// The names of the features of the crate with that number, on that side, in ascending order. By the first resolver all features are on
+    /// the side of the targets. The only error is running out of memory. Time O(n) for n features that are enabled.
+    ///
+    /// ```text
+    /// let names = units.features_of(alloc, unit.target.krate, Side::Targets)?;
+    /// ```
+    pub fn features_of(
+        &self,
+        alloc: Global,
+        krate: usize,
+        side: Side,
+    ) -> Result<Vec<&'a str>, AllocError>
+        ensures { IfOk result (λ names. IsListOf self.now.derived (ActivatedFeature krate side)
+            (slice_cmp nat_cmp) (map (λ n. n.now) names.items)) }
+    {
+        self.agrees();
+        let names = names_of(alloc, &self.listed.lists.features, krate, side)?;
+        Ok(names)
     }
 }
 
