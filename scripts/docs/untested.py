@@ -61,6 +61,8 @@ SHOWN_BY = {
     "Document::roots": ("Document::root_choice",),
     # what follows is that of clauses, which may name more facts as they are written
     "Derived::of": ("Clauses::grow",),
+    # what is built has its lists whole
+    "units_of": ("Units::agrees",),
     # a selection is made of what a document has
     "select": (
         "select_in Context::exclusions Context::availability_at Work::new Work::count_krate"

@@ -8,6 +8,7 @@ use krates_document::admission::admit;
 use krates_questions::Document;
 use krates_samples::table::{Row, Tell, hold};
 use krates_text::text::Text;
+use std::alloc::AllocError;
 use std::test::Fail;
 
 /// A document and what is asked for, as in `builds`; and each list in its order, or the refusal.
@@ -52,13 +53,22 @@ fn push_bar(told: &mut Text) {
     told.push_str("| ");
 }
 
-/// Writes the features, the units and the build scripts.
-fn push_compiled(told: &mut Text, of: Told<'_, '_>, built: &Units<'_>) {
+/// Writes the features, with `?` where one isn't among those of its crate and side.
+fn push_features(told: &mut Text, of: Told<'_, '_>, built: &Units<'_>) -> Result<(), AllocError> {
     for feature in built.features() {
+        let names = built.features_of(told.allocator(), feature.krate, feature.side)?;
         write!(told, "{}/{}", name_of(of, feature.krate), feature.name);
+        if !names.as_slice().contains(&feature.name) {
+            told.push_str("?");
+        }
         push_side(told, feature.side);
     }
     push_bar(told);
+    Ok(())
+}
+
+/// Writes the units and the build scripts.
+fn push_compiled(told: &mut Text, of: Told<'_, '_>, built: &Units<'_>) {
     for unit in built.units() {
         push_unit(told, of, *unit);
     }
@@ -104,6 +114,7 @@ impl Tell for Lists {
                     document: &document,
                     tables: built.tables(),
                 };
+                push_features(told, of, &built)?;
                 push_compiled(told, of, &built);
                 push_edges(told, of, &built);
             }
