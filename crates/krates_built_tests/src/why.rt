@@ -33,7 +33,11 @@ fn are_in_order(steps: &[BuildStep<'_>]) -> bool {
     let mut given = 0;
     for (place, step) in steps.iter().enumerate() {
         for premise in &step.premises {
-            if steps[..place].iter().any(|it| it.fact == *premise) {
+            if steps[..place]
+                .iter()
+                .position(|it| it.fact == *premise)
+                .is_some()
+            {
                 given += 1;
             }
         }
