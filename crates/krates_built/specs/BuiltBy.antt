@@ -28,8 +28,10 @@ pub record IsBuiltBy (r : Resolved) (s : BuildSettingModel) (ids : List Id) (ms 
   pub units : AreMeant r s ids ms t Compiled means.Compiled l.units.items
   pub scripts : AreMeant r s ids ms t script_fact (λ (x : Id × Side). means.ScriptCompiled x.0 x.1) l.scripts.items
   pub runs : AreMeant r s ids ms t run_fact (λ (x : Id × Placement). means.ScriptRun x.0 x.1) l.runs.items
-  pub needs : AreMeant r s ids ms t need_fact (λ (x : Edge × DependencyModel × Platform × CompiledUnit). means.Needed x.0 x.1 x.2 x.3) l.needs.items
-  pub features : AreMeant r s ids ms t feature_fact (λ (x : Id × Side × Text). means.ActivatedFeature x.0 x.1 x.2) (map feature_view l.features.items)
+  pub needs : AreMeant r s ids ms t need_fact (λ (x : Edge × DependencyModel × Platform × CompiledUnit). means.Needed x.0 x.1 x.2 x.3)
+      l.needs.items
+  pub features : AreMeant r s ids ms t feature_fact (λ (x : Id × Side × Text). means.ActivatedFeature x.0 x.1 x.2)
+      (map feature_view l.features.items)
 
 -- Lists of what follows from the tables of a document and a build are exactly what is derivable by the rules of what cargo builds.
 abbrev pub ListsAreBuilt : Type 0

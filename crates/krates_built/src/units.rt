@@ -153,13 +153,27 @@ pub fn units_of<'a>(
         (map id_of document.now.ids.now.table.ids.items)) }
 {
     laws::meaning();
-    let unanswered = first_unanswered(alloc, document, setting)?;
-    if let Some(request) = unanswered {
-        return Err(NotBuilt::NamesNothing(request));
-    }
+    refuse_unanswered(alloc, document, setting)?;
     let listed = listed_of(alloc, document, setting)?;
     match refusal(document, &listed) {
         Some(refusal) => Err(refusal),
         None => Ok(Units { listed }),
+    }
+}
+
+/// Refuses a build of which a request names nothing.
+fn refuse_unanswered<'a>(
+    alloc: Global,
+    document: &Document<'a>,
+    setting: &'a BuildSetting,
+) -> Result<(), NotBuilt<'a>>
+    ensures answered { IfOk result (λ _. IsAnswered (resolved_view document.now)
+        (build_setting_view setting.now)) }
+    ensures refused { IfErr result (IsRefusal (resolved_view document.now) (build_setting_view setting.now)
+        (map id_of document.now.ids.now.table.ids.items)) }
+{
+    match first_unanswered(alloc, document, setting)? {
+        Some(request) => Err(NotBuilt::NamesNothing(request)),
+        None => Ok(()),
     }
 }

@@ -10,7 +10,7 @@ pub returns-in-Some-clause-refused : goal.returns-in-Some-clause-refused
 returns-in-Some-clause-refused c =
     let t = c.in_ok-listed.listed.derived in
     refused c.meaning.ensures.exact c.meaning.ensures.complete (resolved_view c.args.document.now) (build_setting_view c.args.setting.now) (map id_of c.args.document.now.ids.now.table.ids.items) (lent_machines t.machines.items) t c.in_ok-listed.ensures.tables
-    c.in-Some.refusal c.in-Some.ensures
+    c.in_ok-refuse_unanswered.ensures.answered c.in-Some.refusal c.in-Some.ensures
 
 pub returns-clause-complete : goal.returns-clause-complete
 returns-clause-complete c =
