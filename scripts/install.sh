@@ -14,6 +14,8 @@
 set -euo pipefail
 . "$(dirname "$0")/words.sh"
 programs=(cargo-krates krates_check krates-list)
+# it takes as long as the others together, so they leave it their processors
+largest=cargo-krates
 
 compiled=yes
 if [ "${1:-}" = --proved ]; then
@@ -37,15 +39,17 @@ step() {
 
 # Compiles these programs: what is below them is read once, and then each is compiled beside the others.
 compile_together() {
-    local own=$room/$1.own name running=() scripts=$PWD/scripts/unproved
+    local own=$room/$1.own name running=() yielding scripts=$PWD/scripts/unproved
     mkdir -p "$own/copy"
     "$scripts/copy.sh" "$own/copy" --marked
     "$scripts/join.sh" programs "$own/copy" "${@//-/_}"
     env -C "$own/copy/crates/joined" "$scripts/read.sh" "$own/text" >&2
     for name; do
         step "$name: sources read"
+        yielding=10
+        [ "$name" != "$largest" ] || yielding=0
         {
-            "$scripts/compile.sh" program "$own/text" "$room/$name" $((${#running[@]} + 1))
+            nice -n "$yielding" "$scripts/compile.sh" program "$own/text" "$room/$name" $((${#running[@]} + 1))
             step "$name: compiled"
         } &
         running+=($!)
