@@ -30,19 +30,15 @@ const WHY: &[Row] = &[
 
 /// Whether what each step needs is given by one before it.
 fn are_in_order(steps: &[BuildStep<'_>]) -> bool {
-    let mut given = 0;
     for (place, step) in steps.iter().enumerate() {
         for premise in &step.premises {
-            if steps[..place]
-                .iter()
-                .position(|it| it.fact == *premise)
-                .is_some()
-            {
-                given += 1;
+            let given = steps[..place].iter().position(|it| it.fact == *premise);
+            if given.is_none() {
+                return false;
             }
         }
     }
-    given == steps.iter().map(|step| step.premises.len()).sum::<usize>()
+    true
 }
 
 /// Writes how many steps derive a unit.
