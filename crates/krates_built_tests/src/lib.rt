@@ -9,5 +9,3 @@ mod lists;
 mod tables;
 #[cfg(test)]
 mod unanswered;
-#[cfg(test)]
-mod why;
