@@ -2,3 +2,10 @@ pub mod RustcLines
 pub mod TargetKinds
 pub mod Holding
 pub mod SameMachines
+pub mod AnsweredWithin
+pub mod BuildReordered
+pub mod BuildNarrowed
+pub mod KeptFacts
+pub mod KeptBuild
+pub mod PlainBuild
+pub mod WholeSetting

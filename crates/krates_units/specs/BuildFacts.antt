@@ -47,3 +47,6 @@ pub data Fact : Type 0 where
   Needed : (edge : Edge) (dep : DependencyModel) (from : Platform) (library : CompiledUnit) → Fact
   ScriptRun : (krate : Id) (placement : Placement) → Fact  -- the crate's build script is run for what is placed so
   ScriptCompiled : (krate : Id) (side : Side) → Fact  -- the crate's build script is compiled, for the host, with the features of this side
+  -- a run of the parent's build script, for what is placed so, needs the run of the child's for what is placed so, by the dependency that
+  -- the edge resolves
+  RunNeeded : (edge : Edge) (dep : DependencyModel) (from run : Placement) → Fact

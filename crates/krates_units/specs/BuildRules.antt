@@ -2,19 +2,19 @@
 --
 -- Each rule is a row with the facts that it uses, in order, and the fact that it gives. Where the Cargo Book has no section for a row,
 -- it was found by trial: `linked_implied`, `linked_toggled` with weak references, `implied`, `available_below` and the rows of lost
--- dependencies. Not yet a row: that the run of a build script follows those of crates with `links`, which adds no unit.
+-- dependencies.
 use Rattle.std.specs.Prelude.{◌≡◌, ◌++◌, List, [], ◌∷◌, true, false, Contains, codes, map, if◌then◌else◌}
 use Rattle.krates_cm.specs.Document.{Text, TargetModel, DependencyModel}
-use Rattle.krates_cm.specs.declared.dependency.DependencyKind.TheVariants.{Build}
+use Rattle.krates_cm.specs.declared.dependency.DependencyKind.TheVariants.{Normal, Build}
 use Rattle.krates_cm.specs.declared.target.TargetKind.TheVariants.{Bin}
 use Rattle.krates_text.specs.FeatureReference.{Reference, krate, strong, simple}
 use Rattle.krates_rules.specs.DeclaredDependency.{declared_name}
 use Rattle.krates_rules.specs.Facts.{Id, Edge}
 use Rattle.krates_rules.specs.Features.{HasReference}
 use Rattle.krates_rules.specs.Resolved.{Resolved}
-use Rattle.krates_units.specs.BuildFacts.{Fact, Met, LinkedReference, LinkedFeature, LinkedName, Linked, Lost, Activated, ActivatedReference, ActivatedFeature, ActivatedName, Used, Available, Compiled, Needed, ScriptRun, ScriptCompiled, CompiledUnit, Platform, host, machine, Placement}
+use Rattle.krates_units.specs.BuildFacts.{Fact, Met, LinkedReference, LinkedFeature, LinkedName, Linked, Lost, Activated, ActivatedReference, ActivatedFeature, ActivatedName, Used, Available, Compiled, Needed, ScriptRun, ScriptCompiled, RunNeeded, CompiledUnit, Platform, host, machine, Placement}
 use Rattle.krates_units.specs.BuildSetting.{BuildSettingModel, machines}
-use Rattle.krates_units.specs.BuildTargets.{IsLibrary, IsLinkable, IsScript, HasTarget, HasTargetThat, AsksFor, RunsPrograms}
+use Rattle.krates_units.specs.BuildTargets.{IsLibrary, IsLinkable, IsScript, HasTarget, HasTargetThat, LinksNatively, AsksFor, RunsPrograms}
 use Rattle.krates_units.specs.FeaturesNamed.{NamesDependency, NamesFeatureOf}
 use Rattle.krates_units.specs.Machines.{MachineModel, PassesOn}
 use Rattle.krates_units.specs.Requests.{IsBuildRoot, IsRequested, IsSelected, HasFeature, KnowsOptional, GivesFeature}
@@ -58,6 +58,15 @@ pub record IsBuiltFrom (r : Resolved) (s : BuildSettingModel) (k : Platform) (e 
   pub passes : PassesOn (machine_of s k) e.cfg
   pub has : HasTarget r e.child l
   pub library : IsLibrary l
+
+-- The edge leads to this library of its child, and passes on this platform; what needs the library is linked with it, and with the native
+-- library that its build script is for.
+pub record IsLinkedFrom (r : Resolved) (s : BuildSettingModel) (k : Platform) (e : Edge) (l : TargetModel) : Type 0 where
+  pub passes : PassesOn (machine_of s k) e.cfg
+  pub has : HasTarget r e.child l
+  pub linkable : IsLinkable l
+  pub native : LinksNatively r e.child
+  pub script : HasTargetThat r e.child IsScript
 
 -- a fact follows by a rule from these facts, in order
 pub data Rule (r : Resolved) (s : BuildSettingModel) : List Fact → Fact → Type 0 where
@@ -141,3 +150,10 @@ pub data Rule (r : Resolved) (s : BuildSettingModel) : List Fact → Fact → Ty
       → HasFeaturesOf s m n
       → Rule r s (ScriptCompiled e.parent m ∷ Linked e d ∷ if_optional d (ActivatedName e.parent n (declared_name d)))
       (Needed e d host (unit e.child l modes.Build host_placement))
+  -- the run needs those of the scripts of the libraries that its crate is linked with, where these are for a native library (Cargo Book,
+  -- "Build Scripts", "The `links` Manifest Key"); that dev dependencies don't count was found by trial
+  run_below : {u : CompiledUnit} {e : Edge} {d : DependencyModel} {l : TargetModel} {n : Side} {at : Placement}
+      → e.parent ≡ u.krate → e.kind ≡ Normal → HasTargetThat r u.krate IsScript → IsLinkedFrom r s u.placement.platform e l
+      → HasFeaturesOf s u.placement.side n → GoesTo l u.placement at
+      → Rule r s (Compiled u ∷ Linked e d ∷ if_optional d (ActivatedName e.parent n (declared_name d)))
+      (RunNeeded e d u.placement at)

@@ -1,6 +1,6 @@
 -- What kinds of targets there are, and which of them a build asks for (Cargo Book, "Cargo Targets", and "cargo build", "Target
 -- Selection").
-use Rattle.std.specs.Prelude.{◌≡◌, ◌⊎◌, ◌||◌, Bool, true, false, Any, Contains}
+use Rattle.std.specs.Prelude.{◌≡◌, ◌≢◌, ◌⊎◌, ◌||◌, Bool, true, false, None, Any, Contains}
 use Rattle.krates_cm.specs.Document.{TargetModel, PackageModel}
 use Rattle.krates_cm.specs.declared.target.TargetKind.{TargetKind}
 use Rattle.krates_cm.specs.declared.target.TargetKind.TheVariants as kinds
@@ -78,6 +78,10 @@ HasMacro r i = HasTargetThat r i IsMacro
 -- the library of the crate is a procedural macro
 abbrev pub IsMacroCrate : Resolved → Id → Type 0
 IsMacroCrate r i = HasTargetThat r i (λ t. Contains t.kind kinds.ProcMacro)
+
+-- the crate's package says that it links to a native library
+abbrev pub LinksNatively : Resolved → Id → Type 0
+LinksNatively r i = (p : PackageModel) × HasPackage r i p × (p.links ≢ None)
 
 -- ---- what is asked for
 

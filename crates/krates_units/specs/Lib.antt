@@ -13,3 +13,7 @@ pub mod Sides
 pub mod BuildRules
 pub mod Built
 pub mod VisitOrder
+pub mod BuildReordering
+pub mod BuildNarrowing
+pub mod KeptBuild
+pub mod WholeSetting
