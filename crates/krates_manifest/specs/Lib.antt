@@ -1,0 +1,3 @@
+pub mod ManifestFields
+pub mod ResolverOf
+pub mod ManifestFaults
