@@ -1,7 +1,7 @@
 """What built-units derives about a build, beside the unit graph that cargo prints for it.
 
 Compared are the units, each with its features, and from which package an edge leads to which other, and the platforms at both
-ends. Edges between two runs of build scripts aren't compared, since `links` makes them, of which the rules say nothing.
+ends. Edges between two runs of build scripts, which `links` makes, are compared apart from the others.
 """
 import collections
 import json
@@ -58,9 +58,9 @@ class Build:
                         for krate, side, _ in self.facts["script"]}
 
     def edges(self):
-        """The edges that are derived: package and platform, at both ends."""
-        edges = {(one, self.platform(here), other, self.platform(there)) for one, here, other, there in self.facts["needed"]}
-        return {edge for edge in edges if edge[0] != edge[2]}
+        """The edges that are derived: the word of their lines, and package and platform at both ends."""
+        return {(word, one, self.platform(here), other, self.platform(there))
+                for word in ("needed", "run_needed") for one, here, other, there in self.facts[word] if one != other}
 
     def differences(self, graph):
         """What only one of the program and a unit graph has, or that the program derives nothing."""
@@ -78,9 +78,9 @@ def printed(graph):
     for unit in units:
         for dep in unit["dependencies"]:
             other = units[dep["index"]]
-            are_runs = unit["mode"] == other["mode"] == "run-custom-build"
-            if unit["pkg_id"] != other["pkg_id"] and not are_runs:
-                edges.add((unit["pkg_id"], unit["platform"] or "host", other["pkg_id"], other["platform"] or "host"))
+            word = "run_needed" if unit["mode"] == other["mode"] == "run-custom-build" else "needed"
+            if unit["pkg_id"] != other["pkg_id"]:
+                edges.add((word, unit["pkg_id"], unit["platform"] or "host", other["pkg_id"], other["platform"] or "host"))
     return {shown(unit) for unit in units}, edges
 
 

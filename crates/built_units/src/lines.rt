@@ -1,9 +1,10 @@
 //! The lines of facts that follow about a build: a word and what the fact says, with tabs between. What the document or a machine
 //! says is shown, so that it can end no line and no field.
 
+use krates_build_facts::{BuildFact, PlacementNumber, PlatformNumber, UnitPlace};
 use krates_build_tables::{LinkPlace, TargetPlace};
 use krates_cm::TargetKind;
-use krates_grounding::{BuildFact, Derived, PlacementNumber, PlatformNumber, UnitPlace};
+use krates_grounding::Derived;
 use krates_questions::Document;
 use krates_shown::Shown;
 use krates_units::{Mode, Side};
@@ -54,6 +55,7 @@ impl Names<'_, '_> {
             BuildFact::Compiled(unit) => self.unit_line(unit),
             BuildFact::ScriptRun(krate, placement) => self.run_line(*krate, placement),
             BuildFact::Needed(place, platform, unit) => self.needed_line(place, *platform, unit),
+            BuildFact::RunNeeded(place, from, run) => self.run_needed_line(place, from, run),
             BuildFact::Lost(krate, index) => self.lost_line(*krate, *index),
             _ => self.side_line(fact),
         }
@@ -106,6 +108,28 @@ impl Names<'_, '_> {
         let for_which = self.platform(platform);
         let on_which = self.platform(unit.placement.platform);
         format!(in self.alloc; "needed\t{from}\t{for_which}\t{to}\t{on_which}\n")
+    }
+
+    fn run_needed_line(
+        &self,
+        place: &LinkPlace,
+        from: &PlacementNumber,
+        run: &PlacementNumber,
+    ) -> Result<String, AllocError> {
+        let needing = self.id(place.krate);
+        let needed = self.id(self.child(place));
+        let for_which = self.platform(from.platform);
+        let on_which = self.platform(run.platform);
+        format!(in self.alloc; "run_needed\t{needing}\t{for_which}\t{needed}\t{on_which}\n")
+    }
+
+    /// The number of the crate that a link leads to.
+    fn child(&self, place: &LinkPlace) -> usize {
+        let entry = self.derived.tables().entry(place.krate);
+        match entry.and_then(|entry| entry.link(place.index)) {
+            Some(link) => link.child,
+            None => place.krate,
+        }
     }
 
     fn lost_line(&self, krate: usize, index: usize) -> Result<String, AllocError> {

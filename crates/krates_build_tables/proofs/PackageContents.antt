@@ -1,11 +1,12 @@
 -- What the one package of a crate has.
-use Rattle.std.proofs.Common.{◌≡◌, ◌↔◌, List, [], Contains, sym, ap, ◌∙◌, subst, arith}
-use Rattle.krates_cm.specs.Document.{DependencyModel, PackageModel, TargetModel}
+use Rattle.std.proofs.Common.{◌≡◌, ◌≢◌, ◌↔◌, Bool, true, IsTrue, List, [], Contains, Option, Some, None, option_map, is_some, refl, sym, ap, ◌∙◌, subst, arith}
+use Rattle.krates_cm.specs.Document.{DependencyModel, PackageModel, TargetModel, package_view, text_view}
+use Rattle.krates_cm.specs.declared.package.Package.{Package}
 use Rattle.krates_rules.specs.Admission.{NoneDoubled}
 use Rattle.krates_rules.specs.Facts.{Id}
 use Rattle.krates_rules.specs.Resolved.{Resolved, HasPackage, NoPackage}
 use Rattle.krates_rules.proofs.OnlyOne.{one_package}
-use Rattle.krates_units.specs.BuildTargets.{HasTarget, HasTargetThat}
+use Rattle.krates_units.specs.BuildTargets.{HasTarget, HasTargetThat, LinksNatively}
 use Rattle.krates_units.specs.Resolves.{HasDeclared}
 
 pub targets_here : (r : Resolved) (i : Id) (p : PackageModel) (ts : List TargetModel) → NoneDoubled r.metadata r.graph → HasPackage r i p → p.targets ≡ ts
@@ -32,3 +33,19 @@ no_declared r i none d = (λ h. absurd (none h.pkg h.has_package), λ a. absurd 
 pub target_that : (r : Resolved) (i : Id) (P : TargetModel → Type 0) (ts : List TargetModel) → ((t : TargetModel) → HasTarget r i t ↔ Contains ts t)
     → HasTargetThat r i P ↔ ((t : TargetModel) × Contains ts t × P t)
 target_that r i P ts same = (λ h. (h.0, (same h.0).0 h.1, h.2), λ h. (h.0, (same h.0).1 h.1, h.2))
+
+-- ---- native libraries
+
+value_mapped : {A B : Type 0} (f : A → B) (o : Option A) → is_some o ≡ true → option_map f o ≢ None
+value_mapped f None h = λ e. absurd cc
+value_mapped f (Some x) h = λ e. absurd cc
+
+value_there : {A B : Type 0} (f : A → B) (o : Option A) → option_map f o ≢ None → is_some o ≡ true
+value_there f None h = absurd (h refl)
+value_there f (Some x) h = refl
+
+pub native_told : (r : Resolved) (i : Id) (p : Package) (b : Bool) → NoneDoubled r.metadata r.graph → HasPackage r i (package_view p) → b ≡ is_some p.links → IsTrue b ↔ LinksNatively r i
+native_told r i p b none has is = (
+  λ t. (package_view p, has, value_mapped text_view p.links (sym is ∙ t)),
+  λ h. is ∙ value_there text_view p.links (subst (λ (q : PackageModel). q.links ≢ None) (one_package r i h.0 (package_view p) none h.1 has) h.2),
+)

@@ -4,6 +4,7 @@ use Rattle.krates_cm.specs.Document.{Text}
 use Rattle.krates_rules.specs.Facts.{Id}
 use Rattle.krates_rules.specs.Resolved.{Resolved}
 use Rattle.krates_units.specs.BuildSetting.{BuildSettingModel}
+use Rattle.krates_units.specs.BuildTargets.{HasTargetThat, IsScript, LinksNatively}
 use Rattle.krates_units.specs.Requests.{HasFeature, KnowsOptional}
 use Rattle.krates_units.specs.Sides.{StartsOn}
 use Rattle.krates_units.specs.declared.sides.Side.TheVariants as sides
@@ -19,6 +20,8 @@ use Rattle.krates_build_tables.specs.declared.tables_of.CrateParts.{CrateParts}
 -- the parts are of this crate
 pub record PartsSay (b : Build) (number : ℕ) (i : Id) (x : CrateParts) : Type 0 where
   pub starts_on_host : IsTrue x.starts_on_host ↔ StartsOn (resolved_in b) (setting_in b) i sides.Host
+  pub script : IsTrue x.has_script ↔ HasTargetThat (resolved_in b) i IsScript
+  pub native : IsTrue x.links_natively ↔ LinksNatively (resolved_in b) i
   pub features : AreFeaturesOf (resolved_in b) i x.features
   pub implied : (c : Text) → (KnowsOptional (resolved_in b) i c × HasFeature (resolved_in b) i c) ↔ Contains (map (λ t. t.now) x.implied.items) c
   pub links : AreLinksOf (resolved_in b) (setting_in b) (ids_in b) (machines_in b) number i x.links.items

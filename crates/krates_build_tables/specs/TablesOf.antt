@@ -12,7 +12,7 @@ use Rattle.krates_rules.specs.Facts.{Id, Edge}
 use Rattle.krates_rules.specs.Features.{HasReference}
 use Rattle.krates_rules.specs.Resolved.{Resolved, HasPackage}
 use Rattle.krates_units.specs.BuildSetting.{BuildSettingModel, IsFirst, machines}
-use Rattle.krates_units.specs.BuildTargets.{AsksFor, HasTarget, IsLibrary, IsLinkable, IsMacro, IsScript, RunsPrograms, UsesDev}
+use Rattle.krates_units.specs.BuildTargets.{AsksFor, HasTarget, HasTargetThat, IsLibrary, IsLinkable, IsMacro, IsScript, LinksNatively, RunsPrograms, UsesDev}
 use Rattle.krates_units.specs.Machines.{MachineModel, PassesOn}
 use Rattle.krates_units.specs.Requests.{GivesFeature, HasFeature, IsBuildRoot, IsRequested, IsSelected, KnowsOptional}
 use Rattle.krates_units.specs.Resolves.{LacksEdge, Resolves}
@@ -130,6 +130,8 @@ pub record CrateSays (r : Resolved) (s : BuildSettingModel) (ids : List Id) (ms 
   pub root : IsTrue e.is_root ↔ IsBuildRoot r s i
   pub starts_on_host : IsTrue e.starts_on_host ↔ StartsOn r s i sides.Host
   pub selected : IsTrue e.is_selected ↔ IsSelected r s i
+  pub script : IsTrue e.has_script ↔ HasTargetThat r i IsScript
+  pub native : IsTrue e.links_natively ↔ LinksNatively r i
   pub requested : (v : Reference) → IsRequested r s i v ↔ Contains (map reference_view e.requested.items) v
   pub features : (f : Text) (v : Reference) → HasReference r i f v
       ↔ (refs : Vec FeatureReference) × (references_of e f ≡ Some refs) × Contains (map reference_view refs.items) v

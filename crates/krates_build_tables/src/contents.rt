@@ -1,10 +1,10 @@
 //! What the package of a crate has.
 
-ghost use Rattle.std.specs.Prelude.{◌≡◌, ◌↔◌, Contains, map};
+ghost use Rattle.std.specs.Prelude.{◌≡◌, ◌↔◌, Contains, IsTrue, map};
 ghost use Rattle.krates_cm.specs.Document.{DependencyModel, PackageModel, TargetModel, dependency_view, target_view};
 ghost use Rattle.krates_questions.specs.Lookup.{resolved_view};
 ghost use Rattle.krates_rules.specs.Resolved.{HasPackage, id_of};
-ghost use Rattle.krates_units.specs.BuildTargets.{HasTarget};
+ghost use Rattle.krates_units.specs.BuildTargets.{HasTarget, LinksNatively};
 ghost use Rattle.krates_units.specs.Resolves.{HasDeclared};
 
 use krates_cm::{Dependency, Target};
@@ -35,5 +35,16 @@ pub(crate) fn declared_by<'a>(document: &Document<'a>, krate: &Kid) -> &'a [Depe
     match document.package_of(krate) {
         Some(pkg) => &pkg.dependencies,
         None => &[],
+    }
+}
+
+/// Whether the package of a crate says that it links to a native library; false where it has no package. Time O(log n) in the crates.
+pub(crate) fn links_natively(document: &Document<'_>, krate: &Kid) -> bool
+    ensures { IsTrue result ↔ LinksNatively (resolved_view document.now) (id_of krate.now) }
+{
+    document.agrees();
+    match document.package_of(krate) {
+        Some(pkg) => pkg.links.is_some(),
+        None => false,
     }
 }

@@ -46,6 +46,10 @@ pub struct CrateEntry<'a> {
     pub starts_on_host: bool,
     /// Whether it is asked for.
     pub is_selected: bool,
+    /// Whether it has a build script.
+    pub has_script: bool,
+    /// Whether its package says that it links to a native library.
+    pub links_natively: bool,
     /// What is requested of it, if it is a root.
     pub requested: Vec<FeatureReference<'a>>,
     /// Its features, each with the references that it lists.

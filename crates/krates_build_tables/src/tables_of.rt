@@ -10,6 +10,7 @@ ghost use Rattle.krates_build_tables.specs.CrateParts.{AreCrates, AreTablesOf, P
 ghost use Rattle.krates_build_tables.specs.Requests.{AreRequests, RequestSays};
 ghost use Rattle.krates_build_tables.specs.TablesOf.{CrateSays};
 
+use crate::contents::links_natively;
 use crate::features::{features_of, implied_by};
 use crate::lacking::lacking_of;
 use crate::links::{Build, links_of};
@@ -18,7 +19,7 @@ use crate::pushing::push;
 use crate::reference::FeatureReference;
 use crate::requests::{Request, requests_of};
 use crate::tables::{CrateEntry, Lacking, Link, Tables, TargetEntry};
-use crate::targets::{is_later, starts_on_host, target_entries};
+use crate::targets::{has_script, is_later, starts_on_host, target_entries};
 use krates_ids::{Kid, laws};
 use krates_questions::Document;
 use krates_units::BuildSetting;
@@ -93,6 +94,8 @@ fn entry_of<'a>(
     let parts = parts_of(alloc, build, request.is_root, number, krate)?;
     let CrateParts {
         starts_on_host,
+        has_script,
+        links_natively,
         features,
         implied,
         links,
@@ -104,6 +107,8 @@ fn entry_of<'a>(
         is_root: request.is_root,
         starts_on_host,
         is_selected: request.is_selected,
+        has_script,
+        links_natively,
         requested,
         features,
         implied,
@@ -142,6 +147,10 @@ struct CrateParts<'a> {
     targets: Vec<TargetEntry<'a>>,
     /// Whether its features count for the host too, if it is a root.
     starts_on_host: bool,
+    /// Whether it has a build script.
+    has_script: bool,
+    /// Whether its package says that it links to a native library.
+    links_natively: bool,
 }
 
 /// What the entry of the crate with this number and this id says whatever is requested, where it is a root or isn't.
@@ -165,5 +174,7 @@ fn parts_of<'a>(
         lacking: lacking_of(alloc, document, number, krate)?,
         targets: target_entries(alloc, document, build.setting, number, krate)?,
         starts_on_host: starts_on_host(document, build.setting, krate),
+        has_script: has_script(document, krate),
+        links_natively: links_natively(document, krate),
     })
 }

@@ -5,7 +5,7 @@ ghost use Rattle.krates_cm.specs.Document.{target_view};
 ghost use Rattle.krates_questions.specs.Lookup.{resolved_view};
 ghost use Rattle.krates_rules.specs.Resolved.{id_of};
 ghost use Rattle.krates_units.specs.BuildSetting.{IsLater, build_setting_view};
-ghost use Rattle.krates_units.specs.BuildTargets.{HasMacro, IsMacro, IsMacroCrate};
+ghost use Rattle.krates_units.specs.BuildTargets.{HasMacro, HasTargetThat, IsMacro, IsMacroCrate, IsScript};
 ghost use Rattle.krates_units.specs.Sides.{StartsOn};
 ghost use Rattle.krates_units.specs.declared.sides.Side.TheVariants as sides;
 ghost use Rattle.krates_build_tables.specs.TablesOf.{AreTargetsOf, TargetSays};
@@ -101,6 +101,25 @@ pub(crate) fn is_macro_crate(document: &Document<'_>, krate: &Kid) -> bool
     ensures { IsTrue result ↔ IsMacroCrate (resolved_view document.now) (id_of krate.now) }
 {
     some_macro_library(targets_of(document, krate))
+}
+
+/// Whether a crate has a build script.
+pub(crate) fn has_script(document: &Document<'_>, krate: &Kid) -> bool
+    ensures { IsTrue result ↔ HasTargetThat (resolved_view document.now) (id_of krate.now) IsScript }
+{
+    some_script(targets_of(document, krate))
+}
+
+/// Whether one of the targets is a build script.
+fn some_script(targets: &[Target]) -> bool
+    ensures { IsTrue result ↔ HasOneThat IsScript (map target_view targets.now) }
+{
+    for target in targets {
+        if is_script(target) {
+            return true;
+        }
+    }
+    false
 }
 
 /// Whether one of the targets is a procedural macro.

@@ -12,7 +12,7 @@ use Rattle.krates_units.specs.contracts.sides.SidePartialEq.TheImpl.{ghosts as s
 use Rattle.krates_units.specs.declared.sides.Side.{Side}
 use Rattle.krates_units.specs.declared.sides.Side.TheVariants as sides
 use Rattle.krates_build_tables.specs.declared.tables.Tables.{Tables}
-use Rattle.krates_grounding.specs.FactModels.{ActivatedFeature}
+use Rattle.krates_build_facts.specs.FactModels.{ActivatedFeature}
 use Rattle.krates_built.specs.BuildLists.{FeatureModel, IsListOf, feature_cmp, feature_fact}
 use Rattle.krates_built.specs.FactLists.{with_one}
 use Rattle.krates_built.specs.FeaturesOf.{name_at}

@@ -5,16 +5,16 @@ use Rattle.std.specs.List.{filter_map}
 use Rattle.std.specs.List.Sorted.{IsStrictlySortedBy}
 use Rattle.krates_rules.proofs.Members.{contains_of, member_of}
 use Rattle.krates_build_tables.specs.declared.tables.Tables.{Tables}
-use Rattle.krates_grounding.specs.FactModels.{FactModel, fact_view}
+use Rattle.krates_build_facts.specs.FactModels.{FactModel, fact_view}
 use Rattle.krates_grounding.specs.Grounding.{SaysNoText}
-use Rattle.krates_grounding.specs.Meanings.{Follows}
-use Rattle.krates_grounding.specs.Numbers.{fact_cmp}
-use Rattle.krates_grounding.specs.declared.facts.BuildFact.{BuildFact}
+use Rattle.krates_build_facts.specs.Meanings.{Follows}
+use Rattle.krates_build_facts.specs.FactOrder.{fact_cmp}
+use Rattle.krates_build_facts.specs.declared.facts.BuildFact.{BuildFact}
 use Rattle.krates_built.specs.BuildLists.{AreListsIn, IsListOf}
-use Rattle.krates_built.specs.FactLists.{AreListsOf, HasAdded, feature_in, lost_in, need_in, run_in, script_in, unit_in, with_one}
+use Rattle.krates_built.specs.FactLists.{AreListsOf, HasAdded, feature_in, lost_in, need_in, run_in, run_need_in, script_in, unit_in, with_one}
 use Rattle.krates_built.specs.declared.lists.Lists.{Lists}
 use Rattle.krates_built.proofs.Picked.{picked_from, picked_map, picked_more, picked_of, picked_sorted}
-use Rattle.krates_built.proofs.Picks.{IsPick, feature_pick, lost_pick, need_pick, run_pick, script_pick, unit_pick}
+use Rattle.krates_built.proofs.Picks.{IsPick, feature_pick, lost_pick, need_pick, run_need_pick, run_pick, script_pick, unit_pick}
 
 -- ---- fact by fact
 
@@ -29,6 +29,7 @@ lists_more fs gs f old new is h added = subst (λ (hs : List FactModel). AreList
   scripts = one_more script_in fs f _ _ h.scripts added.scripts;
   runs = one_more run_in fs f _ _ h.runs added.runs;
   needs = one_more need_in fs f _ _ h.needs added.needs;
+  run_needs = one_more run_need_in fs f _ _ h.run_needs added.run_needs;
   features = one_more feature_in fs f _ _ h.features added.features;
   lost = one_more lost_in fs f _ _ h.lost added.lost;
 })
@@ -60,6 +61,7 @@ module _ (t : Tables) (facts : List BuildFact) (sound : All (Follows t) (map fac
     scripts = list_found script_in _ _ script_pick _ are.scripts;
     runs = list_found run_in _ _ run_pick _ are.runs;
     needs = list_found need_in _ _ need_pick _ are.needs;
+    run_needs = list_found run_need_in _ _ run_need_pick _ are.run_needs;
     features = list_found feature_in _ _ feature_pick _ are.features;
     lost = list_found lost_in _ _ lost_pick _ are.lost;
   }

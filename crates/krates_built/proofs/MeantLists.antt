@@ -11,14 +11,15 @@ use Rattle.krates_units.specs.Machines.{MachineModel}
 use Rattle.krates_units.specs.declared.sides.Side.{Side}
 use Rattle.krates_build_tables.specs.TablesOf.{AreTables}
 use Rattle.krates_build_tables.specs.declared.tables.Tables.{Tables}
-use Rattle.krates_grounding.specs.FactModels.{FactModel, Compiled}
-use Rattle.krates_grounding.specs.Meanings.{EachHasMeaning, EachHasNumber, Follows, Means}
-use Rattle.krates_grounding.specs.declared.facts.UnitPlace.{UnitPlace}
-use Rattle.krates_grounding.proofs.FactNumbers.{of_number}
-use Rattle.krates_built.specs.BuildLists.{AreListsIn, FeatureModel, IsListOf, feature_fact, need_fact, run_fact, script_fact}
+use Rattle.krates_build_facts.specs.FactModels.{FactModel, Compiled}
+use Rattle.krates_build_facts.specs.Meanings.{EachHasMeaning, EachHasNumber, Follows, Means}
+use Rattle.krates_build_facts.specs.declared.facts.UnitPlace.{UnitPlace}
+use Rattle.krates_build_facts.proofs.FactNumbers.{of_number}
+use Rattle.krates_built.specs.BuildLists.{AreListsIn, FeatureModel, IsListOf, feature_fact, need_fact, run_fact, run_need_fact, script_fact}
 use Rattle.krates_built.specs.BuiltBy.{AreMeant, IsBuiltBy, ListsAreBuilt}
 use Rattle.krates_built.specs.declared.lists.Lists.{Lists}
 use Rattle.krates_built.specs.declared.places.NeedPlace.{NeedPlace}
+use Rattle.krates_built.specs.declared.places.RunNeedPlace.{RunNeedPlace}
 use Rattle.krates_built.specs.declared.places.RunPlace.{RunPlace}
 use Rattle.krates_built.specs.declared.places.ScriptPlace.{ScriptPlace}
 
@@ -69,6 +70,13 @@ module _ (sound : EachHasMeaning) (complete : EachHasNumber) (r : Resolved) (s :
         (λ place from library link platform unit. (record { link = place; from = from; library = library }, refl)) n m;
   }
 
+  run_needs : IsForm run_need_fact (λ (x : Edge × DependencyModel × Placement × Placement). means.RunNeeded x.0 x.1 x.2 x.3)
+  run_needs = record {
+    read = λ x f m. ((m.0, m.1, m.2, m.3), m.7);
+    numbered = λ y n m. of_number r s ids ms t (λ (k : FactModel). (x : RunNeedPlace) × (k ≡ run_need_fact x)) (means.RunNeeded y.0 y.1 y.2 y.3)
+        (λ place from run link one other. (record { link = place; from = from; run = run }, refl)) n m;
+  }
+
   features : IsForm feature_fact (λ (x : Id × Side × Text). means.ActivatedFeature x.0 x.1 x.2)
   features = record {
     read = λ x f m. ((m.0, x.side, x.name), m.2);
@@ -82,6 +90,7 @@ module _ (sound : EachHasMeaning) (complete : EachHasNumber) (r : Resolved) (s :
     scripts = list_meant _ _ _ _ scripts h.scripts;
     runs = list_meant _ _ _ _ runs h.runs;
     needs = list_meant _ _ _ _ needs h.needs;
+    run_needs = list_meant _ _ _ _ run_needs h.run_needs;
     features = list_meant _ _ _ _ features h.features;
   }
 

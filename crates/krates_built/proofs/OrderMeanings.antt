@@ -20,10 +20,10 @@ use Rattle.krates_units.specs.declared.sides.Side.TheVariants as sides
 use Rattle.krates_build_tables.specs.TablesOf.{AreTables, CrateAt}
 use Rattle.krates_build_tables.specs.declared.tables.LinkPlace.{LinkPlace}
 use Rattle.krates_build_tables.specs.declared.tables.Tables.{Tables}
-use Rattle.krates_grounding.specs.FactModels.{FactModel, ActivatedFeature, ActivatedName, Linked, ScriptCompiled}
-use Rattle.krates_grounding.specs.Meanings.{EachHasNumber, Follows, FollowsAsDerivable, LinkMeans}
-use Rattle.krates_grounding.proofs.FactNumbers.{of_number}
-use Rattle.krates_grounding.proofs.TableEntries.{crate_here, crate_of, link_here, link_of}
+use Rattle.krates_build_facts.specs.FactModels.{FactModel, ActivatedFeature, ActivatedName, Linked, ScriptCompiled}
+use Rattle.krates_build_facts.specs.Meanings.{EachHasNumber, Follows, FollowsAsDerivable, LinkMeans}
+use Rattle.krates_build_facts.proofs.FactNumbers.{of_number}
+use Rattle.krates_build_facts.proofs.TableEntries.{crate_here, crate_of, link_here, link_of}
 use Rattle.krates_built.specs.OrderAt.{DependsAt}
 use Rattle.krates_built.specs.Refusals.{IsPackageAt}
 

@@ -1,16 +1,17 @@
 -- What facts say of one kind: which facts those are, and that their order is that of the facts.
 use Rattle.std.proofs.Common.{◌≡◌, Option, Some, Ordering, Less, refl, ap, subst}
 use Rattle.std.proofs.lemmas.Option.{same_Some}
-use Rattle.krates_grounding.specs.FactModels.{FactModel, ActivatedFeature, Compiled, Lost, Needed, ScriptCompiled, ScriptRun, fact_view}
+use Rattle.krates_build_facts.specs.FactModels.{FactModel, ActivatedFeature, Compiled, Lost, Needed, RunNeeded, ScriptCompiled, ScriptRun, fact_view}
 use Rattle.krates_grounding.specs.Grounding.{SaysNoText}
-use Rattle.krates_grounding.specs.Numbers.{fact_cmp}
-use Rattle.krates_grounding.specs.declared.facts.BuildFact.{BuildFact}
-use Rattle.krates_grounding.specs.declared.facts.BuildFact.TheVariants as facts
-use Rattle.krates_grounding.specs.declared.facts.UnitPlace.{UnitPlace}
-use Rattle.krates_built.specs.BuildLists.{FeatureModel, feature_cmp, feature_fact, lost_cmp, lost_fact, need_cmp, need_fact, run_cmp, run_fact, script_cmp, script_fact, unit_cmp}
-use Rattle.krates_built.specs.FactLists.{feature_in, lost_in, need_in, run_in, script_in, unit_in}
+use Rattle.krates_build_facts.specs.FactOrder.{fact_cmp}
+use Rattle.krates_build_facts.specs.declared.facts.BuildFact.{BuildFact}
+use Rattle.krates_build_facts.specs.declared.facts.BuildFact.TheVariants as facts
+use Rattle.krates_build_facts.specs.declared.facts.UnitPlace.{UnitPlace}
+use Rattle.krates_built.specs.BuildLists.{FeatureModel, feature_cmp, feature_fact, lost_cmp, lost_fact, need_cmp, need_fact, run_cmp, run_fact, run_need_cmp, run_need_fact, script_cmp, script_fact, unit_cmp}
+use Rattle.krates_built.specs.FactLists.{feature_in, lost_in, need_in, run_in, run_need_in, script_in, unit_in}
 use Rattle.krates_built.specs.declared.places.LostPlace.{LostPlace}
 use Rattle.krates_built.specs.declared.places.NeedPlace.{NeedPlace}
+use Rattle.krates_built.specs.declared.places.RunNeedPlace.{RunNeedPlace}
 use Rattle.krates_built.specs.declared.places.RunPlace.{RunPlace}
 use Rattle.krates_built.specs.declared.places.ScriptPlace.{ScriptPlace}
 
@@ -84,6 +85,21 @@ need_keeps _ g x y a b less = absurd cc
 
 pub need_pick : IsPick need_in need_fact need_cmp
 need_pick = record { picked = need_picked; picks = λ x. refl; plain = λ x. tt; keeps = need_keeps }
+
+-- ---- needs of runs
+
+run_need_picked : (f : FactModel) (x : RunNeedPlace) → run_need_in f ≡ Some x → f ≡ run_need_fact x
+run_need_picked (RunNeeded link from run) x e = ap run_need_fact (same_Some _ x e)
+run_need_picked _ x e = absurd cc
+
+run_need_keeps : (f g : BuildFact) (x y : RunNeedPlace) → run_need_in (fact_view f) ≡ Some x → run_need_in (fact_view g) ≡ Some y
+    → fact_cmp f g ≡ Less → run_need_cmp x y ≡ Less
+run_need_keeps (facts.RunNeeded l k u) (facts.RunNeeded m j v) x y a b less = with_same run_need_cmp _ _ x y a b less
+run_need_keeps (facts.RunNeeded l k u) _ x y a b less = absurd cc
+run_need_keeps _ g x y a b less = absurd cc
+
+pub run_need_pick : IsPick run_need_in run_need_fact run_need_cmp
+run_need_pick = record { picked = run_need_picked; picks = λ x. refl; plain = λ x. tt; keeps = run_need_keeps }
 
 -- ---- features
 

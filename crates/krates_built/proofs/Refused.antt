@@ -11,10 +11,10 @@ use Rattle.krates_units.specs.Machines.{MachineModel}
 use Rattle.krates_units.specs.VisitOrder.{DependsOnOrder}
 use Rattle.krates_build_tables.specs.TablesOf.{AreTables}
 use Rattle.krates_build_tables.specs.declared.tables.Tables.{Tables}
-use Rattle.krates_grounding.specs.FactModels.{FactModel}
-use Rattle.krates_grounding.specs.Meanings.{EachHasMeaning, EachHasNumber, Follows, FollowsAsDerivable}
-use Rattle.krates_grounding.proofs.FactNumbers.{of_number}
-use Rattle.krates_grounding.proofs.TableEntries.{lacking_here}
+use Rattle.krates_build_facts.specs.FactModels.{FactModel}
+use Rattle.krates_build_facts.specs.Meanings.{EachHasMeaning, EachHasNumber, Follows, FollowsAsDerivable}
+use Rattle.krates_build_facts.proofs.FactNumbers.{of_number}
+use Rattle.krates_build_facts.proofs.TableEntries.{lacking_here}
 use Rattle.krates_built.specs.BuildLists.{lost_fact}
 use Rattle.krates_built.specs.OrderAt.{DependsAt}
 use Rattle.krates_built.specs.Refusals.{IsFirstLost, IsLostOf, IsRefusal, IsRefusalAt, LosesNothing, TellsLost}

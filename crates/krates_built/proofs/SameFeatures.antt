@@ -5,8 +5,8 @@ use Rattle.std.proofs.lemmas.List.Elements.{Contains-get_or}
 use Rattle.krates_rules.proofs.Elements.{contains_image}
 use Rattle.krates_rules.proofs.Seen.{SeenBelow, each_seen}
 use Rattle.krates_build_tables.specs.declared.tables.Tables.{Tables}
-use Rattle.krates_grounding.specs.FactModels.{ActivatedFeature}
-use Rattle.krates_grounding.specs.Meanings.{Follows}
+use Rattle.krates_build_facts.specs.FactModels.{ActivatedFeature}
+use Rattle.krates_build_facts.specs.Meanings.{Follows}
 use Rattle.krates_built.specs.BuildLists.{FeatureModel, IsListOf, feature_cmp, feature_fact, feature_view}
 use Rattle.krates_built.specs.OrderAt.{HasSameFeatures, IsFeatureOfBoth}
 use Rattle.krates_built.specs.declared.places.FeaturePlace.{FeaturePlace}

@@ -8,12 +8,13 @@ use Rattle.krates_cm.specs.Document.{Text}
 use Rattle.krates_units.specs.contracts.sides.SideOrd.TheImpl as side_order
 use Rattle.krates_units.specs.declared.sides.Side.{Side}
 use Rattle.krates_build_tables.specs.declared.tables.Tables.{Tables}
-use Rattle.krates_grounding.specs.FactModels.{FactModel, ActivatedFeature, Compiled, Lost, Needed, ScriptCompiled, ScriptRun}
-use Rattle.krates_grounding.specs.Meanings.{Follows}
-use Rattle.krates_grounding.specs.contracts.facts.UnitPlaceOrd.TheImpl as unit_order
-use Rattle.krates_grounding.specs.declared.facts.UnitPlace.{UnitPlace}
+use Rattle.krates_build_facts.specs.FactModels.{FactModel, ActivatedFeature, Compiled, Lost, Needed, RunNeeded, ScriptCompiled, ScriptRun}
+use Rattle.krates_build_facts.specs.Meanings.{Follows}
+use Rattle.krates_build_facts.specs.contracts.facts.UnitPlaceOrd.TheImpl as unit_order
+use Rattle.krates_build_facts.specs.declared.facts.UnitPlace.{UnitPlace}
 use Rattle.krates_built.specs.contracts.places.LostPlaceOrd.TheImpl as lost_order
 use Rattle.krates_built.specs.contracts.places.NeedPlaceOrd.TheImpl as need_order
+use Rattle.krates_built.specs.contracts.places.RunNeedPlaceOrd.TheImpl as run_need_order
 use Rattle.krates_built.specs.contracts.places.RunPlaceOrd.TheImpl as run_order
 use Rattle.krates_built.specs.contracts.places.ScriptPlaceOrd.TheImpl as script_order
 use Rattle.krates_built.specs.declared.listed.Listed.{Listed}
@@ -21,6 +22,7 @@ use Rattle.krates_built.specs.declared.lists.Lists.{Lists}
 use Rattle.krates_built.specs.declared.places.FeaturePlace.{FeaturePlace}
 use Rattle.krates_built.specs.declared.places.LostPlace.{LostPlace}
 use Rattle.krates_built.specs.declared.places.NeedPlace.{NeedPlace}
+use Rattle.krates_built.specs.declared.places.RunNeedPlace.{RunNeedPlace}
 use Rattle.krates_built.specs.declared.places.RunPlace.{RunPlace}
 use Rattle.krates_built.specs.declared.places.ScriptPlace.{ScriptPlace}
 
@@ -37,6 +39,10 @@ run_fact x = ScriptRun x.krate x.placement
 -- the library is needed
 abbrev pub need_fact : NeedPlace → FactModel
 need_fact x = Needed x.link x.from x.library
+
+-- the run is needed
+abbrev pub run_need_fact : RunNeedPlace → FactModel
+run_need_fact x = RunNeeded x.link x.from x.run
 
 -- an enabled feature of a crate on a side, by its text
 pub record FeatureModel : Type 0 where
@@ -69,6 +75,9 @@ run_cmp = (run_order.ghosts).cmp
 abbrev pub need_cmp : NeedPlace → NeedPlace → Ordering
 need_cmp = (need_order.ghosts).cmp
 
+abbrev pub run_need_cmp : RunNeedPlace → RunNeedPlace → Ordering
+run_need_cmp = (run_need_order.ghosts).cmp
+
 abbrev pub lost_cmp : LostPlace → LostPlace → Ordering
 lost_cmp = (lost_order.ghosts).cmp
 
@@ -89,6 +98,7 @@ pub record AreListsIn (t : Tables) (l : Lists) : Type 0 where
   pub scripts : IsListOf t script_fact script_cmp l.scripts.items
   pub runs : IsListOf t run_fact run_cmp l.runs.items
   pub needs : IsListOf t need_fact need_cmp l.needs.items
+  pub run_needs : IsListOf t run_need_fact run_need_cmp l.run_needs.items
   pub features : IsListOf t feature_fact feature_cmp (map feature_view l.features.items)
   pub lost : IsListOf t lost_fact lost_cmp l.lost.items
 

@@ -1,12 +1,13 @@
 -- What single facts say of units, build scripts, runs, needs, features and what is lost.
 use Rattle.std.specs.Prelude.{◌≡◌, ◌++◌, List, [], ◌∷◌, Option, Some, None, map}
 use Rattle.std.specs.List.{filter_map}
-use Rattle.krates_grounding.specs.FactModels.{FactModel, ActivatedFeature, Compiled, Lost, Needed, ScriptCompiled, ScriptRun}
-use Rattle.krates_grounding.specs.declared.facts.UnitPlace.{UnitPlace}
+use Rattle.krates_build_facts.specs.FactModels.{FactModel, ActivatedFeature, Compiled, Lost, Needed, RunNeeded, ScriptCompiled, ScriptRun}
+use Rattle.krates_build_facts.specs.declared.facts.UnitPlace.{UnitPlace}
 use Rattle.krates_built.specs.BuildLists.{FeatureModel, feature_view}
 use Rattle.krates_built.specs.declared.lists.Lists.{Lists}
 use Rattle.krates_built.specs.declared.places.LostPlace.{LostPlace}
 use Rattle.krates_built.specs.declared.places.NeedPlace.{NeedPlace}
+use Rattle.krates_built.specs.declared.places.RunNeedPlace.{RunNeedPlace}
 use Rattle.krates_built.specs.declared.places.RunPlace.{RunPlace}
 use Rattle.krates_built.specs.declared.places.ScriptPlace.{ScriptPlace}
 
@@ -32,6 +33,11 @@ abbrev pub need_in : FactModel → Option NeedPlace
 need_in (Needed link from library) = Some (record { link = link; from = from; library = library })
 need_in _ = None
 
+-- the run that is needed
+abbrev pub run_need_in : FactModel → Option RunNeedPlace
+run_need_in (RunNeeded link from run) = Some (record { link = link; from = from; run = run })
+run_need_in _ = None
+
 -- the feature that is enabled
 abbrev pub feature_in : FactModel → Option FeatureModel
 feature_in (ActivatedFeature krate side name) = Some (record { krate = krate; side = side; name = name })
@@ -50,6 +56,7 @@ pub record AreListsOf (facts : List FactModel) (l : Lists) : Type 0 where
   pub scripts : l.scripts.items ≡ filter_map script_in facts
   pub runs : l.runs.items ≡ filter_map run_in facts
   pub needs : l.needs.items ≡ filter_map need_in facts
+  pub run_needs : l.run_needs.items ≡ filter_map run_need_in facts
   pub features : map feature_view l.features.items ≡ filter_map feature_in facts
   pub lost : l.lost.items ≡ filter_map lost_in facts
 
@@ -64,5 +71,6 @@ pub record HasAdded (old new : Lists) (fact : FactModel) : Type 0 where
   pub scripts : new.scripts.items ≡ with_one old.scripts.items (script_in fact)
   pub runs : new.runs.items ≡ with_one old.runs.items (run_in fact)
   pub needs : new.needs.items ≡ with_one old.needs.items (need_in fact)
+  pub run_needs : new.run_needs.items ≡ with_one old.run_needs.items (run_need_in fact)
   pub features : map feature_view new.features.items ≡ with_one (map feature_view old.features.items) (feature_in fact)
   pub lost : new.lost.items ≡ with_one old.lost.items (lost_in fact)

@@ -6,8 +6,8 @@ use Rattle.krates_units.specs.declared.sides.Side.{Side}
 use Rattle.krates_build_tables.specs.declared.tables.CrateEntry.{CrateEntry}
 use Rattle.krates_build_tables.specs.declared.tables.Link.{Link}
 use Rattle.krates_build_tables.specs.declared.tables.Tables.{Tables}
-use Rattle.krates_grounding.specs.FactModels.{ActivatedFeature, ActivatedName, Linked, ScriptCompiled}
-use Rattle.krates_grounding.specs.Meanings.{Follows}
+use Rattle.krates_build_facts.specs.FactModels.{ActivatedFeature, ActivatedName, Linked, ScriptCompiled}
+use Rattle.krates_build_facts.specs.Meanings.{Follows}
 
 -- the link is of an optional dependency of a build script, and passes on the host
 pub record MayDiffer (l : Link) : Type 0 where

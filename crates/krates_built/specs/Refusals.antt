@@ -13,7 +13,7 @@ use Rattle.krates_build_tables.specs.CrateParts.{AreTablesOf}
 use Rattle.krates_build_tables.specs.TablesOf.{CrateAt}
 use Rattle.krates_build_tables.specs.Unanswered.{TellsUnanswered}
 use Rattle.krates_build_tables.specs.declared.tables.Tables.{Tables}
-use Rattle.krates_grounding.specs.Meanings.{Follows, LackingMeans}
+use Rattle.krates_build_facts.specs.Meanings.{Follows, LackingMeans}
 use Rattle.krates_built.specs.BuildLists.{lost_cmp, lost_fact}
 use Rattle.krates_built.specs.OrderAt.{IsFirstDependent}
 use Rattle.krates_built.specs.declared.not_built.NotBuilt.{NotBuilt}

@@ -5,7 +5,7 @@ ghost use Rattle.std.specs.Ordering.{nat_cmp};
 ghost use Rattle.krates_built.specs.BuildLists.{IsListOf, feature_cmp, feature_fact, feature_view};
 ghost use Rattle.krates_built.specs.FeaturesOf.{name_at};
 ghost use Rattle.krates_build_tables.specs.declared.tables.Tables.{Tables};
-ghost use Rattle.krates_grounding.specs.FactModels.{ActivatedFeature};
+ghost use Rattle.krates_build_facts.specs.FactModels.{ActivatedFeature};
 
 use crate::places::FeaturePlace;
 use krates_units::Side;

@@ -15,5 +15,5 @@ mod visit_order;
 pub use listed::Listed;
 pub use lists::Lists;
 pub use not_built::NotBuilt;
-pub use places::{FeaturePlace, LostPlace, NeedPlace, RunPlace, ScriptPlace};
+pub use places::{FeaturePlace, LostPlace, NeedPlace, RunNeedPlace, RunPlace, ScriptPlace};
 pub use units::{Units, units_of};

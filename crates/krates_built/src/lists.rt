@@ -1,10 +1,10 @@
 //! Facts that follow, in a list for each kind.
 ghost use Rattle.std.specs.Prelude.{◌≡◌, ◌++◌, ◌∷◌, [], IfOk, OnOk, map};
 ghost use Rattle.krates_built.specs.FactLists.{AreListsOf, HasAdded};
-ghost use Rattle.krates_grounding.specs.FactModels.{fact_view};
+ghost use Rattle.krates_build_facts.specs.FactModels.{fact_view};
 
-use crate::places::{FeaturePlace, LostPlace, NeedPlace, RunPlace, ScriptPlace};
-use krates_grounding::{BuildFact, UnitPlace};
+use crate::places::{FeaturePlace, LostPlace, NeedPlace, RunNeedPlace, RunPlace, ScriptPlace};
+use krates_build_facts::{BuildFact, UnitPlace};
 use std::alloc::{AllocError, Global};
 
 /// What facts say of units, build scripts and their runs, needs, features and what is lost.
@@ -18,6 +18,8 @@ pub struct Lists<'a> {
     pub runs: Vec<RunPlace>,
     /// The libraries that are needed.
     pub needs: Vec<NeedPlace>,
+    /// The runs of build scripts that others need.
+    pub run_needs: Vec<RunNeedPlace>,
     /// The features that are enabled.
     pub features: Vec<FeaturePlace<'a>>,
     /// The dependencies that are lost.
@@ -33,6 +35,7 @@ pub(crate) fn lists_of<'a>(alloc: Global, facts: &[BuildFact<'a>]) -> Result<Lis
         scripts: Vec::new(alloc),
         runs: Vec::new(alloc),
         needs: Vec::new(alloc),
+        run_needs: Vec::new(alloc),
         features: Vec::new(alloc),
         lost: Vec::new(alloc),
     };
@@ -61,6 +64,9 @@ fn add<'a>(lists: &mut Lists<'a>, fact: &BuildFact<'a>) -> Result<(), AllocError
                 library,
             };
             push(&mut lists.needs, need)
+        }
+        BuildFact::RunNeeded(link, from, run) => {
+            push(&mut lists.run_needs, RunNeedPlace { link, from, run })
         }
         BuildFact::ActivatedFeature(krate, side, name) => {
             push(&mut lists.features, FeaturePlace { krate, side, name })

@@ -1,7 +1,7 @@
 //! The places of what a build is made of, by the numbers of tables. Each compares field by field.
 
+use krates_build_facts::{PlacementNumber, PlatformNumber, UnitPlace};
 use krates_build_tables::LinkPlace;
-use krates_grounding::{PlacementNumber, PlatformNumber, UnitPlace};
 use krates_units::Side;
 
 /// A build script that is compiled.
@@ -31,6 +31,17 @@ pub struct NeedPlace {
     pub from: PlatformNumber,
     /// The library, as it is compiled.
     pub library: UnitPlace,
+}
+
+/// A run of a build script that another needs.
+#[derive(Clone, Copy, Debug, PartialEq, Eq, PartialOrd, Ord)]
+pub struct RunNeedPlace {
+    /// The link over which it is needed.
+    pub link: LinkPlace,
+    /// What is placed so that the run is for which needs it.
+    pub from: PlacementNumber,
+    /// What is placed so that it is run for.
+    pub run: PlacementNumber,
 }
 
 /// An enabled feature of a crate.

@@ -13,9 +13,9 @@ use crate::listed::Listed;
 use crate::not_built::NotBuilt;
 use crate::places::LostPlace;
 use crate::visit_order::first_dependent;
+use krates_build_facts::laws;
 use krates_build_tables::Tables;
 use krates_cm::Package;
-use krates_grounding::laws;
 use krates_questions::Document;
 
 /// Why it isn't said what a build of the document builds; none where it is.

@@ -5,7 +5,7 @@ ghost use Rattle.std.specs.Ordering.{nat_cmp};
 ghost use Rattle.krates_build_tables.specs.CrateParts.{AreTablesOf};
 ghost use Rattle.krates_built.specs.BuildLists.{IsListOf, IsListed};
 ghost use Rattle.krates_built.specs.Refusals.{IsRefusal};
-ghost use Rattle.krates_grounding.specs.FactModels.{ActivatedFeature};
+ghost use Rattle.krates_build_facts.specs.FactModels.{ActivatedFeature};
 ghost use Rattle.krates_questions.specs.Lookup.{resolved_view};
 ghost use Rattle.krates_rules.specs.Facts.{Id};
 ghost use Rattle.krates_rules.specs.Resolved.{id_of};
@@ -17,11 +17,11 @@ ghost use Rattle.krates_units.specs.VisitOrder.{DependsOnOrder};
 use crate::features::names_of;
 use crate::listed::{Listed, listed_of};
 use crate::not_built::NotBuilt;
-use crate::places::{FeaturePlace, NeedPlace, RunPlace, ScriptPlace};
+use crate::places::{FeaturePlace, NeedPlace, RunNeedPlace, RunPlace, ScriptPlace};
 use crate::refusal::refusal;
+use krates_build_facts::{UnitPlace, laws};
 use krates_build_tables::Tables;
 use krates_build_tables::unanswered::first_unanswered;
-use krates_grounding::{UnitPlace, laws};
 use krates_questions::Document;
 use krates_units::{BuildSetting, Side};
 use std::alloc::{AllocError, Global};
@@ -91,6 +91,13 @@ impl<'a> Units<'a> {
         ensures { result.now ≡ self.now.lists.needs.items }
     {
         &self.listed.lists.needs
+    }
+
+    /// The runs that runs of build scripts need, by the links over which they do. Time O(1).
+    pub fn run_needs(&self) -> &[RunNeedPlace]
+        ensures { result.now ≡ self.now.lists.run_needs.items }
+    {
+        &self.listed.lists.run_needs
     }
 
     /// The features that are enabled, also of crates that aren't compiled. Time O(1).

@@ -5,9 +5,10 @@ ghost use Rattle.krates_built.specs.OrderAt.{Depends, DependsAt, Differs, HasDif
 
 use crate::listed::Listed;
 use crate::places::FeaturePlace;
+use krates_build_facts::BuildFact;
 use krates_build_tables::{CrateEntry, Link};
 use krates_cm::DependencyKind;
-use krates_grounding::{BuildFact, Derived};
+use krates_grounding::Derived;
 use krates_units::Side;
 
 /// The first crate, by number, for which cargo's answer depends on the order of its visits; none where there is no such crate.

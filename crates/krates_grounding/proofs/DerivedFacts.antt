@@ -5,11 +5,12 @@ use Rattle.std.specs.BTreeMap.{BTreeMap, get}
 use Rattle.krates_build_tables.specs.declared.tables.Tables.{Tables}
 use Rattle.krates_closure.specs.Clauses.{ClausesModel, NamesBelow}
 use Rattle.krates_closure.specs.Closure.{Derivable}
-use Rattle.krates_grounding.specs.FactModels.{FactModel, Lost, fact_view}
+use Rattle.krates_build_facts.specs.FactModels.{FactModel, Lost, fact_view}
 use Rattle.krates_grounding.specs.Grounding.{SaysNoText}
-use Rattle.krates_grounding.specs.Meanings.{Follows}
-use Rattle.krates_grounding.specs.Numbers.{AreDerived, IsNumberOf, IsOnlyAt, fact_cmp}
-use Rattle.krates_grounding.specs.declared.facts.BuildFact.{BuildFact}
+use Rattle.krates_build_facts.specs.Meanings.{Follows}
+use Rattle.krates_build_facts.specs.FactOrder.{fact_cmp}
+use Rattle.krates_grounding.specs.Numbers.{AreDerived, IsNumberOf, IsOnlyAt}
+use Rattle.krates_build_facts.specs.declared.facts.BuildFact.{BuildFact}
 use Rattle.krates_grounding.proofs.FollowingNumbers.{derived_follows, follows_derived}
 
 module _ (t : Tables) (all : List FactModel) (numbers : BTreeMap BuildFact ℕ) (clauses : ClausesModel) (h : AreDerived t all numbers clauses) where

@@ -2,7 +2,7 @@
 use Rattle.std.proofs.Common.{◌≡◌, ◌≢◌, ℕ, List, [], ◌∷◌, ◌++◌, Bool, true, false, cond, eqb, Bor, MatchOption, Option, Some, None, option_map, refl, ap, ◌∙◌, subst, sym, eqb-true}
 use Rattle.std.proofs.lemmas.Bool.{eq-eqb}
 use Rattle.krates_cm.specs.Document.{Text}
-use Rattle.krates_grounding.specs.Rows.{feature_behind}
+use Rattle.krates_build_facts.specs.Rows.{feature_behind}
 
 unless_same : (x y : ℕ) (answer : Option Text) (b : Bool) → eqb x y ≡ b → (x ≡ y → answer ≡ None) → cond b answer None ≡ None
 unless_same x y answer true e h = h (eqb-true x y e)

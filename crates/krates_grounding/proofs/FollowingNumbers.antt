@@ -8,13 +8,13 @@ use Rattle.krates_rules.proofs.Standings.{contains_at}
 use Rattle.krates_build_tables.specs.declared.tables.Tables.{Tables}
 use Rattle.krates_closure.specs.Clauses.{ClauseModel, NamesBelow}
 use Rattle.krates_closure.specs.Closure.{Derivable, by_clause}
-use Rattle.krates_grounding.specs.FactModels.{FactModel, RuleModel, Met, LinkedReference, LinkedFeature, LinkedName, Linked, Lost, Activated, ActivatedReference, ActivatedFeature, ActivatedName, Used, Available, Compiled, Needed, ScriptRun, ScriptCompiled}
+use Rattle.krates_build_facts.specs.FactModels.{FactModel, RuleModel, Met, LinkedReference, LinkedFeature, LinkedName, Linked, Lost, Activated, ActivatedReference, ActivatedFeature, ActivatedName, Used, Available, Compiled, Needed, ScriptRun, ScriptCompiled, RunNeeded}
 use Rattle.krates_grounding.specs.Grounding.{IsGrounded, SaysNoText, fact_at, facts_of, rule_of}
-use Rattle.krates_grounding.specs.InitialRows.{initial_rows}
-use Rattle.krates_grounding.specs.Meanings.{Follows, IsRow, by_row}
-use Rattle.krates_grounding.specs.Rows.{rows_of, rule}
-use Rattle.krates_grounding.proofs.BegunRows.{Begins, begun}
-use Rattle.krates_grounding.proofs.RowLists.{here, in_flat, there}
+use Rattle.krates_build_facts.specs.InitialRows.{initial_rows}
+use Rattle.krates_build_facts.specs.Meanings.{Follows, IsRow, by_row}
+use Rattle.krates_build_facts.specs.Rows.{rows_of, rule}
+use Rattle.krates_build_facts.proofs.BegunRows.{Begins, begun}
+use Rattle.krates_build_facts.proofs.RowLists.{here, in_flat, there}
 
 -- ---- lists
 
@@ -46,6 +46,7 @@ begins_with (Compiled u) ps n first = inl (tt, first)
 begins_with (Needed place from u) ps n first = inl (tt, first)
 begins_with (ScriptRun c at) ps n first = inl (tt, first)
 begins_with (ScriptCompiled c s) ps n first = inl (tt, first)
+begins_with (RunNeeded place from run) ps n first = inl (tt, first)
 
 module _ (t : Tables) (facts : List FactModel) (clauses : List ClauseModel) (g : IsGrounded t (record { facts = facts; rules = map (rule_of facts) clauses })) (below : All (NamesBelow (length facts)) clauses) where
   -- ---- what the clauses derive follows

@@ -9,11 +9,12 @@ use Rattle.std.specs.Map.{lookup}
 use Rattle.std.specs.Ordering.{is_eq}
 use Rattle.krates_rules.proofs.Standings.{contains_at}
 use Rattle.krates_closure.specs.Clauses.{ClauseModel, ClausesModel, NamesBelow}
-use Rattle.krates_grounding.specs.FactModels.{FactModel, RuleModel, Lost, fact_view}
+use Rattle.krates_build_facts.specs.FactModels.{FactModel, RuleModel, Lost, fact_view}
 use Rattle.krates_grounding.specs.Grounding.{AreDistinct, AreNamed, HasNumbered, fact_at, facts_of, rule_of}
-use Rattle.krates_grounding.specs.Numbers.{AreNumbersOf, IsGround, IsNumberOf, fact_cmp}
-use Rattle.krates_grounding.specs.declared.facts.BuildFact.{BuildFact}
-use Rattle.krates_grounding.proofs.FactOrder.{fact_tells}
+use Rattle.krates_build_facts.specs.FactOrder.{fact_cmp}
+use Rattle.krates_grounding.specs.Numbers.{AreNumbersOf, IsGround, IsNumberOf}
+use Rattle.krates_build_facts.specs.declared.facts.BuildFact.{BuildFact}
+use Rattle.krates_build_facts.proofs.FactOrder.{fact_tells}
 
 pub is_equal : (o : Ordering) → is_eq o ≡ true → o ≡ Equal
 is_equal Less h = absurd cc

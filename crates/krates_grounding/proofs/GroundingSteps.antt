@@ -6,10 +6,10 @@ use Rattle.std.proofs.lemmas.List.Concat.{flat_map-append}
 use Rattle.std.proofs.lemmas.Option.{get_or_from_slice_get, slice_get-get_or, slice_get_within}
 use Rattle.std.specs.List.{flat_map, slice_get}
 use Rattle.krates_build_tables.specs.declared.tables.Tables.{Tables}
-use Rattle.krates_grounding.specs.FactModels.{FactModel, RuleModel, Lost}
+use Rattle.krates_build_facts.specs.FactModels.{FactModel, RuleModel, Lost}
 use Rattle.krates_grounding.specs.Grounding.{AreDistinct, AreNamed, GroundModel, HasWritten, IsGrounded}
-use Rattle.krates_grounding.specs.InitialRows.{initial_rows}
-use Rattle.krates_grounding.specs.Rows.{rows_of}
+use Rattle.krates_build_facts.specs.InitialRows.{initial_rows}
+use Rattle.krates_build_facts.specs.Rows.{rows_of}
 
 -- the instances that begin with the first facts are written
 pub record IsGroundedUpTo (t : Tables) (g : GroundModel) (next : ℕ) : Type 0 where

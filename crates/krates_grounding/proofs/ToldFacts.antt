@@ -10,14 +10,15 @@ use Rattle.krates_build_tables.specs.declared.tables.Tables.{Tables}
 use Rattle.krates_closure.specs.Clauses.{ClauseModel, ClausesModel, NamesBelow}
 use Rattle.krates_closure.specs.Closure.{Derivable}
 use Rattle.std.specs.BTreeMap.{BTreeMap}
-use Rattle.krates_grounding.specs.FactModels.{FactModel, Lost, fact_view}
+use Rattle.krates_build_facts.specs.FactModels.{FactModel, Lost, fact_view}
 use Rattle.krates_grounding.specs.Grounding.{AreToldUpTo, SaysNoText}
-use Rattle.krates_grounding.specs.Meanings.{Follows}
-use Rattle.krates_grounding.specs.Numbers.{AreDerived, fact_cmp}
-use Rattle.krates_grounding.specs.contracts.facts.BuildFactOrd.TheImpl.Laws.{matches_eq-law}
-use Rattle.krates_grounding.specs.contracts.facts.BuildFactPartialEq.TheImpl.{ghosts as fact_equality}
-use Rattle.krates_grounding.specs.declared.facts.BuildFact.{BuildFact}
-use Rattle.krates_grounding.proofs.FactOrder.{fact_tells}
+use Rattle.krates_build_facts.specs.Meanings.{Follows}
+use Rattle.krates_build_facts.specs.FactOrder.{fact_cmp}
+use Rattle.krates_grounding.specs.Numbers.{AreDerived}
+use Rattle.krates_build_facts.specs.contracts.facts.BuildFactOrd.TheImpl.Laws.{matches_eq-law}
+use Rattle.krates_build_facts.specs.contracts.facts.BuildFactPartialEq.TheImpl.{ghosts as fact_equality}
+use Rattle.krates_build_facts.specs.declared.facts.BuildFact.{BuildFact}
+use Rattle.krates_build_facts.proofs.FactOrder.{fact_tells}
 use Rattle.krates_grounding.proofs.FollowingNumbers.{derived_follows, follows_derived}
 use Rattle.krates_grounding.proofs.GroundFacts.{is_equal}
 

@@ -7,9 +7,9 @@ use Rattle.std.proofs.lemmas.List.Elements.{All-cons, All-nil}
 use Rattle.std.proofs.lemmas.Option.{get_or_from_slice_get, slice_get_within}
 use Rattle.std.specs.List.{flat_map, range_with_len, slice_get}
 use Rattle.krates_closure.specs.Clauses.{ClauseModel, ClausesModel}
-use Rattle.krates_grounding.specs.FactModels.{FactModel, RuleModel, Lost}
+use Rattle.krates_build_facts.specs.FactModels.{FactModel, RuleModel, Lost}
 use Rattle.krates_grounding.specs.Grounding.{GroundModel, HasNumbered, HasWritten, HaveNumbered, fact_at, rule_of}
-use Rattle.krates_grounding.specs.Rows.{rule}
+use Rattle.krates_build_facts.specs.Rows.{rule}
 use Rattle.krates_grounding.proofs.GroundFacts.{at_before}
 
 -- ---- numbers

@@ -4,9 +4,9 @@ use Rattle.std.specs.List.{flat_map}
 use Rattle.krates_build_tables.specs.declared.tables.Tables.{Tables}
 use Rattle.krates_closure.specs.Clauses.{ClauseModel}
 use Rattle.krates_closure.specs.Closure.{Derivable}
-use Rattle.krates_grounding.specs.FactModels.{FactModel, RuleModel, Met, LinkedReference, LinkedFeature, LinkedName, Linked, Lost, Activated, ActivatedReference, ActivatedFeature, ActivatedName, Used, Available, Compiled, Needed, ScriptRun, ScriptCompiled}
-use Rattle.krates_grounding.specs.InitialRows.{initial_rows}
-use Rattle.krates_grounding.specs.Rows.{rows_of}
+use Rattle.krates_build_facts.specs.FactModels.{FactModel, RuleModel, Met, LinkedReference, LinkedFeature, LinkedName, Linked, Lost, Activated, ActivatedReference, ActivatedFeature, ActivatedName, Used, Available, Compiled, Needed, ScriptRun, ScriptCompiled, RunNeeded}
+use Rattle.krates_build_facts.specs.InitialRows.{initial_rows}
+use Rattle.krates_build_facts.specs.Rows.{rows_of}
 
 -- the facts by number, and the instances over them, in the order in which they were written
 pub record GroundModel : Type 0 where
@@ -80,6 +80,7 @@ SaysNoText (Compiled u) = ⊤
 SaysNoText (Needed place from u) = ⊤
 SaysNoText (ScriptRun c at) = ⊤
 SaysNoText (ScriptCompiled c n) = ⊤
+SaysNoText (RunNeeded place from run) = ⊤
 
 -- ---- what is told
 

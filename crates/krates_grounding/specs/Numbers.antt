@@ -1,19 +1,14 @@
 -- The numbers that a map has of facts.
 use Rattle.std.specs.Prelude.{◌≡◌, ℕ, List, [], All, Contains, MatchOption, Option, Some, length, map, slice_get}
 use Rattle.std.specs.BTreeMap.{BTreeMap, get}
-use Rattle.std.specs.declared.cmp.Ordering.{Ordering}
 use denote.Ref.{NamedLft}
 use mir.Syntax.{named}
 use Rattle.krates_build_tables.specs.declared.tables.Tables.{Tables}
 use Rattle.krates_closure.specs.Clauses.{ClausesModel, NamesBelow}
-use Rattle.krates_grounding.specs.FactModels.{FactModel, fact_view}
+use Rattle.krates_build_facts.specs.FactModels.{FactModel, fact_view}
+use Rattle.krates_build_facts.specs.FactOrder.{fact_cmp}
 use Rattle.krates_grounding.specs.Grounding.{IsGrounded, rule_of}
-use Rattle.krates_grounding.specs.contracts.facts.BuildFactOrd.TheImpl as fact_order
-use Rattle.krates_grounding.specs.declared.facts.BuildFact.{BuildFact}
-
--- the derived order
-abbrev pub fact_cmp : BuildFact → BuildFact → Ordering
-fact_cmp = (fact_order.ghosts).cmp
+use Rattle.krates_build_facts.specs.declared.facts.BuildFact.{BuildFact}
 
 -- the fact has this number alone
 pub record IsOnlyAt (all : List FactModel) (f : FactModel) (number : ℕ) : Type 0 where

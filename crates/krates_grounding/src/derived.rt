@@ -1,16 +1,16 @@
 //! What follows from the tables of a document and a build.
 ghost use Rattle.std.specs.Prelude.{◌≡◌, All, Contains, IfNone, IfOk, IfSome, IsTrue, length, map};
 ghost use Rattle.std.specs.List.Sorted.{IsStrictlySortedBy};
-ghost use Rattle.krates_grounding.specs.FactModels.{FactModel, fact_view};
+ghost use Rattle.krates_build_facts.specs.FactModels.{FactModel, fact_view};
 ghost use Rattle.krates_grounding.specs.Grounding.{AreToldUpTo, SaysNoText};
-ghost use Rattle.krates_grounding.specs.Meanings.{Follows};
-ghost use Rattle.krates_grounding.specs.Numbers.{fact_cmp};
-ghost use Rattle.krates_grounding.specs.Steps.{AreStepsTo, step_view};
+ghost use Rattle.krates_build_facts.specs.Meanings.{Follows};
+ghost use Rattle.krates_build_facts.specs.FactOrder.{fact_cmp};
+ghost use Rattle.krates_build_facts.specs.Steps.{AreStepsTo, step_view};
 
-use crate::facts::BuildFact;
 use crate::ground::Ground;
 use crate::grounding::grounded;
-use crate::steps::{BuildStep, steps_of};
+use crate::steps::steps_of;
+use krates_build_facts::{BuildFact, BuildStep};
 use krates_build_tables::Tables;
 use krates_closure::{Closure, FactNumber};
 use krates_document::sorted::in_order;
@@ -30,7 +30,7 @@ pub struct Derived<'a> {
 impl<'a> Model for Derived<'a> {
     ghost use Rattle.std.specs.Prelude.{map};
     ghost use Rattle.krates_build_tables.specs.declared.tables.Tables.{Tables};
-    ghost use Rattle.krates_grounding.specs.FactModels.{fact_view};
+    ghost use Rattle.krates_build_facts.specs.FactModels.{fact_view};
     ghost use Rattle.krates_grounding.specs.Numbers.{AreDerived};
     ghost use Rattle.std.specs.Coded.{codes};
     ghost use Rattle.krates_build_tables.specs.contracts.tables.Tables as told;

@@ -1,10 +1,10 @@
 //! Instances of rules, as clauses over the facts that they name.
 ghost use Rattle.std.specs.Prelude.{◌≡◌, ◌+◌, ◌^◌, ◌<◌, ◌∷◌, [], IfOk, IfSome, OnOk, map, option_map, slice_get};
-ghost use Rattle.krates_grounding.specs.FactModels.{fact_view};
+ghost use Rattle.krates_build_facts.specs.FactModels.{fact_view};
 ghost use Rattle.krates_grounding.specs.Grounding.{AreDistinct, AreNamed, HasNumbered, HasWritten, HaveNumbered};
-ghost use Rattle.krates_grounding.specs.Rows.{rule, rule_if};
+ghost use Rattle.krates_build_facts.specs.Rows.{rule, rule_if};
 
-use crate::facts::BuildFact;
+use krates_build_facts::BuildFact;
 use krates_closure::{Clauses, FactNumber};
 use std::alloc::{AllocError, Global};
 use std::collections::BTreeMap;
@@ -21,7 +21,7 @@ pub(crate) struct Ground<'a> {
 
 impl<'a> Model for Ground<'a> {
     ghost use Rattle.std.specs.Prelude.{map};
-    ghost use Rattle.krates_grounding.specs.FactModels.{fact_view};
+    ghost use Rattle.krates_build_facts.specs.FactModels.{fact_view};
     ghost use Rattle.krates_grounding.specs.Grounding.{GroundModel, rule_of};
     ghost use Rattle.krates_grounding.specs.Numbers.{IsGround};
 

@@ -5,11 +5,11 @@ ghost use Rattle.std.specs.Prelude.{◌≡◌, OnOk, true};
 ghost use Rattle.std.specs.List.{flat_map, range_with_len};
 ghost use Rattle.krates_build_tables.specs.References.{reference_view};
 ghost use Rattle.krates_grounding.specs.Grounding.{HasWritten};
-ghost use Rattle.krates_grounding.specs.InitialRows.{asked_for_machine, asked_in, asked_rows, initial_in, initial_rows, machine_place, requested, root_alone};
+ghost use Rattle.krates_build_facts.specs.InitialRows.{asked_for_machine, asked_in, asked_rows, initial_in, initial_rows, machine_place, requested, root_alone};
 
-use crate::facts::{BuildFact, PlacementNumber, PlatformNumber, UnitPlace};
 use crate::ground::Ground;
 use crate::unit_rows::{goes_to, require};
+use krates_build_facts::{BuildFact, PlacementNumber, PlatformNumber, UnitPlace};
 use krates_build_tables::{CrateEntry, FeatureReference, Tables, TargetEntry};
 use krates_units::{Meeting, Mode, Side};
 use std::alloc::AllocError;

@@ -1,18 +1,15 @@
-//! The rules of what cargo builds, as clauses over numbered facts: the instances of each rule in the tables of a document and a build.
+//! The rules of what cargo builds, as clauses over numbered facts: their instances in the tables of a document and a build, and what follows.
 #![tactic(auto)]
 
 pub mod derived;
-pub mod facts;
 mod ground;
 mod grounding;
 mod initial_rows;
-pub mod laws;
 mod linking_rows;
 mod rows;
+mod run_rows;
 mod side_rows;
-pub mod steps;
+mod steps;
 mod unit_rows;
 
 pub use derived::Derived;
-pub use facts::{BuildFact, PlacementNumber, PlatformNumber, UnitPlace};
-pub use steps::BuildStep;

@@ -5,10 +5,10 @@ ghost use Rattle.std.specs.Prelude.{◌≡◌, OnOk, map};
 ghost use Rattle.std.specs.List.{flat_map};
 ghost use Rattle.krates_build_tables.specs.References.{reference_view};
 ghost use Rattle.krates_grounding.specs.Grounding.{HasWritten};
-ghost use Rattle.krates_grounding.specs.Rows.{given_by_link, linked, linked_by_reference, linked_implied, linked_references, linked_toggled, lost, takes_kind};
+ghost use Rattle.krates_build_facts.specs.Rows.{given_by_link, linked, linked_by_reference, linked_implied, linked_references, linked_toggled, lost, takes_kind};
 
-use crate::facts::BuildFact;
 use crate::ground::Ground;
+use krates_build_facts::BuildFact;
 use krates_build_tables::{CrateEntry, FeatureReference, Lacking, Link, LinkPlace};
 use krates_cm::DependencyKind;
 use krates_units::Meeting;

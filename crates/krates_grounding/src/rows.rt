@@ -3,13 +3,13 @@
 
 ghost use Rattle.std.specs.Prelude.{◌≡◌, OnOk};
 ghost use Rattle.std.specs.List.{flat_map};
-ghost use Rattle.krates_grounding.specs.FactModels.{fact_view};
+ghost use Rattle.krates_build_facts.specs.FactModels.{fact_view};
 ghost use Rattle.krates_grounding.specs.Grounding.{HasWritten};
-ghost use Rattle.krates_grounding.specs.Rows.{entry_rows, home, link_rows, rows_alone, rows_in, rows_of};
+ghost use Rattle.krates_build_facts.specs.Rows.{entry_rows, home, link_rows, rows_alone, rows_in, rows_of};
 
-use crate::facts::BuildFact;
 use crate::ground::Ground;
-use crate::{linking_rows, side_rows, unit_rows};
+use crate::{linking_rows, run_rows, side_rows, unit_rows};
+use krates_build_facts::BuildFact;
 use krates_build_tables::{CrateEntry, Link, Tables};
 use krates_units::Side;
 use std::alloc::AllocError;
@@ -31,9 +31,10 @@ fn home_of(fact: &BuildFact<'_>) -> usize
         | BuildFact::Available(krate, _)
         | BuildFact::ScriptRun(krate, _)
         | BuildFact::ScriptCompiled(krate, _) => krate,
-        BuildFact::Linked(place) | BuildFact::Used(place, _) | BuildFact::Needed(place, _, _) => {
-            place.krate
-        }
+        BuildFact::Linked(place)
+        | BuildFact::Used(place, _)
+        | BuildFact::Needed(place, _, _)
+        | BuildFact::RunNeeded(place, _, _) => place.krate,
         BuildFact::Compiled(unit) => unit.target.krate,
     }
 }
@@ -131,7 +132,10 @@ fn write_link<'a>(
             side_rows::write_used_by_name(krate, side, name, link, ground)
         }
         BuildFact::Available(krate, text) => side_rows::write_available(krate, text, link, ground),
-        BuildFact::Compiled(unit) => unit_rows::write_of_unit(tables, entry, unit, link, ground),
+        BuildFact::Compiled(unit) => {
+            unit_rows::write_of_unit(tables, entry, unit, link, ground)?;
+            run_rows::write_of_unit(tables, entry, unit, link, ground)
+        }
         BuildFact::ScriptCompiled(krate, side) => {
             unit_rows::write_of_script(tables, krate, side, link, ground)
         }

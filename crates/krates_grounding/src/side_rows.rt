@@ -4,10 +4,10 @@
 ghost use Rattle.std.specs.Prelude.{◌≡◌, ◌++◌, OnOk, option_map};
 ghost use Rattle.krates_build_tables.specs.References.{reference_view};
 ghost use Rattle.krates_grounding.specs.Grounding.{HasWritten};
-ghost use Rattle.krates_grounding.specs.Rows.{activated_by_reference, activated_references, activated_strongly, available_below, counts, feature_behind, given_by_use, leads_from, toggled, used, used_by_name};
+ghost use Rattle.krates_build_facts.specs.Rows.{activated_by_reference, activated_references, activated_strongly, available_below, counts, feature_behind, given_by_use, leads_from, toggled, used, used_by_name};
 
-use crate::facts::BuildFact;
 use crate::ground::Ground;
+use krates_build_facts::BuildFact;
 use krates_build_tables::{CrateEntry, FeatureReference, Link, LinkPlace, Tables};
 use krates_units::Side;
 use std::alloc::AllocError;

@@ -1,23 +1,14 @@
-//! Steps of derivations: facts, each with those from which it follows.
+//! The steps that clauses stand for.
 ghost use Rattle.std.specs.Prelude.{◌≡◌, ◌<◌, ℕ, All, Contains, IfOk, length, map};
 ghost use Rattle.krates_closure.specs.Clauses.{NamesBelow};
 ghost use Rattle.krates_closure.specs.Closing.{clause_at};
-ghost use Rattle.krates_grounding.specs.FactModels.{fact_view};
+ghost use Rattle.krates_build_facts.specs.FactModels.{fact_view};
 ghost use Rattle.krates_grounding.specs.Grounding.{fact_at, rule_of};
-ghost use Rattle.krates_grounding.specs.Steps.{step_view};
+ghost use Rattle.krates_build_facts.specs.Steps.{step_view};
 
-use crate::facts::BuildFact;
+use krates_build_facts::{BuildFact, BuildStep};
 use krates_closure::{Clause, ClauseNumber, FactNumber};
 use std::alloc::{AllocError, Global};
-
-/// A step of a derivation: a fact, and those from which it follows by one rule.
-#[derive(Debug, Drop)]
-pub struct BuildStep<'a> {
-    /// Those from which it follows, in the order of the rule.
-    pub premises: Vec<BuildFact<'a>>,
-    /// What follows.
-    pub fact: BuildFact<'a>,
-}
 
 /// The steps that these clauses stand for.
 pub(crate) fn steps_of<'a>(

@@ -3,26 +3,26 @@
 
 ghost use Rattle.std.specs.Prelude.{◌≡◌, [], ◌∷◌, ◌++◌, OnOk, map};
 ghost use Rattle.std.specs.List.{flat_map};
-ghost use Rattle.krates_grounding.specs.FactModels.{fact_view};
+ghost use Rattle.krates_build_facts.specs.FactModels.{fact_view};
 ghost use Rattle.krates_grounding.specs.Grounding.{HasWritten};
-ghost use Rattle.krates_grounding.specs.Rows.{features_side, goes_to, has_kind, host_place, libraries, libraries_of_script, libraries_of_target, libraries_of_unit, library, needed_beside, needed_in_crate, passes, program_beside, requires, unit_of};
+ghost use Rattle.krates_build_facts.specs.Rows.{features_side, goes_to, has_kind, host_place, libraries, libraries_of_script, libraries_of_target, libraries_of_unit, library, needed_beside, needed_in_crate, passes, program_beside, requires, unit_of};
 
-use crate::facts::{BuildFact, PlacementNumber, PlatformNumber, UnitPlace};
 use crate::ground::Ground;
+use krates_build_facts::{BuildFact, PlacementNumber, PlatformNumber, UnitPlace};
 use krates_build_tables::{CrateEntry, Link, Tables, TargetEntry};
 use krates_cm::DependencyKind;
 use krates_units::{Mode, Side};
 use std::alloc::AllocError;
 
 /// The side whose features what is compiled for a side has.
-fn features_side(tables: &Tables<'_>, side: Side) -> Side
+pub(crate) fn features_side(tables: &Tables<'_>, side: Side) -> Side
     ensures { result ≡ features_side tables.now side }
 {
     if tables.is_first { Side::Targets } else { side }
 }
 
 /// Whether the target text of a link holds on a platform.
-fn passes(link: &Link<'_>, platform: PlatformNumber) -> bool
+pub(crate) fn passes(link: &Link<'_>, platform: PlatformNumber) -> bool
     ensures { result ≡ passes link.now platform }
 {
     match platform {

@@ -1,6 +1,6 @@
 use Rattle.std.proofs.Common.{List, map, subst}
-use Rattle.krates_grounding.specs.FactModels.{fact_view}
-use Rattle.krates_grounding.specs.declared.facts.BuildFact.{BuildFact}
+use Rattle.krates_build_facts.specs.FactModels.{fact_view}
+use Rattle.krates_build_facts.specs.declared.facts.BuildFact.{BuildFact}
 use Rattle.krates_built.specs.FactLists.{AreListsOf}
 use Rattle.krates_built.proofs.FoundLists.{lists_found}
 use Rattle.krates_built.proofs.listed.lists_in.Goals as goal

@@ -4,9 +4,9 @@ use Rattle.std.proofs.lemmas.Option.{slice_get-map, slice_get-get_or}
 use Rattle.std.specs.Global.{Global, Vec}
 use Rattle.std.specs.List.{slice_get}
 use Rattle.krates_closure.specs.Closure.{Derivable}
-use Rattle.krates_grounding.specs.FactModels.{FactModel, fact_view}
+use Rattle.krates_build_facts.specs.FactModels.{FactModel, fact_view}
 use Rattle.krates_grounding.specs.Grounding.{AreToldUpTo}
-use Rattle.krates_grounding.specs.declared.facts.BuildFact.{BuildFact}
+use Rattle.krates_build_facts.specs.declared.facts.BuildFact.{BuildFact}
 use Rattle.krates_grounding.proofs.ToldFacts.{none_told, not_told, one_told}
 use Rattle.krates_grounding.proofs.derived.holding.Goals as goal
 use Rattle.krates_grounding.proofs.derived.holding.Goals.{then-holds+in_ok-push, else-holds}

@@ -1,5 +1,5 @@
 use Rattle.std.proofs.Common.{map}
-use Rattle.krates_grounding.specs.FactModels.{fact_view}
+use Rattle.krates_build_facts.specs.FactModels.{fact_view}
 use Rattle.krates_grounding.specs.Grounding.{AreToldUpTo}
 use Rattle.krates_grounding.proofs.derived.holding.Given as goal
 

@@ -1,5 +1,5 @@
 use Rattle.std.proofs.Common.{option_map, sym, ◌∙◌, ap}
-use Rattle.krates_grounding.specs.FactModels.{fact_view}
+use Rattle.krates_build_facts.specs.FactModels.{fact_view}
 use Rattle.krates_grounding.proofs.GroundingSteps.{grounded_end, grounded_init, grounded_step}
 use Rattle.krates_grounding.proofs.grounding.grounded.Goals as goal
 

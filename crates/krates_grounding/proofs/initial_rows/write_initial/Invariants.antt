@@ -1,7 +1,7 @@
 use Rattle.std.proofs.Common.{take}
 use Rattle.std.specs.List.{flat_map}
 use Rattle.krates_grounding.specs.Grounding.{HasWritten}
-use Rattle.krates_grounding.specs.InitialRows.{initial_in, machine_count}
+use Rattle.krates_build_facts.specs.InitialRows.{initial_in, machine_count}
 use Rattle.krates_grounding.proofs.initial_rows.write_initial.Given as goal
 
 -- those so far are written

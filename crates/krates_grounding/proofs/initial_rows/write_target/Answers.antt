@@ -1,4 +1,4 @@
-use Rattle.krates_grounding.specs.InitialRows.{asked_for_machine}
+use Rattle.krates_build_facts.specs.InitialRows.{asked_for_machine}
 use Rattle.krates_grounding.proofs.WrittenRules.{counted_more}
 use Rattle.krates_grounding.proofs.initial_rows.write_target.Goals as goal
 

@@ -1,8 +1,8 @@
 use Rattle.std.proofs.Common.{[], ◌∷◌, map, take}
 use Rattle.krates_units.specs.declared.sides.Meeting.TheVariants as meetings
-use Rattle.krates_grounding.specs.FactModels.{Linked, LinkedFeature}
+use Rattle.krates_build_facts.specs.FactModels.{Linked, LinkedFeature}
 use Rattle.krates_grounding.specs.Grounding.{HasWritten}
-use Rattle.krates_grounding.specs.Rows.{rule}
+use Rattle.krates_build_facts.specs.Rows.{rule}
 use Rattle.krates_grounding.proofs.linking_rows.write_given.Given as goal
 
 -- those of the features so far are written

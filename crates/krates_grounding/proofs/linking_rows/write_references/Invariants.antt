@@ -1,8 +1,8 @@
 use Rattle.std.proofs.Common.{[], ◌∷◌, map, take}
 use Rattle.krates_build_tables.specs.References.{reference_view}
-use Rattle.krates_grounding.specs.FactModels.{LinkedFeature, LinkedReference}
+use Rattle.krates_build_facts.specs.FactModels.{LinkedFeature, LinkedReference}
 use Rattle.krates_grounding.specs.Grounding.{HasWritten}
-use Rattle.krates_grounding.specs.Rows.{rule}
+use Rattle.krates_build_facts.specs.Rows.{rule}
 use Rattle.krates_grounding.proofs.linking_rows.write_references.Given as goal
 
 -- the references so far are written

@@ -1,7 +1,7 @@
 use Rattle.std.proofs.Common.{[], ◌∷◌, map, take}
-use Rattle.krates_grounding.specs.FactModels.{ActivatedFeature, Used}
+use Rattle.krates_build_facts.specs.FactModels.{ActivatedFeature, Used}
 use Rattle.krates_grounding.specs.Grounding.{HasWritten}
-use Rattle.krates_grounding.specs.Rows.{rule}
+use Rattle.krates_build_facts.specs.Rows.{rule}
 use Rattle.krates_grounding.proofs.side_rows.write_given.Given as goal
 
 -- those of the features so far are written

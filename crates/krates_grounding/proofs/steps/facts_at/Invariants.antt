@@ -1,5 +1,5 @@
 use Rattle.std.proofs.Common.{◌≡◌, map, take}
-use Rattle.krates_grounding.specs.FactModels.{fact_view}
+use Rattle.krates_build_facts.specs.FactModels.{fact_view}
 use Rattle.krates_grounding.specs.Grounding.{fact_at}
 use Rattle.krates_grounding.proofs.steps.facts_at.Given as goal
 

@@ -1,8 +1,8 @@
 use Rattle.std.proofs.Common.{◌≡◌, map, take}
 use Rattle.krates_closure.specs.Closing.{clause_at}
-use Rattle.krates_grounding.specs.FactModels.{fact_view}
+use Rattle.krates_build_facts.specs.FactModels.{fact_view}
 use Rattle.krates_grounding.specs.Grounding.{rule_of}
-use Rattle.krates_grounding.specs.Steps.{step_view}
+use Rattle.krates_build_facts.specs.Steps.{step_view}
 use Rattle.krates_grounding.proofs.steps.steps_of.Given as goal
 
 -- those so far

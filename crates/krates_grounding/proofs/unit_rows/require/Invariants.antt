@@ -1,5 +1,5 @@
 use Rattle.std.proofs.Common.{◌≡◌, ◌++◌, map, take}
-use Rattle.krates_grounding.specs.FactModels.{Available, fact_view}
+use Rattle.krates_build_facts.specs.FactModels.{Available, fact_view}
 use Rattle.krates_grounding.proofs.unit_rows.require.Given as goal
 
 -- the texts so far are added

@@ -1,7 +1,7 @@
 use Rattle.std.proofs.Common.{take}
 use Rattle.std.specs.List.{flat_map}
 use Rattle.krates_grounding.specs.Grounding.{HasWritten}
-use Rattle.krates_grounding.specs.Rows.{needed_beside}
+use Rattle.krates_build_facts.specs.Rows.{needed_beside}
 use Rattle.krates_grounding.proofs.unit_rows.write_beside.Given as goal
 
 -- those of the targets so far are written

@@ -1,10 +1,10 @@
 use Rattle.std.proofs.Common.{◌≡◌, ℕ, List, All, Contains, length, map, subst, arith}
 use Rattle.std.proofs.lemmas.List.{length-map}
 use Rattle.krates_build_tables.specs.declared.tables.Tables.{Tables}
-use Rattle.krates_grounding.specs.FactModels.{FactModel, fact_view}
+use Rattle.krates_build_facts.specs.FactModels.{FactModel, fact_view}
 use Rattle.krates_grounding.specs.Grounding.{AreToldUpTo, SaysNoText}
-use Rattle.krates_grounding.specs.Meanings.{Follows}
-use Rattle.krates_grounding.specs.declared.facts.BuildFact.{BuildFact}
+use Rattle.krates_build_facts.specs.Meanings.{Follows}
+use Rattle.krates_build_facts.specs.declared.facts.BuildFact.{BuildFact}
 use Rattle.krates_grounding.proofs.ToldFacts.{told_all, told_follow, told_in_order}
 use Rattle.krates_grounding.proofs.derived.Derived.facts.Goals as goal
 

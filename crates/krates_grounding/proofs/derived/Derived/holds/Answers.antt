@@ -2,9 +2,9 @@ use Rattle.std.proofs.Common.{◌≡◌, ℕ, Some, None, sym, subst, rules}
 use Rattle.std.specs.BTreeMap.{get}
 use Rattle.krates_build_tables.specs.declared.tables.Tables.{Tables}
 use Rattle.krates_closure.specs.Closure.{Derivable}
-use Rattle.krates_grounding.specs.FactModels.{fact_view}
-use Rattle.krates_grounding.specs.Meanings.{Follows}
-use Rattle.krates_grounding.specs.Numbers.{fact_cmp}
+use Rattle.krates_build_facts.specs.FactModels.{fact_view}
+use Rattle.krates_build_facts.specs.Meanings.{Follows}
+use Rattle.krates_build_facts.specs.FactOrder.{fact_cmp}
 use Rattle.krates_grounding.proofs.DerivedFacts.{told_complete, told_none, told_sound}
 use Rattle.krates_grounding.proofs.derived.Derived.holds.Goals as goal
 

@@ -5,10 +5,10 @@ use Rattle.krates_build_tables.specs.declared.tables.Tables.{Tables}
 use Rattle.krates_closure.specs.Clauses.{NamesBelow}
 use Rattle.krates_closure.specs.Closure.{Derivable, IsDerivationOf}
 use Rattle.krates_closure.proofs.NeededLemmas.{step_within}
-use Rattle.krates_grounding.specs.FactModels.{fact_view}
-use Rattle.krates_grounding.specs.Meanings.{Follows}
-use Rattle.krates_grounding.specs.Numbers.{fact_cmp}
-use Rattle.krates_grounding.specs.Steps.{AreStepsTo, step_view}
+use Rattle.krates_build_facts.specs.FactModels.{fact_view}
+use Rattle.krates_build_facts.specs.Meanings.{Follows}
+use Rattle.krates_build_facts.specs.FactOrder.{fact_cmp}
+use Rattle.krates_build_facts.specs.Steps.{AreStepsTo, step_view}
 use Rattle.krates_grounding.proofs.DerivedFacts.{below, number_here, told_complete, told_none}
 use Rattle.krates_grounding.proofs.StepLemmas.{rows_derive}
 use Rattle.krates_grounding.proofs.derived.Derived.why.Goals as goal

@@ -1,6 +1,6 @@
 use Rattle.std.proofs.Common.{map, ap}
 use Rattle.std.proofs.lemmas.List.{map_more, take_all}
-use Rattle.krates_grounding.specs.FactModels.{fact_view}
+use Rattle.krates_build_facts.specs.FactModels.{fact_view}
 use Rattle.krates_grounding.proofs.WrittenRules.{none_numbered, one_numbered}
 use Rattle.krates_grounding.proofs.ground.Ground.numbers_of.Goals as goal
 

@@ -1,0 +1,6 @@
+pub mod FactModels
+pub mod FactOrder
+pub mod InitialRows
+pub mod Meanings
+pub mod Rows
+pub mod Steps
