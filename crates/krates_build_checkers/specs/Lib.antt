@@ -1,0 +1,4 @@
+pub mod Acceptance
+pub mod Closedness
+pub mod Finding
+pub mod GivenFacts
