@@ -1,185 +1,98 @@
-//! What a build of a small document derives.
+//! What a build of a small document derives, and the language in which a line asks for it.
+//!
+//! The first sections of a line are a document of `krates_samples`. Two more say what is built of it:
+//!
+//! - `targets`: the targets of packages, each package as `a:lib,bin`. A target is a kind, by the word that cargo has for it, and
+//!   `macro-example` is an example that is a procedural macro. Behind the kind there is `!` if the target has tests, as one of the kind `test`
+//!   always has, and `=` and the feature that it requires. The word `links` says that the package is for a native library.
+//! - `build`: the version of the resolver, and what is asked for: options of `cargo build` without `--`, each with `=` and its value. The host
+//!   is `linux`, of which rustc says `unix` here, and `target` may be `windows` too.
+//!
+//! The answer has features, units, and build scripts. A feature is `a/f`. A unit is a crate, the kind of its target, `!` if that is compiled
+//! with its tests, and what it is compiled for. A feature of the host's side is followed by `^`, and so is a build script that has features of
+//! that side.
 
+use krates_build_facts::{BuildFact, PlatformNumber, UnitPlace};
 use krates_build_tables::tables_of::tables_of;
 use krates_build_tables::{LinkPlace, Tables};
-use krates_cm::{Edition, Metadata, Target, TargetKind, WorkspaceDefaultMembers};
+use krates_cm::{
+    CrateType, Edition, Metadata, Package, Target, TargetKind, WorkspaceDefaultMembers,
+};
 use krates_document::admission::admit;
-use krates_grounding::{BuildFact, Derived, PlatformNumber, UnitPlace};
+use krates_grounding::Derived;
 use krates_ids::{Kid, PkgSpec};
 use krates_questions::Document;
 use krates_samples::documents;
-use krates_samples::table::{Row, Tell, hold};
+use krates_samples::table::Tell;
 use krates_text::text::Text;
 use krates_units::{BuildSetting, Machine, Mode, PackageSelection, Resolver, Side, TargetFlags};
 use std::alloc::{AllocError, Global};
 use std::test::Fail;
 
-/// A document, the targets of its packages, and what is asked for; and the units that are compiled, with the features of each side. A
-/// target is named by its kind, with `!` where it is compiled with its tests, and by what it is for; a feature of the host's side is
-/// followed by `^`, and so is a build script that has features of that side.
-pub(crate) const BUILT: &[Row] = &[
-    // what a program needs is for the machine that it is for (Cargo Book, "cargo build")
-    (
-        "a b|b / targets a:bin b:lib / build 2",
-        "a Bin@linux, b Lib@linux, ",
-    ),
-    (
-        "a b|b / targets a:bin b:lib / build 2 target=windows",
-        "a Bin@windows, b Lib@windows, ",
-    ),
-    // a build script and what it needs are the host's (Cargo Book, "Build Scripts")
-    (
-        "a b&build|b / targets a:bin,custom-build b:lib / build 2 target=windows",
-        "a Bin@windows, b Lib@host, a script, ",
-    ),
-    // without a build script nothing needs its dependencies
-    (
-        "a b&build|b / targets a:bin b:lib / build 2",
-        "a Bin@linux, ",
-    ),
-    // a procedural macro is the host's, and so is all below it (Rust Reference, "Procedural Macros")
-    (
-        "a m|m c|c / targets a:bin m:proc-macro c:lib / build 2 target=windows",
-        "a Bin@windows, c Lib@host, m ProcMacro@host, ",
-    ),
-    // a target text holds at the machine that the unit is for (Cargo Book, "Platform specific dependencies")
-    (
-        "a b&on=cfg(windows)|b / targets a:bin b:lib / build 2",
-        "a Bin@linux, ",
-    ),
-    (
-        "a b&on=cfg(windows)|b / targets a:bin b:lib / build 2 target=linux target=windows",
-        "a Bin@linux, a Bin@windows, b Lib@windows, ",
-    ),
-    // a machine that is asked for again is one all the same, and they come in the order in which they were asked for first
-    (
-        "a / targets a:bin / build 2 target=windows target=linux target=windows",
-        "a Bin@windows, a Bin@linux, ",
-    ),
-    // that of a build dependency at the host
-    (
-        "a b&build&on=cfg(windows)|b / targets a:bin,custom-build b:lib / build 2 target=windows",
-        "a Bin@windows, a script, ",
-    ),
-    // an optional dependency is built if it is turned on (Cargo Book, "Features", "Optional dependencies")
-    (
-        "a b?;x=dep:b|b / targets a:bin b:lib / build 2",
-        "a Bin@linux, ",
-    ),
-    (
-        "a b?;x=dep:b|b / targets a:bin b:lib / build 2 features=x",
-        "a/x, a Bin@linux, b Lib@linux, ",
-    ),
-    // with the feature of its name, where there is one, and the one that is named
-    (
-        "a b?;x=b/f b=dep:b|b;f= / targets a:bin b:lib / build 2 features=x",
-        "a/b, a/x, b/f, a Bin@linux, b Lib@linux, ",
-    ),
-    // a weak reference turns nothing on
-    (
-        "a b?;x=b?/f|b;f= / targets a:bin b:lib / build 2 features=x",
-        "a/x, a Bin@linux, ",
-    ),
-    // the later resolvers don't unite features of dev dependencies, nor of the host's side (Cargo Book, "Feature resolver version 2")
-    (
-        "a b b&dev&with=f|b;f= / nodes a b&normal&dev|b;f / targets a:bin b:lib / build 2",
-        "a Bin@linux, b Lib@linux, ",
-    ),
-    (
-        "a b b&dev&with=f|b;f= / nodes a b&normal&dev|b;f / targets a:bin b:lib / build 1",
-        "b/f, a Bin@linux, b Lib@linux, ",
-    ),
-    (
-        "a b b&build&with=f|b;f= / nodes a b&normal&build|b;f / targets a:bin,custom-build b:lib / build 2 target=windows",
-        "b/f^, a Bin@windows, b Lib@host, b Lib@windows, a script, ",
-    ),
-    (
-        "a b b&build&with=f|b;f= / nodes a b&normal&build|b;f / targets a:bin,custom-build b:lib / build 1 target=windows",
-        "b/f, a Bin@windows, b Lib@host, b Lib@windows, a script, ",
-    ),
-    // tests have dev dependencies, and run the programs of their package (Cargo Book, "Cargo Targets", "Integration tests")
-    (
-        "a b&dev|b / targets a:lib,bin,test b:lib / build 2 tests",
-        "a Lib@linux, a Bin@linux, a Test!@linux, b Lib@linux, ",
-    ),
-    // a program that requires a feature is built if it is enabled (Cargo Book, "The `required-features` field")
-    ("a;x= / targets a:lib,bin=x / build 2", "a Lib@linux, "),
-    (
-        "a;x= / targets a:lib,bin=x / build 2 features=x",
-        "a/x, a Lib@linux, a Bin@linux, ",
-    ),
-    (
-        "a b&with=f|b;f= / targets a:bin=b/f b:lib / build 2",
-        "b/f, a Bin@linux, b Lib@linux, ",
-    ),
-    // each member takes of what is asked for what it has, and no more
-    (
-        "a;x=|b;x= y= / members a b / targets a:lib b:lib / build 2 features=a/x,y",
-        "a/x, b/y, a Lib@linux, b Lib@linux, ",
-    ),
-    // only what is asked for is built
-    (
-        "a|b / members a b / targets a:lib b:lib / build 2 package=b",
-        "b Lib@linux, ",
-    ),
-    // what the document lacks is told
-    (
-        "a b|b / nodes a|b / targets a:bin b:lib / build 2",
-        "lost b of a, a Bin@linux, ",
-    ),
-    (
-        "a b?|b / nodes a|b / targets a:bin b:lib / build 2",
-        "a Bin@linux, ",
-    ),
-];
-
-/// What units need over the dependencies of their crates, and for what.
-const NEEDED: &[Row] = &[
-    (
-        "a b|b c|c / targets a:bin b:lib c:lib / build 2",
-        "a@linux>b@linux, b@linux>c@linux, ",
-    ),
-    (
-        "a m b&build|m c|c|b / targets a:bin,custom-build m:proc-macro c:lib b:lib / build 2 target=windows",
-        "a@windows>m@host, a@host>b@host, m@host>c@host, ",
-    ),
-];
-
 /// The kind of a target of this name.
 fn kind_named(name: &str) -> TargetKind {
     match name {
+        "bench" => TargetKind::Bench,
         "bin" => TargetKind::Bin,
+        "cdylib" => TargetKind::CDyLib,
         "custom-build" => TargetKind::CustomBuild,
+        "example" => TargetKind::Example,
+        "macro-example" => TargetKind::Example,
         "proc-macro" => TargetKind::ProcMacro,
         "test" => TargetKind::Test,
         _ => TargetKind::Lib,
     }
 }
 
-/// The target of a package of this name that a word says: its kind, and behind `=` the feature that it requires.
-fn target_of(alloc: Global, name: &str, word: &str) -> Result<Target, AllocError> {
-    let (kind, feature) = word.split_once('=').unwrap_or((word, ""));
-    let mut required_features = Vec::new(alloc);
-    if !feature.is_empty() {
-        required_features.push(String::from_str(alloc, feature)?)?;
+/// The forms of a target of this name, of which rules look at one alone.
+fn forms_named(alloc: Global, name: &str) -> Result<Vec<CrateType>, AllocError> {
+    let mut forms = Vec::new(alloc);
+    if name == "macro-example" {
+        forms.push(CrateType::ProcMacro)?;
     }
-    let kind = kind_named(kind);
+    Ok(forms)
+}
+
+/// The features that are required, which are one at most.
+fn features_named(alloc: Global, feature: &str) -> Result<Vec<String>, AllocError> {
+    let mut features = Vec::new(alloc);
+    if !feature.is_empty() {
+        features.push(String::from_str(alloc, feature)?)?;
+    }
+    Ok(features)
+}
+
+/// The target of a package of this name that a word says.
+fn target_of(alloc: Global, name: &str, word: &str) -> Result<Target, AllocError> {
+    let (word, feature) = word.split_once('=').unwrap_or((word, ""));
+    let kind_name = word.trim_end_matches('!');
+    let kind = kind_named(kind_name);
     let mut kinds = Vec::new(alloc);
     kinds.push(kind)?;
     Ok(Target {
         name: String::from_str(alloc, name)?,
         kind: kinds,
-        crate_types: Vec::new(alloc),
-        required_features,
+        crate_types: forms_named(alloc, kind_name)?,
+        required_features: features_named(alloc, feature)?,
         src_path: String::new(alloc),
         edition: Edition::E2021,
         doctest: false,
-        test: kind == TargetKind::Test,
+        test: kind == TargetKind::Test || word.ends_with('!'),
         doc: false,
     })
 }
 
-/// Adds the targets that words say to the package of this name.
+/// Adds what a word says to a package of this name: a target, or that it is for a native library.
+fn add_word(alloc: Global, pkg: &mut Package, name: &str, word: &str) -> Result<(), AllocError> {
+    if word == "links" {
+        pkg.links = Some(String::from_str(alloc, name)?);
+    } else {
+        pkg.targets.push(target_of(alloc, name, word)?)?;
+    }
+    Ok(())
+}
+
+/// Adds what words say to the package of this name.
 fn add_targets(
     alloc: Global,
     metadata: &mut Metadata,
@@ -189,7 +102,7 @@ fn add_targets(
     for pkg in metadata.packages.iter_mut() {
         if pkg.name.as_str() == name {
             for word in words.split(',') {
-                pkg.targets.push(target_of(alloc, name, word)?)?;
+                add_word(alloc, pkg, name, word)?;
             }
         }
     }
@@ -214,13 +127,25 @@ pub(crate) fn machine_of(alloc: Global, name: &str) -> Result<Machine, Fail> {
     Ok(Machine::from_rustc(alloc, name, printed)?)
 }
 
+/// Asks for the kind of targets that a word names, if it names one.
+fn ask_for(kinds: &mut TargetFlags, word: &str) {
+    match word {
+        "lib" => kinds.lib = true,
+        "bins" => kinds.bins = true,
+        "examples" => kinds.examples = true,
+        "tests" => kinds.tests = true,
+        "benches" => kinds.benches = true,
+        "all-targets" => kinds.all = true,
+        _ => {}
+    }
+}
+
 /// Reads a word of a build into its setting.
 fn read_word(alloc: Global, setting: &mut BuildSetting, word: &str) -> Result<(), Fail> {
     let (key, value) = word.split_once('=').unwrap_or((word, ""));
     match key {
         "1" => setting.resolver = Resolver::V1,
         "target" => setting.targets.push(machine_of(alloc, value)?)?,
-        "tests" => setting.kinds.tests = true,
         "all-features" => setting.all_features = true,
         "no-default-features" => setting.no_default_features = true,
         "features" => {
@@ -236,7 +161,7 @@ fn read_word(alloc: Global, setting: &mut BuildSetting, word: &str) -> Result<()
             }
             setting.selection = PackageSelection::Packages(specs);
         }
-        _ => {}
+        _ => ask_for(&mut setting.kinds, key),
     }
     Ok(())
 }
@@ -345,7 +270,7 @@ fn push_fact(told: &mut Text, of: Told<'_, '_>, fact: &BuildFact<'_>) {
 }
 
 /// Writes the name of what a link leads to.
-pub(crate) fn push_child(told: &mut Text, of: Told<'_, '_>, place: LinkPlace) {
+fn push_child(told: &mut Text, of: Told<'_, '_>, place: LinkPlace) {
     if let Some(entry) = of.tables.entry(place.krate) {
         if let Some(link) = entry.link(place.index) {
             told.push_str(name_of(of, link.child));
@@ -353,15 +278,33 @@ pub(crate) fn push_child(told: &mut Text, of: Told<'_, '_>, place: LinkPlace) {
     }
 }
 
+/// Writes a link by the crates at its ends, each with what it is compiled or run for.
+pub(crate) fn push_edge(
+    told: &mut Text,
+    of: Told<'_, '_>,
+    link: LinkPlace,
+    from: PlatformNumber,
+    to: PlatformNumber,
+) {
+    told.push_str(name_of(of, link.krate));
+    push_platform(told, of, from);
+    told.push_str(">");
+    push_child(told, of, link);
+    push_platform(told, of, to);
+    told.push_str(", ");
+}
+
 /// Writes a need.
 fn push_need(told: &mut Text, of: Told<'_, '_>, fact: &BuildFact<'_>) {
-    if let BuildFact::Needed(place, from, library) = *fact {
-        told.push_str(name_of(of, place.krate));
-        push_platform(told, of, from);
-        told.push_str(">");
-        push_child(told, of, place);
-        push_platform(told, of, library.placement.platform);
-        told.push_str(", ");
+    if let BuildFact::Needed(link, from, library) = *fact {
+        push_edge(told, of, link, from, library.placement.platform);
+    }
+}
+
+/// Writes a run of a build script that another one needs.
+fn push_run_need(told: &mut Text, of: Told<'_, '_>, fact: &BuildFact<'_>) {
+    if let BuildFact::RunNeeded(link, from, run) = *fact {
+        push_edge(told, of, link, from.platform, run.platform);
     }
 }
 
@@ -372,6 +315,8 @@ enum Shown {
     Units,
     /// What units need over dependencies.
     Needs,
+    /// The runs that runs of build scripts need.
+    RunNeeds,
 }
 
 /// Writes a fact, if rows show facts of its kind.
@@ -379,6 +324,7 @@ fn push_shown(told: &mut Text, of: Told<'_, '_>, fact: &BuildFact<'_>, shown: Sh
     match shown {
         Shown::Units => push_fact(told, of, fact),
         Shown::Needs => push_need(told, of, fact),
+        Shown::RunNeeds => push_run_need(told, of, fact),
     }
 }
 
@@ -417,8 +363,8 @@ fn push_built(told: &mut Text, line: &str, shown: Shown) -> Result<(), Fail> {
     Ok(())
 }
 
-/// Units of a line's build.
-struct Units;
+/// The units of a line's build, with the features of each side.
+pub(crate) struct Units;
 
 impl Tell for Units {
     fn tell(told: &mut Text, line: &str) -> Result<(), Fail> {
@@ -426,8 +372,8 @@ impl Tell for Units {
     }
 }
 
-/// What the units of a line's build need.
-struct Needs;
+/// What the units of a line's build need over the dependencies of their crates, and for what.
+pub(crate) struct Needs;
 
 impl Tell for Needs {
     fn tell(told: &mut Text, line: &str) -> Result<(), Fail> {
@@ -435,12 +381,11 @@ impl Tell for Needs {
     }
 }
 
-#[test]
-fn units_are_derived(rt: HostRuntime) -> Result<(), Fail> {
-    hold::<Units>(rt.alloc(), BUILT)
-}
+/// The runs that runs of build scripts of a line's build need, each for what.
+pub(crate) struct RunNeeds;
 
-#[test]
-fn needs_are_derived(rt: HostRuntime) -> Result<(), Fail> {
-    hold::<Needs>(rt.alloc(), NEEDED)
+impl Tell for RunNeeds {
+    fn tell(told: &mut Text, line: &str) -> Result<(), Fail> {
+        push_built(told, line, Shown::RunNeeds)
+    }
 }

@@ -4,8 +4,26 @@
 #[cfg(test)]
 mod builds;
 #[cfg(test)]
+mod checks;
+#[cfg(test)]
+mod differences;
+#[cfg(test)]
+mod linking;
+#[cfg(test)]
 mod lists;
+#[cfg(test)]
+mod requests;
+#[cfg(test)]
+mod resolvers;
+#[cfg(test)]
+mod runs;
+#[cfg(test)]
+mod sides;
 #[cfg(test)]
 mod tables;
 #[cfg(test)]
 mod unanswered;
+#[cfg(test)]
+mod units;
+#[cfg(test)]
+mod why;

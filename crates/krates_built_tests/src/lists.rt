@@ -1,7 +1,7 @@
 //! What cargo builds for a small document, list by list, or why it isn't said.
 
 use crate::builds::{
-    Told, document_of, name_of, push_child, push_platform, push_side, push_unit, setting_of,
+    Told, document_of, name_of, push_edge, push_platform, push_side, push_unit, setting_of,
 };
 use krates_built::{Units, units_of};
 use krates_document::admission::admit;
@@ -15,7 +15,11 @@ use std::test::Fail;
 const LISTS: &[Row] = &[
     (
         "a b&build c|b|c;f= / targets a:bin,custom-build b:lib c:lib / build 2 target=windows features=c/f",
-        "c/f, | a Bin@windows, b Lib@host, c Lib@windows, | a script, | a@windows, | a@host>b@host, a@windows>c@windows, ",
+        "c/f, | a Bin@windows, b Lib@host, c Lib@windows, | a script, | a@windows, | a@host>b@host, a@windows>c@windows, | ",
+    ),
+    (
+        "a b|b / targets a:bin,custom-build b:lib,custom-build,links / build 2",
+        "| a Bin@linux, b Lib@linux, | a script, b script, | a@linux, b@linux, | a@linux>b@linux, | a@linux>b@linux, ",
     ),
     // a request that names nothing is refused, as cargo does
     (
@@ -34,7 +38,7 @@ const LISTS: &[Row] = &[
     // a lost dependency that the build doesn't need is none
     (
         "a b?|b / nodes a|b / targets a:bin b:lib / build 2",
-        "| a Bin@linux, | | | ",
+        "| a Bin@linux, | | | | ",
     ),
     // one build script, with the dependencies of the side that cargo meets first (tried: it depends on the name of the member `o`)
     (
@@ -44,7 +48,7 @@ const LISTS: &[Row] = &[
     // with one set of features there is one answer
     (
         "o p&build|p a?&build;on=dep:a|a;x= / members o p / targets o:lib,custom-build p:lib,custom-build a:lib / build 1 features=a/x",
-        "a/x, | a Lib@host, o Lib@linux, p Lib@host, p Lib@linux, | o script, p script, p script^, | o@linux, p@host, p@linux, | o@host>p@host, p@host>a@host, ",
+        "a/x, | a Lib@host, o Lib@linux, p Lib@host, p Lib@linux, | o script, p script, p script^, | o@linux, p@host, p@linux, | o@host>p@host, p@host>a@host, | ",
     ),
 ];
 
@@ -80,7 +84,7 @@ fn push_compiled(told: &mut Text, of: Told<'_, '_>, built: &Units<'_>) {
     push_bar(told);
 }
 
-/// Writes the runs and the needs.
+/// Writes the runs, the needs, and the runs that runs need.
 fn push_edges(told: &mut Text, of: Told<'_, '_>, built: &Units<'_>) {
     for run in built.runs() {
         told.push_str(name_of(of, run.krate));
@@ -89,12 +93,17 @@ fn push_edges(told: &mut Text, of: Told<'_, '_>, built: &Units<'_>) {
     }
     push_bar(told);
     for need in built.needs() {
-        told.push_str(name_of(of, need.link.krate));
-        push_platform(told, of, need.from);
-        told.push_str(">");
-        push_child(told, of, need.link);
-        push_platform(told, of, need.library.placement.platform);
-        told.push_str(", ");
+        push_edge(
+            told,
+            of,
+            need.link,
+            need.from,
+            need.library.placement.platform,
+        );
+    }
+    push_bar(told);
+    for need in built.run_needs() {
+        push_edge(told, of, need.link, need.from.platform, need.run.platform);
     }
 }
 

@@ -1,0 +1,90 @@
+//! Where cargo builds something else than what the resolved graph alone keeps, which has no sides, no resolver and no request.
+
+use crate::builds::Units;
+use krates_samples::table::{Row, hold};
+use std::test::Fail;
+
+/// A document and what is asked for, and what is compiled, as in `builds`: a feature that only a dev dependency asks for counts by the first
+/// resolver, and so a crate is built that it turns on.
+const FIRST_RESOLVER: &[Row] = &[
+    (
+        "a b b&dev&with=f|b c?;f=dep:c|c / nodes a b&normal&dev|b c;f|c / targets a:bin b:lib c:lib / build 1",
+        "b/f, a Bin@linux, b Lib@linux, c Lib@linux, ",
+    ),
+    (
+        "a b b&dev&with=f|b c?;f=dep:c|c / nodes a b&normal&dev|b c;f|c / targets a:bin b:lib c:lib / build 2",
+        "a Bin@linux, b Lib@linux, ",
+    ),
+];
+
+/// The same: what the host alone needs isn't part of what is built for another machine.
+const OTHER_MACHINE: &[Row] = &[
+    (
+        "a b&build c&on=cfg(unix)|b|c / targets a:bin,custom-build b:lib c:lib / build 2 target=windows",
+        "a Bin@windows, b Lib@host, a script, ",
+    ),
+    (
+        "a b&build c&on=cfg(unix)|b c&on=cfg(unix)|c / targets a:bin,custom-build b:lib c:lib / build 2 target=windows",
+        "a Bin@windows, b Lib@host, c Lib@host, a script, ",
+    ),
+];
+
+/// The same: build dependencies are those of the host, whatever is built for.
+const BUILD_DEPENDENCIES: &[Row] = &[
+    (
+        "a b&build&on=cfg(unix) c&build&on=cfg(windows)|b|c / targets a:bin,custom-build b:lib c:lib / build 2 target=windows",
+        "a Bin@windows, b Lib@host, a script, ",
+    ),
+    (
+        "a b|b c&build&on=cfg(windows)|c / targets a:bin b:lib,custom-build c:lib / build 2 target=windows",
+        "a Bin@windows, b Lib@windows, b script, ",
+    ),
+];
+
+/// The same: an optional dependency that a feature of it turns on gives the feature of its name.
+const FEATURE_OF_THE_NAME: &[Row] = &[(
+    "a b?;std=b/std b=dep:b|b;std= / targets a:lib b:lib / build 2 features=std",
+    "a/b, a/std, b/std, a Lib@linux, b Lib@linux, ",
+)];
+
+/// The same: in the folder of a member, and where it alone is asked for, it lacks the features that only other members turn on, though its
+/// node lists them.
+const MEMBER_ALONE: &[Row] = &[
+    (
+        "a c?;f=dep:c|b a&with=f|c / nodes a c;f|b a|c / members a b / root a / targets a:lib b:lib c:lib / build 1",
+        "a Lib@linux, ",
+    ),
+    (
+        "a c?;f=dep:c|b a&with=f|c / nodes a c;f|b a|c / members a b / targets a:lib b:lib c:lib / build 2 package=a",
+        "a Lib@linux, ",
+    ),
+    (
+        "a c?;f=dep:c|b a&with=f|c / nodes a c;f|b a|c / members a b / targets a:lib b:lib c:lib / build 2",
+        "a/f, a Lib@linux, b Lib@linux, c Lib@linux, ",
+    ),
+];
+
+#[test]
+fn the_first_resolver_counts_dev_dependencies(rt: HostRuntime) -> Result<(), Fail> {
+    hold::<Units>(rt.alloc(), FIRST_RESOLVER)
+}
+
+#[test]
+fn another_machine_needs_nothing_of_the_host(rt: HostRuntime) -> Result<(), Fail> {
+    hold::<Units>(rt.alloc(), OTHER_MACHINE)
+}
+
+#[test]
+fn build_dependencies_are_the_hosts(rt: HostRuntime) -> Result<(), Fail> {
+    hold::<Units>(rt.alloc(), BUILD_DEPENDENCIES)
+}
+
+#[test]
+fn optional_dependencies_give_their_feature(rt: HostRuntime) -> Result<(), Fail> {
+    hold::<Units>(rt.alloc(), FEATURE_OF_THE_NAME)
+}
+
+#[test]
+fn members_lack_features_of_others(rt: HostRuntime) -> Result<(), Fail> {
+    hold::<Units>(rt.alloc(), MEMBER_ALONE)
+}
