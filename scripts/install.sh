@@ -6,7 +6,7 @@
 #     FOLDER     where they are put: cargo's own folder, ~/.cargo/bin, if none is given
 #     --proved   the proved ones that a gate or `rt run` left in this folder; if there are none, they are proved first, in an hour or more
 #
-# Without --proved they are compiled from the sources that the gate proves, and optimised, in three to four minutes. Nothing is proved then, and
+# Without --proved they are compiled from the sources that the gate proves, and optimised, in three minutes. Nothing is proved then, and
 # `cargo krates --version` says so. Nothing but the programs is left behind. It wants `rt`, the command of the Rattle toolchain.
 #
 # The status is 0 where all three are installed; otherwise none is, and it is 2 where a word is wrong or something is missing, else 1.
@@ -59,7 +59,7 @@ compile_together() {
 
 # Compiles the programs. krates-list has least below it: it is done while the others are read, which keeps a second processor from waiting.
 compile_all() {
-    step "compiling ${programs[*]} side by side, unproved, which takes three to four minutes"
+    step "compiling ${programs[*]} side by side, unproved, which takes three minutes"
     begin compile_together cargo-krates krates_check
     begin compile_together krates-list
     end 0
