@@ -10,10 +10,10 @@ use Rattle.krates_build_facts.specs.FactOrder.{fact_cmp}
 use Rattle.krates_build_facts.specs.declared.facts.BuildFact.{BuildFact}
 use Rattle.krates_build_facts.specs.FactModels.{RuleModel, fact_view}
 use Rattle.krates_build_facts.specs.Meanings.{EachHasMeaning, IsRow}
-use Rattle.krates_build_facts.specs.Steps.{AreSteps, MayComeNext, StepsAreSound, given_in, step_view}
+use Rattle.krates_build_facts.specs.Steps.{AreSteps, MayComeNext, StepsAreRules, StepsAreSound, given_in, step_view}
 use Rattle.krates_build_facts.specs.declared.steps.BuildStep.{BuildStep}
 use Rattle.krates_build_checkers.proofs.GivenSets.{all_members, given_told}
-use Rattle.krates_build_checkers.specs.Acceptance.{AcceptedFollows, AcceptedIsDerivable, FailsFirst}
+use Rattle.krates_build_checkers.specs.Acceptance.{AcceptedAreRules, AcceptedFollows, AcceptedIsDerivable, FailsFirst}
 
 -- ---- the steps so far
 
@@ -92,3 +92,6 @@ accepted_follows sound t steps accepted f given = sound t steps accepted.each f 
 pub accepted_is_derivable : StepsAreSound → EachHasMeaning → AcceptedIsDerivable
 accepted_is_derivable sound meaning r s ids ms t tables steps accepted number given =
     meaning r s ids ms t tables number (sound t steps accepted.each number given)
+
+pub accepted_are_rules : StepsAreRules → AcceptedAreRules
+accepted_are_rules rules r s ids ms t tables steps accepted step among = rules r s ids ms t tables steps accepted.each step among

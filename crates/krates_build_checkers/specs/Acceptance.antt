@@ -10,7 +10,7 @@ use Rattle.krates_build_tables.specs.TablesOf.{AreTables}
 use Rattle.krates_build_tables.specs.declared.tables.Tables.{Tables}
 use Rattle.krates_build_facts.specs.FactModels.{FactModel, RuleModel}
 use Rattle.krates_build_facts.specs.Meanings.{Follows, Means}
-use Rattle.krates_build_facts.specs.Steps.{AreSteps, MayComeNext, given_in}
+use Rattle.krates_build_facts.specs.Steps.{AreSteps, MayComeNext, MeansRule, given_in}
 use Rattle.krates_build_checkers.specs.declared.build_check_error.BuildCheckError.{BuildCheckError}
 use Rattle.krates_build_checkers.specs.declared.build_check_error.BuildCheckError.TheVariants as refusals
 
@@ -42,3 +42,8 @@ abbrev pub AcceptedIsDerivable : Type 0
 AcceptedIsDerivable = (r : Resolved) (s : BuildSettingModel) (ids : List Id) (ms : List MachineModel) (t : Tables) → AreTables r s ids ms t
     → (steps : List RuleModel) → AreAccepted t steps → (number : FactModel) → Contains (given_in steps) number
     → (f : Fact) × Means r s ids ms t number f × IsDerivable r s f
+
+-- each step that is accepted for the tables of a document and a build means one rule
+abbrev pub AcceptedAreRules : Type 0
+AcceptedAreRules = (r : Resolved) (s : BuildSettingModel) (ids : List Id) (ms : List MachineModel) (t : Tables) → AreTables r s ids ms t
+    → (steps : List RuleModel) → AreAccepted t steps → (step : RuleModel) → Contains steps step → MeansRule r s ids ms t step

@@ -14,8 +14,8 @@ use std::alloc::Global;
 use std::collections::BTreeSet;
 
 /// Checks a list of steps for the tables of a document and a build: there is a step, and each follows by an instance of a rule that the
-/// tables have, from facts that the steps before it give, and gives a fact that they don't. So what each step gives follows
-/// (`laws::accepted_lists`).
+/// tables have, from facts that the steps before it give, and gives a fact that they don't. So what each step gives follows, and each step
+/// is one rule (`laws::accepted_lists`).
 ///
 /// It is refused as `Empty` or `Step`, which names the first step that may not come next. It may instead return `Memory`.
 ///

@@ -9,13 +9,12 @@ use Rattle.krates_rules.specs.Facts.{Id}
 use Rattle.krates_rules.specs.Resolved.{Resolved}
 use Rattle.krates_rules.proofs.OnlyOne.{place_in}
 use Rattle.krates_rules.proofs.Standings.{contains_at}
-use Rattle.krates_units.specs.BuildFacts.{CompiledUnit, Placement, machine}
+use Rattle.krates_units.specs.BuildFacts.{CompiledUnit, Fact, Placement, machine}
 use Rattle.krates_units.specs.BuildFacts as means
-use Rattle.krates_units.specs.BuildRules.{IsAsked, machine_placement, unit}
+use Rattle.krates_units.specs.BuildRules.{IsAsked, Rule, machine_placement, unit}
 use Rattle.krates_units.specs.BuildRules as rules
 use Rattle.krates_units.specs.BuildSetting.{BuildSettingModel}
 use Rattle.krates_units.specs.BuildTargets.{AsksFor, IsLibrary}
-use Rattle.krates_units.specs.Built.{IsDerivable, follows}
 use Rattle.krates_units.specs.Machines.{MachineModel}
 use Rattle.krates_units.specs.declared.kinds.Mode.{Mode}
 use Rattle.krates_units.specs.declared.kinds.Mode.TheVariants as modes
@@ -25,15 +24,16 @@ use Rattle.krates_build_tables.specs.declared.tables.Tables.{Tables}
 use Rattle.krates_build_tables.specs.declared.tables.TargetEntry.{TargetEntry}
 use Rattle.krates_build_facts.specs.FactModels.{RuleModel, Compiled}
 use Rattle.krates_build_facts.specs.InitialRows.{asked_for_machine, asked_in, asked_requires, asked_rows, initial_in, initial_rows, machine_count, machine_place, root_rows}
-use Rattle.krates_build_facts.specs.Meanings.{Follows, PlacementMeans}
+use Rattle.krates_build_facts.specs.Meanings.{AreMeant, Follows, PlacementMeans}
 use Rattle.krates_build_facts.specs.Rows.{goes_to, requires, rule}
 use Rattle.krates_build_facts.specs.declared.facts.UnitPlace.{UnitPlace}
-use Rattle.krates_build_facts.proofs.Claims.{AreSound, HasNumbers, IsCovered, IsSound, MeansDerivable}
+use Rattle.krates_build_facts.proofs.Claims.{AreSound, HasNumbers, IsCovered, IsSound}
 use Rattle.krates_build_facts.proofs.CoverRows.{by_initial, numbers}
 use Rattle.krates_build_facts.proofs.Placements.{goes_number, goes_somewhere}
-use Rattle.krates_build_facts.proofs.Requirements.{requires_derived, requires_follow}
+use Rattle.krates_build_facts.proofs.Requirements.{requires_follow, requires_meant}
 use Rattle.krates_build_facts.proofs.RootRows.{root_rows_sound}
-use Rattle.krates_build_facts.proofs.RowLists.{Each, each_unless, here, in_flat_at, in_if, in_unless, in_where, none_premise, rows_append, rows_flat, rows_if, rows_unless, rows_where, there}
+use Rattle.krates_build_facts.proofs.RowLists.{Each, each_unless, here, in_flat_at, in_if, in_unless, in_where, rows_append, rows_flat, rows_if, rows_unless, rows_where, there}
+use Rattle.krates_build_facts.proofs.SoundRows.{gives}
 use Rattle.krates_build_facts.proofs.TableEntries.{beside, crate_of, entry_of, machine_count_is}
 use Rattle.krates_build_facts.proofs.TargetEntries.{UnitHere, target_at, target_of, unit_here, unit_means_there, unit_same}
 use Rattle.krates_build_facts.proofs.Tests.{untrue}
@@ -77,24 +77,29 @@ among_modes s x m modes.Test k says asks =
 
 module _ (r : Resolved) (s : BuildSettingModel) (ids : List Id) (ms : List MachineModel) (t : Tables)
     (tables : AreTables r s ids ms t) where
-  -- ---- what is asked for is so by the rules
+  -- ---- the rows are rules
 
-  asked_derivable : (c : ℕ) (i : Id) (x : TargetEntry) (u : CompiledUnit) (b : Bool) → x.is_library ≡ b → x.place.krate ≡ c
+  -- by the rule for libraries, or by that for other targets
+  asked_by : (c : ℕ) (i : Id) (x : TargetEntry) (u : CompiledUnit) (b : Bool) → x.is_library ≡ b → x.place.krate ≡ c
       → CrateAt ids c i → u.krate ≡ i → TargetSays s x u.target → IsAsked r s u
-      → Each (MeansDerivable r s ids ms t) (asked_requires x) → IsDerivable r s (means.Compiled u)
-  asked_derivable c i x u true is number crate of says asked each =
-      follows (rules.asked_library asked (says.library.0 is)) (none_premise (IsDerivable r s))
-  asked_derivable c i x u false is number crate of says asked each =
-      let uses : Each (MeansDerivable r s ids ms t) (requires x) =
-      subst (λ b. Each (MeansDerivable r s ids ms t) (if b then [] else requires x)) is each in
-      follows (rules.asked asked (λ library. absurd (let yes : x.is_library ≡ true = says.library.1 library in cc)))
-      (requires_derived r s ids ms t c u.krate x u.target number (subst (CrateAt ids c) (sym of) crate) says uses)
+      → (premises : List Fact) × Rule r s premises (means.Compiled u) × AreMeant r s ids ms t (asked_requires x) premises
+  asked_by c i x u true is number crate of says asked =
+      let none : asked_requires x ≡ [] = ap (λ (b : Bool). if b then [] else requires x) is in
+      ([], rules.asked_library asked (says.library.0 is), subst (λ ns. AreMeant r s ids ms t ns []) (sym none) tt)
+  asked_by c i x u false is number crate of says asked =
+      let all : asked_requires x ≡ requires x = ap (λ (b : Bool). if b then [] else requires x) is in
+      let premises = rules.requires u.krate u.target in (
+        premises,
+        rules.asked asked (λ library. absurd (let yes : x.is_library ≡ true = says.library.1 library in cc)),
+        subst (λ ns. AreMeant r s ids ms t ns premises) (sym all)
+            (requires_meant r s ids ms t c u.krate x u.target number (subst (CrateAt ids c) (sym of) crate) says),
+      )
 
   asked_sound : (c j k : ℕ) (e : CrateEntry) (x : TargetEntry) (mode : Mode) → slice_get t.crates.items c ≡ Some e
       → slice_get e.targets.items j ≡ Some x → e.is_selected ≡ true → x.is_script ≡ false
       → Contains (range_with_len 0 (machine_count t)) k → ((m : TargetModel) → TargetSays s x m → AsksFor s.kinds m mode)
       → IsSound r s ids ms t (asked_requires x) (Compiled (asked_unit x mode k))
-  asked_sound c j k e x mode entry at selected no_script number asks each =
+  asked_sound c j k e x mode entry at selected no_script number asks =
       let crate = crate_of r s ids ms t tables c e entry in
       let i = crate.0 in
       let target = target_of r s ids ms t tables c j i e x crate.1 at in
@@ -112,17 +117,10 @@ module _ (r : Resolved) (s : BuildSettingModel) (ids : List Id) (ms : List Machi
         among = (tables.machines_are machine_at.0).1 (contains_at ms k machine_at.0 machine_at.1);
         goes = goes.1;
       } in
-      record {
-        fact = means.Compiled u;
-        means = (
-          u,
-          unit_means_there r s ids ms t tables c (record { krate = c; index = j }) i e x m mode
-              (goes_to x (machine_place k)) goes.0 refl crate.1 target.1 goes.2,
-          refl,
-        );
-        derivable = asked_derivable c i x u x.is_library refl (ap
-            (λ w. w.krate) target.1.place_is) crate.1.crate_at refl target.1.says asked each;
-      }
+      let unit_is = unit_means_there r s ids ms t tables c (record { krate = c; index = j }) i e x m mode (goes_to x (machine_place k)) goes.0
+      refl crate.1 target.1 goes.2 in
+      let by = asked_by c i x u x.is_library refl (ap (λ w. w.krate) target.1.place_is) crate.1.crate_at refl target.1.says asked in
+      gives r s ids ms t (asked_requires x) (Compiled (asked_unit x mode k)) (means.Compiled u) by.0 (u, unit_is, refl) by.1 by.2
 
   targets_sound : (c : ℕ) (e : CrateEntry) → slice_get t.crates.items c ≡ Some e → e.is_selected ≡ true
       → AreSound r s ids ms t (flat_map (asked_rows (machine_count t)) e.targets.items)

@@ -8,7 +8,6 @@ use Rattle.krates_rules.specs.Resolved.{Resolved}
 use Rattle.krates_units.specs.BuildFacts as means
 use Rattle.krates_units.specs.BuildRules as rules
 use Rattle.krates_units.specs.BuildSetting.{BuildSettingModel}
-use Rattle.krates_units.specs.Built.{IsDerivable}
 use Rattle.krates_units.specs.Machines.{MachineModel}
 use Rattle.krates_units.specs.Sides.{LooksOn}
 use Rattle.krates_units.specs.declared.sides.Side.{Side}
@@ -20,11 +19,11 @@ use Rattle.krates_build_tables.specs.declared.tables.Tables.{Tables}
 use Rattle.krates_build_facts.specs.FactModels.{ActivatedFeature, Available, Linked}
 use Rattle.krates_build_facts.specs.Meanings.{Follows}
 use Rattle.krates_build_facts.specs.Rows.{feature_behind, rows_of, rule}
-use Rattle.krates_build_facts.proofs.Claims.{AreSound, HasNumbers, IsCovered, IsSound, MeansDerivable}
+use Rattle.krates_build_facts.proofs.Claims.{AreSound, HasNumbers, IsCovered, IsSound}
 use Rattle.krates_build_facts.proofs.CoverRows.{by_rows, in_alone, in_link, linked_at, linked_here, numbers}
 use Rattle.krates_build_facts.proofs.FactNumbers.{of_number}
-use Rattle.krates_build_facts.proofs.RowLists.{each_one, each_two, first_of, here, in_some, one_premise, rows_none, rows_one, rows_some}
-use Rattle.krates_build_facts.proofs.SoundRows.{by_two, gives, sound_rows}
+use Rattle.krates_build_facts.proofs.RowLists.{each_one, each_two, here, in_some, rows_none, rows_one, rows_some}
+use Rattle.krates_build_facts.proofs.SoundRows.{by_first, gives, sound_rows}
 use Rattle.krates_build_facts.proofs.TableEntries.{LinkHere, LinkOf}
 
 -- ---- what follows a name
@@ -55,24 +54,26 @@ name_before (x ∷ name) (y ∷ text) f is =
 
 module _ (r : Resolved) (s : BuildSettingModel) (ids : List Id) (ms : List MachineModel) (t : Tables)
     (tables : AreTables r s ids ms t) where
-  -- ---- what is available is so by the rules
+  -- ---- the rows are rules
 
   itself : (c : ℕ) (text : Text) → IsSound r s ids ms t (ActivatedFeature c sides.Targets text ∷ []) (Available c text)
-  itself c text each =
-      let is = first_of (MeansDerivable r s ids ms t) (ActivatedFeature c sides.Targets text) [] each in
-      gives r s ids ms t (Available c text) (means.Available is.means.0 text) _ (is.means.0, is.means.1, refl) rules.available
-      (one_premise (IsDerivable r s) _ (subst (IsDerivable r s) is.means.2 is.derivable))
+  itself c text =
+      let first = ActivatedFeature c sides.Targets text in
+      by_first r s ids ms t first [] (Available c text) (λ f is.
+      gives r s ids ms t (first ∷ []) (Available c text) (means.Available is.0 text) (means.ActivatedFeature is.0 sides.Targets text ∷ [])
+      (is.0, is.1, refl) rules.available ((is.0, is.1, refl), tt))
 
   below : (c : ℕ) (text f : Text) (l : Link) (e : Edge) (d : DependencyModel) → LinkOf r s ids ms t c l e d
       → feature_behind l.name.now text ≡ Some f
       → IsSound r s ids ms t (Linked l.place ∷ ActivatedFeature l.child l.looks_on f ∷ []) (Available c text)
-  below c text f l e d link behind each =
+  below c text f l e d link behind =
       let text_is : text ≡ declared_name d ++ codes "/" ++ f =
       name_before l.name.now text f behind ∙ ap (λ name. name ++ (47 ∷ f)) link.says.name ∙ sym (slash_is (declared_name d) f) in
-      gives r s ids ms t (Available c text) (means.Available e.parent (declared_name d ++ codes "/" ++ f)) _
-      (e.parent, link.parent_at, ap (means.Available e.parent) (sym text_is)) (rules.available_below ((link.says.looks l.looks_on).1 refl))
-      (by_two r s ids ms t (Linked l.place) (ActivatedFeature l.child l.looks_on f) (means.Linked e d)
-      (means.ActivatedFeature e.child l.looks_on f) (e, d, link.means, refl) (e.child, link.says.child, refl) each)
+      gives r s ids ms t (Linked l.place ∷ ActivatedFeature l.child l.looks_on f ∷ []) (Available c text)
+      (means.Available e.parent (declared_name d ++ codes "/" ++ f)) _
+      (e.parent, link.parent_at, ap (means.Available e.parent) (sym text_is))
+      (rules.available_below {d = d} ((link.says.looks l.looks_on).1 refl))
+      ((e, d, link.means, refl), ((e.child, link.says.child, refl), tt))
 
   pub sound_available : (c : ℕ) (text : Text) → AreSound r s ids ms t (rows_of t (Available c text))
   sound_available c text =

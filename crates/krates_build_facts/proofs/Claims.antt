@@ -1,15 +1,16 @@
--- What is shown of facts and of rows: that each number of what is derivable follows, and that what follows is derivable.
+-- What is shown of facts and of rows: that each number of what is derivable follows, and that each row is a rule.
 use Rattle.std.proofs.Common.{List}
 use Rattle.krates_rules.specs.Facts.{Id}
 use Rattle.krates_rules.specs.Resolved.{Resolved}
 use Rattle.krates_units.specs.BuildFacts.{Fact}
+use Rattle.krates_units.specs.BuildRules.{Rule}
 use Rattle.krates_units.specs.BuildSetting.{BuildSettingModel}
 use Rattle.krates_units.specs.Built.{IsDerivable, IsPremise}
 use Rattle.krates_units.specs.Machines.{MachineModel}
 use Rattle.krates_build_tables.specs.declared.tables.Tables.{Tables}
 use Rattle.krates_build_facts.specs.FactModels.{FactModel, RuleModel}
-use Rattle.krates_build_facts.specs.Meanings.{Follows, Means}
-use Rattle.krates_build_facts.proofs.RowLists.{Each, EachRow}
+use Rattle.krates_build_facts.specs.Meanings.{AreMeant, Follows, Means}
+use Rattle.krates_build_facts.proofs.RowLists.{EachRow}
 
 -- ---- what follows is derivable
 
@@ -20,11 +21,11 @@ pub record MeansDerivable (r : Resolved) (s : BuildSettingModel) (ids : List Id)
   pub means : Means r s ids ms t number fact
   pub derivable : IsDerivable r s fact
 
--- what follows by this row is derivable
+-- the row is a rule, whatever facts its premises mean
 abbrev pub IsSound : Resolved → BuildSettingModel → List Id → List MachineModel → Tables → List FactModel → FactModel → Type 0
-IsSound r s ids ms t ps n = Each (MeansDerivable r s ids ms t) ps → MeansDerivable r s ids ms t n
+IsSound r s ids ms t ps n = (fs : List Fact) → AreMeant r s ids ms t ps fs → (f : Fact) × Means r s ids ms t n f × Rule r s fs f
 
--- what follows by these rows is derivable
+-- each of these rows is a rule
 abbrev pub AreSound : Resolved → BuildSettingModel → List Id → List MachineModel → Tables → List RuleModel → Type 0
 AreSound r s ids ms t rows = EachRow (IsSound r s ids ms t) rows
 

@@ -1,7 +1,8 @@
 -- The order of facts: two compare as equal exactly where they are the same.
-use Rattle.std.proofs.Common.{◌≡◌, ◌↔◌, ℕ, Equal, Ordering, refl, subst}
+use Rattle.std.proofs.Common.{◌≡◌, ◌↔◌, ◌==◌, ℕ, Bool, true, false, Less, Equal, Greater, Ordering, ap, eq-eqb, refl, subst}
 use Rattle.std.proofs.lemmas.Cmp.{tied_itself, nat_cmp_total}
 use Rattle.std.proofs.lemmas.Map.Lookups.{exact_unsigned}
+use Rattle.std.specs.Bool.{⊤}
 use Rattle.std.specs.Ordering.{nat_cmp, ordering_then}
 use Rattle.krates_rules.proofs.KeyOrder.{equal_then, text_tells, then_equal}
 use Rattle.krates_build_tables.specs.References.{reference_view}
@@ -12,7 +13,7 @@ use Rattle.krates_build_tables.specs.declared.reference.FeatureReference.{Featur
 use Rattle.krates_build_tables.specs.declared.reference.FeatureReference.TheVariants as references
 use Rattle.krates_build_tables.specs.declared.tables.LinkPlace.{LinkPlace}
 use Rattle.krates_build_tables.specs.declared.tables.TargetPlace.{TargetPlace}
-use Rattle.krates_build_facts.specs.FactModels.{fact_view}
+use Rattle.krates_build_facts.specs.FactModels.{FactModel, Met, LinkedReference, LinkedFeature, LinkedName, Linked, Lost, Activated, ActivatedReference, ActivatedFeature, ActivatedName, Used, Available, Compiled, Needed, ScriptRun, ScriptCompiled, RunNeeded, fact_view}
 use Rattle.krates_build_facts.specs.FactOrder.{fact_cmp}
 use Rattle.krates_build_facts.specs.contracts.facts.PlacementNumberOrd.TheImpl as placement_order
 use Rattle.krates_build_facts.specs.contracts.facts.PlatformNumberOrd.TheImpl as platform_order
@@ -118,6 +119,53 @@ reference_tells (references.Simple x) (references.Weak v w) = (λ h. absurd cc, 
 reference_tells (references.Simple x) (references.Strong v w) = (λ h. absurd cc, λ e. absurd cc)
 reference_tells (references.Simple x) (references.Simple v) = let n = text_tells x.now v.now in (λ h. rw (n.0 h) refl, λ e. n.1 cc)
 
+-- ---- facts of two kinds
+
+-- the answer isn't that they are equal
+abbrev IsApart : Ordering → Type 0
+IsApart Less = ⊤
+IsApart Equal = ⊥
+IsApart Greater = ⊤
+
+-- the number of the kind of a fact
+abbrev kind : FactModel → ℕ
+kind (Met c m) = 0
+kind (LinkedReference c m v) = 1
+kind (LinkedFeature c m f) = 2
+kind (LinkedName c m d) = 3
+kind (Linked place) = 4
+kind (Lost c index) = 5
+kind (Activated c n) = 6
+kind (ActivatedReference c n v) = 7
+kind (ActivatedFeature c n f) = 8
+kind (ActivatedName c n d) = 9
+kind (Used place n) = 10
+kind (Available c text) = 11
+kind (Compiled u) = 12
+kind (Needed place from u) = 13
+kind (ScriptRun c at) = 14
+kind (ScriptCompiled c n) = 15
+kind (RunNeeded place from run) = 16
+
+-- a test says no
+abbrev IsNo : Bool → Type 0
+IsNo true = ⊥
+IsNo false = ⊤
+
+apart : (o : Ordering) → IsApart o → o ≡ Equal → ⊥
+apart o is e = subst IsApart e is
+
+no_number : (n m : ℕ) → IsNo (n == m) → n ≡ m → ⊥
+no_number n m unlike e = subst IsNo (eq-eqb n m e) unlike
+
+-- two facts that don't compare as equal, and whose kinds have two numbers
+differ : (a b : BuildFact) → IsApart (fact_cmp a b) → IsNo (kind (fact_view a) == kind (fact_view b))
+    → (fact_cmp a b ≡ Equal) ↔ (fact_view a ≡ fact_view b)
+differ a b apart_is unlike = (
+  λ h. absurd (apart (fact_cmp a b) apart_is h),
+  λ e. absurd (no_number (kind (fact_view a)) (kind (fact_view b)) unlike (ap kind e)),
+)
+
 -- ---- facts
 
 -- facts compare as equal exactly where they are the same
@@ -126,7 +174,7 @@ fact_tells (facts.Met a b) (facts.Met x y) =
     let t0 = number_tells a x in
     let t1 = meeting_tells b y in
     (λ h. (let u = then_equal _ _ h in rw (t0.0 u.0, t1.0 u.1) refl), λ e. equal_then _ _ (t0.1 cc) (t1.1 cc))
-fact_tells (facts.Met a b) other = (λ h. absurd cc, λ e. absurd cc)
+fact_tells (facts.Met a b) other = differ (facts.Met a b) other tt tt
 fact_tells (facts.LinkedReference a b c) (facts.LinkedReference x y z) =
     let t0 = number_tells a x in
     let t1 = meeting_tells b y in
@@ -137,7 +185,7 @@ fact_tells (facts.LinkedReference a b c) (facts.LinkedReference x y z) =
           rw (t0.0 u.0, t1.0 v.0, t2.0 v.1) refl),
       λ e. equal_then _ _ (t0.1 cc) (equal_then _ _ (t1.1 cc) (t2.1 cc)),
     )
-fact_tells (facts.LinkedReference a b c) other = (λ h. absurd cc, λ e. absurd cc)
+fact_tells (facts.LinkedReference a b c) other = differ (facts.LinkedReference a b c) other tt tt
 fact_tells (facts.LinkedFeature a b c) (facts.LinkedFeature x y z) =
     let t0 = number_tells a x in
     let t1 = meeting_tells b y in
@@ -148,7 +196,7 @@ fact_tells (facts.LinkedFeature a b c) (facts.LinkedFeature x y z) =
           rw (t0.0 u.0, t1.0 v.0, t2.0 v.1) refl),
       λ e. equal_then _ _ (t0.1 cc) (equal_then _ _ (t1.1 cc) (t2.1 cc)),
     )
-fact_tells (facts.LinkedFeature a b c) other = (λ h. absurd cc, λ e. absurd cc)
+fact_tells (facts.LinkedFeature a b c) other = differ (facts.LinkedFeature a b c) other tt tt
 fact_tells (facts.LinkedName a b c) (facts.LinkedName x y z) =
     let t0 = number_tells a x in
     let t1 = meeting_tells b y in
@@ -159,21 +207,21 @@ fact_tells (facts.LinkedName a b c) (facts.LinkedName x y z) =
           rw (t0.0 u.0, t1.0 v.0, t2.0 v.1) refl),
       λ e. equal_then _ _ (t0.1 cc) (equal_then _ _ (t1.1 cc) (t2.1 cc)),
     )
-fact_tells (facts.LinkedName a b c) other = (λ h. absurd cc, λ e. absurd cc)
+fact_tells (facts.LinkedName a b c) other = differ (facts.LinkedName a b c) other tt tt
 fact_tells (facts.Linked a) (facts.Linked x) =
     let t0 = link_tells a x in
     (λ h. rw (t0.0 h) refl, λ e. t0.1 cc)
-fact_tells (facts.Linked a) other = (λ h. absurd cc, λ e. absurd cc)
+fact_tells (facts.Linked a) other = differ (facts.Linked a) other tt tt
 fact_tells (facts.Lost a b) (facts.Lost x y) =
     let t0 = number_tells a x in
     let t1 = number_tells b y in
     (λ h. (let u = then_equal _ _ h in rw (t0.0 u.0, t1.0 u.1) refl), λ e. equal_then _ _ (t0.1 cc) (t1.1 cc))
-fact_tells (facts.Lost a b) other = (λ h. absurd cc, λ e. absurd cc)
+fact_tells (facts.Lost a b) other = differ (facts.Lost a b) other tt tt
 fact_tells (facts.Activated a b) (facts.Activated x y) =
     let t0 = number_tells a x in
     let t1 = side_tells b y in
     (λ h. (let u = then_equal _ _ h in rw (t0.0 u.0, t1.0 u.1) refl), λ e. equal_then _ _ (t0.1 cc) (t1.1 cc))
-fact_tells (facts.Activated a b) other = (λ h. absurd cc, λ e. absurd cc)
+fact_tells (facts.Activated a b) other = differ (facts.Activated a b) other tt tt
 fact_tells (facts.ActivatedReference a b c) (facts.ActivatedReference x y z) =
     let t0 = number_tells a x in
     let t1 = side_tells b y in
@@ -184,7 +232,7 @@ fact_tells (facts.ActivatedReference a b c) (facts.ActivatedReference x y z) =
           rw (t0.0 u.0, t1.0 v.0, t2.0 v.1) refl),
       λ e. equal_then _ _ (t0.1 cc) (equal_then _ _ (t1.1 cc) (t2.1 cc)),
     )
-fact_tells (facts.ActivatedReference a b c) other = (λ h. absurd cc, λ e. absurd cc)
+fact_tells (facts.ActivatedReference a b c) other = differ (facts.ActivatedReference a b c) other tt tt
 fact_tells (facts.ActivatedFeature a b c) (facts.ActivatedFeature x y z) =
     let t0 = number_tells a x in
     let t1 = side_tells b y in
@@ -195,7 +243,7 @@ fact_tells (facts.ActivatedFeature a b c) (facts.ActivatedFeature x y z) =
           rw (t0.0 u.0, t1.0 v.0, t2.0 v.1) refl),
       λ e. equal_then _ _ (t0.1 cc) (equal_then _ _ (t1.1 cc) (t2.1 cc)),
     )
-fact_tells (facts.ActivatedFeature a b c) other = (λ h. absurd cc, λ e. absurd cc)
+fact_tells (facts.ActivatedFeature a b c) other = differ (facts.ActivatedFeature a b c) other tt tt
 fact_tells (facts.ActivatedName a b c) (facts.ActivatedName x y z) =
     let t0 = number_tells a x in
     let t1 = side_tells b y in
@@ -206,21 +254,21 @@ fact_tells (facts.ActivatedName a b c) (facts.ActivatedName x y z) =
           rw (t0.0 u.0, t1.0 v.0, t2.0 v.1) refl),
       λ e. equal_then _ _ (t0.1 cc) (equal_then _ _ (t1.1 cc) (t2.1 cc)),
     )
-fact_tells (facts.ActivatedName a b c) other = (λ h. absurd cc, λ e. absurd cc)
+fact_tells (facts.ActivatedName a b c) other = differ (facts.ActivatedName a b c) other tt tt
 fact_tells (facts.Used a b) (facts.Used x y) =
     let t0 = link_tells a x in
     let t1 = side_tells b y in
     (λ h. (let u = then_equal _ _ h in rw (t0.0 u.0, t1.0 u.1) refl), λ e. equal_then _ _ (t0.1 cc) (t1.1 cc))
-fact_tells (facts.Used a b) other = (λ h. absurd cc, λ e. absurd cc)
+fact_tells (facts.Used a b) other = differ (facts.Used a b) other tt tt
 fact_tells (facts.Available a b) (facts.Available x y) =
     let t0 = number_tells a x in
     let t1 = text_tells b.now y.now in
     (λ h. (let u = then_equal _ _ h in rw (t0.0 u.0, t1.0 u.1) refl), λ e. equal_then _ _ (t0.1 cc) (t1.1 cc))
-fact_tells (facts.Available a b) other = (λ h. absurd cc, λ e. absurd cc)
+fact_tells (facts.Available a b) other = differ (facts.Available a b) other tt tt
 fact_tells (facts.Compiled a) (facts.Compiled x) =
     let t0 = unit_tells a x in
     (λ h. rw (t0.0 h) refl, λ e. t0.1 cc)
-fact_tells (facts.Compiled a) other = (λ h. absurd cc, λ e. absurd cc)
+fact_tells (facts.Compiled a) other = differ (facts.Compiled a) other tt tt
 fact_tells (facts.Needed a b c) (facts.Needed x y z) =
     let t0 = link_tells a x in
     let t1 = platform_tells b y in
@@ -231,17 +279,17 @@ fact_tells (facts.Needed a b c) (facts.Needed x y z) =
           rw (t0.0 u.0, t1.0 v.0, t2.0 v.1) refl),
       λ e. equal_then _ _ (t0.1 cc) (equal_then _ _ (t1.1 cc) (t2.1 cc)),
     )
-fact_tells (facts.Needed a b c) other = (λ h. absurd cc, λ e. absurd cc)
+fact_tells (facts.Needed a b c) other = differ (facts.Needed a b c) other tt tt
 fact_tells (facts.ScriptRun a b) (facts.ScriptRun x y) =
     let t0 = number_tells a x in
     let t1 = placement_tells b y in
     (λ h. (let u = then_equal _ _ h in rw (t0.0 u.0, t1.0 u.1) refl), λ e. equal_then _ _ (t0.1 cc) (t1.1 cc))
-fact_tells (facts.ScriptRun a b) other = (λ h. absurd cc, λ e. absurd cc)
+fact_tells (facts.ScriptRun a b) other = differ (facts.ScriptRun a b) other tt tt
 fact_tells (facts.ScriptCompiled a b) (facts.ScriptCompiled x y) =
     let t0 = number_tells a x in
     let t1 = side_tells b y in
     (λ h. (let u = then_equal _ _ h in rw (t0.0 u.0, t1.0 u.1) refl), λ e. equal_then _ _ (t0.1 cc) (t1.1 cc))
-fact_tells (facts.ScriptCompiled a b) other = (λ h. absurd cc, λ e. absurd cc)
+fact_tells (facts.ScriptCompiled a b) other = differ (facts.ScriptCompiled a b) other tt tt
 fact_tells (facts.RunNeeded a b c) (facts.RunNeeded x y z) =
     let t0 = link_tells a x in
     let t1 = placement_tells b y in
@@ -252,4 +300,4 @@ fact_tells (facts.RunNeeded a b c) (facts.RunNeeded x y z) =
           rw (t0.0 u.0, t1.0 v.0, t2.0 v.1) refl),
       λ e. equal_then _ _ (t0.1 cc) (equal_then _ _ (t1.1 cc) (t2.1 cc)),
     )
-fact_tells (facts.RunNeeded a b c) other = (λ h. absurd cc, λ e. absurd cc)
+fact_tells (facts.RunNeeded a b c) other = differ (facts.RunNeeded a b c) other tt tt

@@ -1,37 +1,37 @@
--- By the rows of tables follow exactly the facts that are derivable.
-use Rattle.std.proofs.Common.{◌↔◌, List, inl, inr}
-use Rattle.std.specs.List.{Contains}
+-- By the rows of tables follow exactly the facts that are derivable, and each row is a rule.
+use Rattle.std.proofs.Common.{◌↔◌, List, [], ◌∷◌, inl, inr, subst}
 use Rattle.krates_rules.specs.Facts.{Id}
 use Rattle.krates_rules.specs.Resolved.{Resolved}
 use Rattle.krates_units.specs.BuildFacts.{Fact}
 use Rattle.krates_units.specs.BuildRules.{Rule}
 use Rattle.krates_units.specs.BuildRules as rules
 use Rattle.krates_units.specs.BuildSetting.{BuildSettingModel}
-use Rattle.krates_units.specs.Built.{IsDerivable, follows}
+use Rattle.krates_units.specs.Built.{IsDerivable, IsPremise, follows}
 use Rattle.krates_units.specs.Machines.{MachineModel}
 use Rattle.krates_build_tables.specs.TablesOf.{AreTables}
 use Rattle.krates_build_tables.specs.declared.tables.Tables.{Tables}
 use Rattle.krates_build_facts.specs.FactModels.{FactModel, Met, LinkedReference, LinkedFeature, LinkedName, Linked, Lost, Activated, ActivatedReference, ActivatedFeature, ActivatedName, Used, Available, Compiled, Needed, ScriptRun, ScriptCompiled, RunNeeded}
-use Rattle.krates_build_facts.specs.Meanings.{EachHasMeaning, EachHasNumber, Follows, FollowsAsDerivable, IsRow, Means, by_row}
+use Rattle.krates_build_facts.specs.Meanings.{AreMeant, EachHasMeaning, EachHasNumber, EachRowIsRule, Follows, FollowsAsDerivable, IsRow, Means, by_row}
 use Rattle.krates_build_facts.specs.Rows.{rows_of}
 use Rattle.krates_build_facts.proofs.CoverActivated as activated
 use Rattle.krates_build_facts.proofs.CoverLinked as linked
 use Rattle.krates_build_facts.proofs.AskedRows.{asked, asked_library, sound_initial}
 use Rattle.krates_build_facts.proofs.AvailableRows.{available, available_below, sound_available}
-use Rattle.krates_build_facts.proofs.Claims.{AreSound, HasNumbers, IsCovered, MeansDerivable}
+use Rattle.krates_build_facts.proofs.Claims.{AreSound, HasNumbers, IsCovered, IsSound, MeansDerivable}
 use Rattle.krates_build_facts.proofs.LibraryRows.{needed_library, sound_needed}
 use Rattle.krates_build_facts.proofs.OwnTargetRows.{own_library, own_program, script_run, sound_compiled}
+use Rattle.krates_build_facts.proofs.RowLists.{Each, first_of, more_premises, none_premise, rest_of}
 use Rattle.krates_build_facts.proofs.RootRows.{root_activated, root_linked, root_met, root_reference}
 use Rattle.krates_build_facts.proofs.RunRows.{run_below, sound_run_needed}
 use Rattle.krates_build_facts.proofs.ScriptRows.{script_below, script_compiled, sound_script_compiled, sound_script_run}
 use Rattle.krates_build_facts.proofs.SoundActivated.{sound_activated, sound_activated_feature, sound_activated_name, sound_activated_reference, sound_used}
 use Rattle.krates_build_facts.proofs.SoundLinked.{sound_linked, sound_linked_feature, sound_linked_name, sound_linked_reference, sound_lost, sound_met}
-use Rattle.krates_build_facts.proofs.SoundRows.{derivable_at}
+use Rattle.krates_build_facts.proofs.UniqueMeanings.{unique_meaning}
 use Rattle.krates_build_facts.proofs.UnitLibraryRows.{library_below}
 
 module _ (r : Resolved) (s : BuildSettingModel) (ids : List Id) (ms : List MachineModel) (t : Tables)
     (tables : AreTables r s ids ms t) where
-  -- ---- what follows is derivable
+  -- ---- each row is a rule
 
   sound_begin : (begin : FactModel) → AreSound r s ids ms t (rows_of t begin)
   sound_begin (Met c m) = sound_met r s ids ms t tables c m
@@ -52,13 +52,30 @@ module _ (r : Resolved) (s : BuildSettingModel) (ids : List Id) (ms : List Machi
   sound_begin (ScriptCompiled c n) = sound_script_compiled r s ids ms t tables c n
   sound_begin (RunNeeded place from run) = sound_run_needed r s ids ms t tables place from run
 
-  sound_row : (ps : List FactModel) (n : FactModel) → IsRow t ps n → ((p : FactModel) → Contains ps p → MeansDerivable r s ids ms t p)
-      → MeansDerivable r s ids ms t n
-  sound_row ps n (inl first) good = sound_initial r s ids ms t tables ps n first good
-  sound_row ps n (inr (begin, c)) good = sound_begin begin ps n c good
+  sound_row : (ps : List FactModel) (n : FactModel) → IsRow t ps n → IsSound r s ids ms t ps n
+  sound_row ps n (inl first) = sound_initial r s ids ms t tables ps n first
+  sound_row ps n (inr (begin, c)) = sound_begin begin ps n c
+
+  -- ---- what follows is derivable
+
+  -- what derivable facts mean, one by one
+  derivable_meanings : (ns : List FactModel) → Each (MeansDerivable r s ids ms t) ns
+      → (fs : List Fact) × AreMeant r s ids ms t ns fs × ((g : Fact) → IsPremise g fs → IsDerivable r s g)
+  derivable_meanings [] each = ([], tt, none_premise (IsDerivable r s))
+  derivable_meanings (n ∷ ns) each =
+      let MD = MeansDerivable r s ids ms t in
+      let first = first_of MD n ns each in
+      let more = derivable_meanings ns (rest_of MD n ns each) in
+      (first.fact ∷ more.0, (first.means, more.1), more_premises (IsDerivable r s) first.fact more.0 first.derivable more.2)
+
+  row_derivable : (ps : List FactModel) (n : FactModel) → IsRow t ps n → Each (MeansDerivable r s ids ms t) ps → MeansDerivable r s ids ms t n
+  row_derivable ps n row each =
+      let meant = derivable_meanings ps each in
+      let by = sound_row ps n row meant.0 meant.1 in
+      record { fact = by.0; means = by.1; derivable = follows by.2 meant.2 }
 
   following : {n : FactModel} → Follows t n → MeansDerivable r s ids ms t n
-  following (by_row {premises = ps} {f = n} row below) = sound_row ps n row (λ p c. following (below p c))
+  following (by_row {premises = ps} {f = n} row below) = row_derivable ps n row (λ p c. following (below p c))
 
   -- ---- what is derivable follows
 
@@ -111,12 +128,17 @@ module _ (r : Resolved) (s : BuildSettingModel) (ids : List Id) (ms : List Machi
 
   as_derivable : (number : FactModel) (f : Fact) → Means r s ids ms t number f → Follows t number ↔ IsDerivable r s f
   as_derivable number f means = (
-    λ h. derivable_at r s ids ms t number f means (following h),
+    λ h. (
+        let is = following h in
+        subst (IsDerivable r s) (unique_meaning r s ids ms t number is.fact f is.means means) is.derivable),
     λ h. (deriving_numbers h).follows number means,
   )
 
   has_number : (f : Fact) → IsDerivable r s f → (n : FactModel) × Means r s ids ms t n f × Follows t n
   has_number f h = let all = deriving_numbers h in (all.number, all.means, all.follows all.number all.means)
+
+pub each_row_is_rule : EachRowIsRule
+each_row_is_rule r s ids ms t tables premises number row = sound_row r s ids ms t tables premises number row
 
 pub follows_as_derivable : FollowsAsDerivable
 follows_as_derivable = as_derivable

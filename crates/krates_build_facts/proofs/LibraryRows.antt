@@ -9,7 +9,6 @@ use Rattle.krates_units.specs.BuildRules.{unit}
 use Rattle.krates_units.specs.BuildRules as rules
 use Rattle.krates_units.specs.BuildSetting.{BuildSettingModel}
 use Rattle.krates_units.specs.BuildTargets.{HasTarget, IsLibrary}
-use Rattle.krates_units.specs.Built.{IsDerivable, follows}
 use Rattle.krates_units.specs.Machines.{MachineModel}
 use Rattle.krates_units.specs.Sides.{GoesTo}
 use Rattle.krates_units.specs.declared.kinds.Mode.TheVariants as modes
@@ -25,12 +24,12 @@ use Rattle.krates_build_facts.specs.Rows.{goes_to, libraries, library, rows_of, 
 use Rattle.krates_build_facts.specs.declared.facts.PlacementNumber.{PlacementNumber}
 use Rattle.krates_build_facts.specs.declared.facts.PlatformNumber.{PlatformNumber}
 use Rattle.krates_build_facts.specs.declared.facts.UnitPlace.{UnitPlace}
-use Rattle.krates_build_facts.proofs.Claims.{AreSound, HasNumbers, IsCovered, IsSound, MeansDerivable}
+use Rattle.krates_build_facts.proofs.Claims.{AreSound, HasNumbers, IsCovered, IsSound}
 use Rattle.krates_build_facts.proofs.CoverRows.{by_rows, in_alone, numbers}
 use Rattle.krates_build_facts.proofs.FactNumbers.{of_number}
 use Rattle.krates_build_facts.proofs.Placements.{goes_number, goes_somewhere, platform_once}
-use Rattle.krates_build_facts.proofs.RowLists.{Each, each_one, first_of, here, in_flat_at, in_if, in_some, one_premise, rows_flat, rows_if, rows_none, rows_one, rows_some}
-use Rattle.krates_build_facts.proofs.SoundRows.{sound_rows}
+use Rattle.krates_build_facts.proofs.RowLists.{Each, each_one, here, in_flat_at, in_if, in_some, rows_flat, rows_if, rows_none, rows_one, rows_some}
+use Rattle.krates_build_facts.proofs.SoundRows.{by_first, gives, sound_rows}
 use Rattle.krates_build_facts.proofs.TableEntries.{LinkHere, crate_here, entry_of}
 use Rattle.krates_build_facts.proofs.TargetEntries.{target_at, target_of, unit_here, unit_means_there, unit_same}
 use Rattle.krates_rules.proofs.OnlyOne.{place_in}
@@ -64,7 +63,7 @@ module _ (r : Resolved) (s : BuildSettingModel) (ids : List Id) (ms : List Machi
             (goes_to x n) goes.0 refl here target.1 goes.2;
       }
 
-  -- the rows of all libraries are sound if each is
+  -- the rows of all libraries are rules if each is
   pub libraries_sound : (ps : List FactModel) (l : Link) (n : PlacementNumber)
       → ((e : CrateEntry) (j : ℕ) (x : TargetEntry) → slice_get t.crates.items l.child ≡ Some e → slice_get e.targets.items j ≡ Some x
       → x.is_library ≡ true → IsSound r s ids ms t ps (Needed l.place n.platform (unit_of x n)))
@@ -137,14 +136,9 @@ module _ (r : Resolved) (s : BuildSettingModel) (ids : List Id) (ms : List Machi
   -- ---- what is needed is compiled
 
   needed_sound : (place : LinkPlace) (from : PlatformNumber) (u : UnitPlace) → IsSound r s ids ms t (Needed place from u ∷ []) (Compiled u)
-  needed_sound place from u each =
-      let is = first_of (MeansDerivable r s ids ms t) (Needed place from u) [] each in
-      let fact = means.Needed is.means.0 is.means.1 is.means.2 is.means.3 in
-      record {
-        fact = means.Compiled is.means.3;
-        means = (is.means.3, is.means.6, refl);
-        derivable = follows rules.needed_library (one_premise (IsDerivable r s) fact (subst (IsDerivable r s) is.means.7 is.derivable));
-      }
+  needed_sound place from u = by_first r s ids ms t (Needed place from u) [] (Compiled u) (λ f is.
+      gives r s ids ms t (Needed place from u ∷ []) (Compiled u) (means.Compiled is.3) (means.Needed is.0 is.1 is.2 is.3 ∷ [])
+      (is.3, is.6, refl) rules.needed_library ((is.0, is.1, is.2, is.3, is.4, is.5, is.6, refl), tt))
 
   pub sound_needed : (place : LinkPlace) (from : PlatformNumber) (u : UnitPlace) → AreSound r s ids ms t (rows_of t (Needed place from u))
   sound_needed place from u =

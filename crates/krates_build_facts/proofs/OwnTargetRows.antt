@@ -12,7 +12,7 @@ use Rattle.krates_units.specs.BuildRules.{unit}
 use Rattle.krates_units.specs.BuildRules as rules
 use Rattle.krates_units.specs.BuildSetting.{BuildSettingModel}
 use Rattle.krates_units.specs.BuildTargets.{HasTarget, HasTargetThat, IsLibrary, IsLinkable, IsScript, RunsPrograms}
-use Rattle.krates_units.specs.Built.{IsDerivable, IsPremise, follows}
+use Rattle.krates_units.specs.Built.{IsPremise}
 use Rattle.krates_units.specs.Machines.{MachineModel}
 use Rattle.krates_units.specs.Sides.{GoesTo}
 use Rattle.krates_units.specs.declared.kinds.Mode.{Mode}
@@ -27,13 +27,13 @@ use Rattle.krates_build_facts.specs.Meanings.{Follows, PlacementMeans}
 use Rattle.krates_build_facts.specs.Rows.{goes_to, is_test, libraries_of_unit, needed_beside, requires, rows_of, rule, rule_if, runs_of_unit, unit_of}
 use Rattle.krates_build_facts.specs.declared.facts.PlacementNumber.{PlacementNumber}
 use Rattle.krates_build_facts.specs.declared.facts.UnitPlace.{UnitPlace}
-use Rattle.krates_build_facts.proofs.Claims.{AreSound, HasNumbers, IsCovered, IsSound, MeansDerivable}
+use Rattle.krates_build_facts.proofs.Claims.{AreSound, HasNumbers, IsCovered, IsSound}
 use Rattle.krates_build_facts.proofs.CoverRows.{by_rows, in_entry, numbers, unit_number}
 use Rattle.krates_build_facts.proofs.Placements.{goes_number, goes_somewhere, placement_once}
-use Rattle.krates_build_facts.proofs.Requirements.{requires_derived, requires_follow}
-use Rattle.krates_build_facts.proofs.RowLists.{Each, each_more, each_one, first_of, here, in_flat_at, in_if, in_some, more_premises, one_premise, rest_of, rows_append, rows_flat, rows_if, rows_none, rows_some, there}
+use Rattle.krates_build_facts.proofs.Requirements.{requires_follow, requires_meant}
+use Rattle.krates_build_facts.proofs.RowLists.{Each, each_more, each_one, here, in_flat_at, in_if, in_some, rows_append, rows_flat, rows_if, rows_none, rows_some, there}
 use Rattle.krates_build_facts.proofs.RunRows.{runs_of_unit_sound}
-use Rattle.krates_build_facts.proofs.SoundRows.{sound_rows, unit_derived}
+use Rattle.krates_build_facts.proofs.SoundRows.{by_first, gives, sound_rows}
 use Rattle.krates_build_facts.proofs.TargetEntries.{TargetHere, UnitHere, target_at, target_of, unit_at, unit_here, unit_means_there, unit_same}
 use Rattle.krates_build_facts.proofs.Tests.{both_parts, both_true, is_not, not_true, untrue}
 use Rattle.krates_build_facts.proofs.UnitLibraryRows.{libraries_of_unit_sound}
@@ -73,71 +73,62 @@ program_placed ms n p is = record { platform = is.platform; side = refl }
 
 module _ (r : Resolved) (s : BuildSettingModel) (ids : List Id) (ms : List MachineModel) (t : Tables)
     (tables : AreTables r s ids ms t) where
-  -- ---- what is needed is so by the rules
+  -- ---- the rows are rules
 
   library_sound : (u : UnitPlace) (e : CrateEntry) (x : TargetEntry) (j : ℕ) (y : TargetEntry)
       → slice_get t.crates.items u.target.krate ≡ Some e → slice_get e.targets.items u.target.index ≡ Some x
       → slice_get e.targets.items j ≡ Some y → x.is_library ≡ false → y.is_linkable ≡ true
       → IsSound r s ids ms t (Compiled u ∷ []) (Compiled (unit_of y u.placement))
-  library_sound u e x j y entry target at no_library linkable each =
-      let compiled = unit_derived r s ids ms t u (first_of (MeansDerivable r s ids ms t) (Compiled u) [] each) in
-      let unit_is : UnitHere r s ids ms t u compiled.0 e x = unit_at r s ids ms t tables u compiled.0 e x compiled.1 entry target in
-      let other = target_of r s ids ms t tables u.target.krate j compiled.0.krate e y unit_is.crate at in
-      let goes = goes_somewhere s ms y other.0 u.placement compiled.0.placement y.is_macro refl other.1.says unit_is.placement in
-      let no : ¬ IsLibrary compiled.0.target = λ is. absurd (let yes : x.is_library ≡ true = unit_is.target.says.library.1 is in cc) in
-      let needed = unit compiled.0.krate other.0 modes.Build goes.0 in
+  library_sound u e x j y entry target at no_library linkable =
+      by_first r s ids ms t (Compiled u) [] (Compiled (unit_of y u.placement)) (λ f compiled.
+      let one = compiled.0 in
+      let unit_is : UnitHere r s ids ms t u one e x = unit_at r s ids ms t tables u one e x compiled.1 entry target in
+      let other = target_of r s ids ms t tables u.target.krate j one.krate e y unit_is.crate at in
+      let goes = goes_somewhere s ms y other.0 u.placement one.placement y.is_macro refl other.1.says unit_is.placement in
+      let no : ¬ IsLibrary one.target = λ is. absurd (let yes : x.is_library ≡ true = unit_is.target.says.library.1 is in cc) in
+      let needed = unit one.krate other.0 modes.Build goes.0 in
       let needed_is = unit_means_there r s ids ms t tables u.target.krate
-      (record { krate = u.target.krate; index = j }) compiled.0.krate e y other.0 modes.Build
+      (record { krate = u.target.krate; index = j }) one.krate e y other.0 modes.Build
       (goes_to y u.placement) goes.0 refl unit_is.crate other.1 goes.2 in
-      record {
-        fact = means.Compiled needed;
-        means = (needed, needed_is, refl {a = means.Compiled needed});
-        derivable = follows (rules.own_library {u = compiled.0} no other.1.has (other.1.says.linkable.0 linkable) goes.1)
-            (one_premise (IsDerivable r s) (means.Compiled compiled.0) compiled.2);
-      }
+      gives r s ids ms t (Compiled u ∷ []) (Compiled (unit_of y u.placement)) (means.Compiled needed) (means.Compiled one ∷ [])
+      (needed, needed_is, refl {a = means.Compiled needed})
+      (rules.own_library {u = one} no other.1.has (other.1.says.linkable.0 linkable) goes.1) ((one, compiled.1, refl), tt))
 
   program_sound : (u : UnitPlace) (e : CrateEntry) (x : TargetEntry) (j : ℕ) (y : TargetEntry)
       → slice_get t.crates.items u.target.krate ≡ Some e → slice_get e.targets.items u.target.index ≡ Some x
       → slice_get e.targets.items j ≡ Some y → is_test u.mode ≡ true → x.may_run_programs ≡ true → y.is_program ≡ true
       → IsSound r s ids ms t (Compiled u ∷ requires y) (Compiled (program_unit u y))
-  program_sound u e x j y entry target at tests runs program each =
-      let MD = MeansDerivable r s ids ms t in
-      let compiled = unit_derived r s ids ms t u (first_of MD (Compiled u) (requires y) each) in
-      let unit_is : UnitHere r s ids ms t u compiled.0 e x = unit_at r s ids ms t tables u compiled.0 e x compiled.1 entry target in
-      let other = target_of r s ids ms t tables u.target.krate j compiled.0.krate e y unit_is.crate at in
-      let mode : modes.Test ≡ compiled.0.mode = test_mode u.mode tests ∙ unit_is.mode in
-      let runs_it : RunsPrograms compiled.0.target compiled.0.mode =
-      subst (RunsPrograms compiled.0.target) mode (unit_is.target.says.runs.0 runs) in
-      let required = requires_derived r s ids ms t u.target.krate compiled.0.krate y other.0
-      (ap (λ w. w.krate) other.1.place_is) unit_is.crate.crate_at other.1.says
-      (rest_of MD (Compiled u) (requires y) each) in
-      let placement = program_placement compiled.0.placement in
-      let needed = unit compiled.0.krate other.0 modes.Build placement in
+  program_sound u e x j y entry target at tests runs program =
+      by_first r s ids ms t (Compiled u) (requires y) (Compiled (program_unit u y)) (λ f compiled.
+      let one = compiled.0 in
+      let unit_is : UnitHere r s ids ms t u one e x = unit_at r s ids ms t tables u one e x compiled.1 entry target in
+      let other = target_of r s ids ms t tables u.target.krate j one.krate e y unit_is.crate at in
+      let mode : modes.Test ≡ one.mode = test_mode u.mode tests ∙ unit_is.mode in
+      let runs_it : RunsPrograms one.target one.mode = subst (RunsPrograms one.target) mode (unit_is.target.says.runs.0 runs) in
+      let required = requires_meant r s ids ms t u.target.krate one.krate y other.0
+      (ap (λ w. w.krate) other.1.place_is) unit_is.crate.crate_at other.1.says in
+      let placement = program_placement one.placement in
+      let needed = unit one.krate other.0 modes.Build placement in
       let needed_is = unit_means_there r s ids ms t tables u.target.krate
-      (record { krate = u.target.krate; index = j }) compiled.0.krate e y other.0 modes.Build
+      (record { krate = u.target.krate; index = j }) one.krate e y other.0 modes.Build
       (program_place u.placement) placement refl unit_is.crate other.1
-      (program_placed ms u.placement compiled.0.placement unit_is.placement) in
-      record {
-        fact = means.Compiled needed;
-        means = (needed, needed_is, refl {a = means.Compiled needed});
-        derivable = follows (rules.own_program {u = compiled.0} runs_it other.1.has (other.1.says.program.0 program))
-            (more_premises (IsDerivable r s) (means.Compiled compiled.0) (rules.requires compiled.0.krate other.0) compiled.2 required);
-      }
+      (program_placed ms u.placement one.placement unit_is.placement) in
+      gives r s ids ms t (Compiled u ∷ requires y) (Compiled (program_unit u y)) (means.Compiled needed)
+      (means.Compiled one ∷ rules.requires one.krate other.0) (needed, needed_is, refl {a = means.Compiled needed})
+      (rules.own_program {u = one} runs_it other.1.has (other.1.says.program.0 program)) ((one, compiled.1, refl), required))
 
   script_sound : (u : UnitPlace) (e : CrateEntry) (x : TargetEntry) (j : ℕ) (y : TargetEntry)
       → slice_get t.crates.items u.target.krate ≡ Some e → slice_get e.targets.items u.target.index ≡ Some x
       → slice_get e.targets.items j ≡ Some y → y.is_script ≡ true
       → IsSound r s ids ms t (Compiled u ∷ []) (ScriptRun u.target.krate u.placement)
-  script_sound u e x j y entry target at script each =
-      let compiled = unit_derived r s ids ms t u (first_of (MeansDerivable r s ids ms t) (Compiled u) [] each) in
-      let unit_is : UnitHere r s ids ms t u compiled.0 e x = unit_at r s ids ms t tables u compiled.0 e x compiled.1 entry target in
-      let other = target_of r s ids ms t tables u.target.krate j compiled.0.krate e y unit_is.crate at in
-      record {
-        fact = means.ScriptRun compiled.0.krate compiled.0.placement;
-        means = (compiled.0.krate, compiled.0.placement, unit_is.crate.crate_at, unit_is.placement, refl);
-        derivable = follows (rules.script_run {u = compiled.0} (other.0, other.1.has, other.1.says.script.0 script))
-            (one_premise (IsDerivable r s) (means.Compiled compiled.0) compiled.2);
-      }
+  script_sound u e x j y entry target at script =
+      by_first r s ids ms t (Compiled u) [] (ScriptRun u.target.krate u.placement) (λ f compiled.
+      let one = compiled.0 in
+      let unit_is : UnitHere r s ids ms t u one e x = unit_at r s ids ms t tables u one e x compiled.1 entry target in
+      let other = target_of r s ids ms t tables u.target.krate j one.krate e y unit_is.crate at in
+      gives r s ids ms t (Compiled u ∷ []) (ScriptRun u.target.krate u.placement) (means.ScriptRun one.krate one.placement)
+      (means.Compiled one ∷ []) (one.krate, one.placement, unit_is.crate.crate_at, unit_is.placement, refl)
+      (rules.script_run {u = one} (other.0, other.1.has, other.1.says.script.0 script)) ((one, compiled.1, refl), tt))
 
   beside_sound : (u : UnitPlace) (e : CrateEntry) (x : TargetEntry) (j : ℕ) (y : TargetEntry)
       → slice_get t.crates.items u.target.krate ≡ Some e → slice_get e.targets.items u.target.index ≡ Some x

@@ -11,7 +11,6 @@ use Rattle.krates_units.specs.BuildFacts as means
 use Rattle.krates_units.specs.BuildRules.{Rule}
 use Rattle.krates_units.specs.BuildRules as rules
 use Rattle.krates_units.specs.BuildSetting.{BuildSettingModel}
-use Rattle.krates_units.specs.Built.{IsDerivable}
 use Rattle.krates_units.specs.Machines.{MachineModel}
 use Rattle.krates_units.specs.Requests.{IsBuildRoot, IsRequested, default, each, taken}
 use Rattle.krates_units.specs.Sides.{StartsOn, on_targets}
@@ -28,7 +27,7 @@ use Rattle.krates_build_facts.specs.Meanings.{Follows, Means}
 use Rattle.krates_build_facts.specs.Rows.{rule, rule_if}
 use Rattle.krates_build_facts.proofs.Claims.{AreSound, IsCovered, IsSound}
 use Rattle.krates_build_facts.proofs.CoverRows.{by_initial, numbers}
-use Rattle.krates_build_facts.proofs.RowLists.{each_none, here, in_flat_at, in_if, in_where, none_premise, rows_append, rows_flat, rows_if, rows_more, rows_where, there}
+use Rattle.krates_build_facts.proofs.RowLists.{each_none, here, in_flat_at, in_if, in_where, rows_append, rows_flat, rows_if, rows_more, rows_where, there}
 use Rattle.krates_build_facts.proofs.SoundRows.{gives}
 use Rattle.krates_build_facts.proofs.TableEntries.{CrateHere, crate_of, entry_of}
 
@@ -60,10 +59,10 @@ requested_rows e = flat_map (λ v. requested e (reference_view v)) e.requested.i
 
 module _ (r : Resolved) (s : BuildSettingModel) (ids : List Id) (ms : List MachineModel) (t : Tables)
     (tables : AreTables r s ids ms t) where
-  -- ---- what roots have is so by the rules
+  -- ---- the rows are rules
 
   from_nothing : (n : FactModel) (f : Fact) → Means r s ids ms t n f → Rule r s [] f → IsSound r s ids ms t [] n
-  from_nothing n f is by premises = gives r s ids ms t n f [] is by (none_premise (IsDerivable r s))
+  from_nothing n f is by = gives r s ids ms t [] n f [] is by tt
 
   requested_sound : (i : Id) (e : CrateEntry) (v : Reference) → CrateAt ids e.number i
       → (e.starts_on_host ≡ true → StartsOn r s i sides.Host) → IsRequested r s i v → AreSound r s ids ms t (requested e v)

@@ -41,9 +41,6 @@ first_of P x xs h = h x (contains_of (x ∷ xs) x (inl refl))
 pub rest_of : {X : Type 0} (P : X → Type 0) (x : X) (xs : List X) → Each P (x ∷ xs) → Each P xs
 rest_of P x xs h y c = h y (contains_of (x ∷ xs) y (inr (member_of xs y c)))
 
-pub second_of : {X : Type 0} (P : X → Type 0) (x y : X) (xs : List X) → Each P (x ∷ y ∷ xs) → P y
-second_of P x y xs h = first_of P y xs (rest_of P x (y ∷ xs) h)
-
 -- ---- what holds of each premise of a rule
 
 pub none_premise : (P : Fact → Type 0) → (g : Fact) → IsPremise g [] → P g
@@ -53,12 +50,6 @@ pub more_premises : (P : Fact → Type 0) (f : Fact) (fs : List Fact) → P f �
     → IsPremise g (f ∷ fs) → P g
 more_premises P f fs h more g (inl e) = subst P (sym e) h
 more_premises P f fs h more g (inr m) = more g m
-
-pub one_premise : (P : Fact → Type 0) (f : Fact) → P f → (g : Fact) → IsPremise g (f ∷ []) → P g
-one_premise P f h = more_premises P f [] h (none_premise P)
-
-pub two_premises : (P : Fact → Type 0) (f k : Fact) → P f → P k → (g : Fact) → IsPremise g (f ∷ k ∷ []) → P g
-two_premises P f k h i = more_premises P f (k ∷ []) h (one_premise P k i)
 
 -- ---- what holds of each row
 

@@ -36,7 +36,7 @@ use Rattle.krates_build_facts.proofs.TableEntries.{LinkOf, crate_here, entry_of}
 use Rattle.krates_build_facts.proofs.TargetEntries.{target_at, target_of}
 use Rattle.krates_build_facts.proofs.Tests.{both_parts, both_true}
 use Rattle.krates_build_facts.proofs.UniqueMeanings.{one_id}
-use Rattle.krates_build_facts.proofs.UnitLibraryRows.{unit_premises, unit_uses, uses_derived, uses_follow}
+use Rattle.krates_build_facts.proofs.UnitLibraryRows.{by_unit, unit_premises, unit_uses, uses_follow, uses_meant}
 use Rattle.krates_rules.proofs.OnlyOne.{place_in}
 
 normal_kind : (kind : DependencyKind) → is_normal kind ≡ true → kind ≡ Normal
@@ -49,7 +49,7 @@ kind_is_normal kind is = rw is refl
 
 module _ (r : Resolved) (s : BuildSettingModel) (ids : List Id) (ms : List MachineModel) (t : Tables)
     (tables : AreTables r s ids ms t) where
-  -- ---- what is needed is so by the rules
+  -- ---- the rows are rules
 
   one_sound : (u : UnitPlace) (p : CrateEntry) (l : Link) (e : Edge) (d : DependencyModel) (child : CrateEntry) (j : ℕ) (y : TargetEntry)
       → slice_get t.crates.items u.target.krate ≡ Some p → LinkOf r s ids ms t u.target.krate l e d
@@ -57,13 +57,13 @@ module _ (r : Resolved) (s : BuildSettingModel) (ids : List Id) (ms : List Machi
       → slice_get t.crates.items l.child ≡ Some child → child.links_natively ≡ true → child.has_script ≡ true
       → slice_get child.targets.items j ≡ Some y → y.is_linkable ≡ true
       → IsSound r s ids ms t (unit_uses t u l) (RunNeeded l.place u.placement (goes_to y u.placement))
-  one_sound u p l e d child j y entry link script kind passes_there child_entry natively child_script at is each =
+  one_sound u p l e d child j y entry link script kind passes_there child_entry natively child_script at is =
       let n = features_side t u.placement.side in
-      let uses = uses_derived r s ids ms t tables u l e d link each in
-      let one = uses.0 in
+      let fact = RunNeeded l.place u.placement (goes_to y u.placement) in
+      by_unit r s ids ms t tables u l fact (λ one means_it.
       let platform = one.placement.platform in
-      let placed = uses.1.placement in
-      let crate = crate_here r s ids ms t tables u.target.krate one.krate p uses.1.entry_at.crate_at entry in
+      let placed = means_it.placement in
+      let crate = crate_here r s ids ms t tables u.target.krate one.krate p means_it.entry_at.crate_at entry in
       let parent : e.parent ≡ one.krate = one_id ids u.target.krate e.parent one.krate link.parent_at crate.crate_at in
       let other = crate_here r s ids ms t tables l.child e.child child link.says.child child_entry in
       let target = target_of r s ids ms t tables l.child j e.child child y other at in
@@ -78,10 +78,10 @@ module _ (r : Resolved) (s : BuildSettingModel) (ids : List Id) (ms : List Machi
       } in
       let features : HasFeaturesOf s one.placement.side n =
       subst (λ side. HasFeaturesOf s side n) placed.side (features_means s t u.placement.side tables.first) in
-      gives r s ids ms t (RunNeeded l.place u.placement (goes_to y u.placement)) (means.RunNeeded e d one.placement goes.0)
-      (unit_premises one e d n) (e, d, one.placement, goes.0, link.means, placed, goes.2, refl)
+      gives r s ids ms t (unit_uses t u l) fact (means.RunNeeded e d one.placement goes.0) (unit_premises one e d n)
+      (e, d, one.placement, goes.0, link.means, placed, goes.2, refl)
       (rules.run_below {u = one} {e = e} {d = d} parent (link.says.kind ∙ normal_kind l.kind kind) (crate.says.script.0 script) linked
-      features goes.1) uses.2
+      features goes.1) (uses_meant r s ids ms t tables u l e d link one means_it))
 
   pub runs_of_unit_sound : (u : UnitPlace) (p : CrateEntry) (l : Link) (e : Edge) (d : DependencyModel)
       → slice_get t.crates.items u.target.krate ≡ Some p → LinkOf r s ids ms t u.target.krate l e d

@@ -11,7 +11,6 @@ use Rattle.krates_units.specs.BuildFacts as means
 use Rattle.krates_units.specs.BuildRules.{IsBuiltFrom, unit}
 use Rattle.krates_units.specs.BuildRules as rules
 use Rattle.krates_units.specs.BuildSetting.{BuildSettingModel}
-use Rattle.krates_units.specs.Built.{IsDerivable, follows}
 use Rattle.krates_units.specs.Machines.{MachineModel}
 use Rattle.krates_units.specs.Sides.{GoesTo, to_host, along, HasFeaturesOf, host_placement}
 use Rattle.krates_units.specs.declared.kinds.Mode.TheVariants as modes
@@ -29,14 +28,14 @@ use Rattle.krates_build_facts.specs.declared.facts.PlacementNumber.{PlacementNum
 use Rattle.krates_build_facts.specs.declared.facts.PlatformNumber.{PlatformNumber}
 use Rattle.krates_build_facts.specs.declared.facts.PlatformNumber.TheVariants as platforms
 use Rattle.krates_build_facts.specs.declared.facts.UnitPlace.{UnitPlace}
-use Rattle.krates_build_facts.proofs.Claims.{AreSound, HaveNumbers, IsCovered, IsSound, MeansDerivable}
+use Rattle.krates_build_facts.proofs.Claims.{AreSound, HaveNumbers, IsCovered, IsSound}
 use Rattle.krates_build_facts.proofs.CoverRows.{by_rows, in_alone, in_link, linked_at, linked_here, numbers, optional_follows}
 use Rattle.krates_build_facts.proofs.Decisions.{features_means, features_tells}
 use Rattle.krates_build_facts.proofs.FactNumbers.{of_number}
 use Rattle.krates_build_facts.proofs.LibraryRows.{libraries_sound, library_here, library_row, needed_numbers}
 use Rattle.krates_build_facts.proofs.Placements.{at_host}
-use Rattle.krates_build_facts.proofs.RowLists.{Each, each_more, each_one, first_of, here, in_where, more_premises, one_premise, rest_of, rows_none, rows_one, rows_where, second_of, there}
-use Rattle.krates_build_facts.proofs.SoundRows.{derivable_at, gives, optional, sound_rows}
+use Rattle.krates_build_facts.proofs.RowLists.{Each, each_more, each_one, here, in_where, rows_none, rows_one, rows_where, there}
+use Rattle.krates_build_facts.proofs.SoundRows.{by_first, gives, optional, sound_rows}
 use Rattle.krates_build_facts.proofs.TableEntries.{LinkHere, LinkOf, entry_of, link_here}
 use Rattle.krates_build_facts.proofs.TargetEntries.{target_at}
 use Rattle.krates_build_facts.proofs.Tests.{both_parts, both_true}
@@ -73,14 +72,10 @@ module _ (r : Resolved) (s : BuildSettingModel) (ids : List Id) (ms : List Machi
   -- ---- runs
 
   run_sound : (c : ℕ) (at : PlacementNumber) → IsSound r s ids ms t (ScriptRun c at ∷ []) (ScriptCompiled c at.side)
-  run_sound c at each =
-      let is = first_of (MeansDerivable r s ids ms t) (ScriptRun c at) [] each in
-      record {
-        fact = means.ScriptCompiled is.means.0 is.means.1.side;
-        means = (is.means.0, is.means.2, ap (λ n. means.ScriptCompiled is.means.0 n) (sym is.means.3.side));
-        derivable = follows (rules.script_compiled {p = is.means.0} {at = is.means.1})
-            (one_premise (IsDerivable r s) (means.ScriptRun is.means.0 is.means.1) (subst (IsDerivable r s) is.means.4 is.derivable));
-      }
+  run_sound c at = by_first r s ids ms t (ScriptRun c at) [] (ScriptCompiled c at.side) (λ f is.
+      gives r s ids ms t (ScriptRun c at ∷ []) (ScriptCompiled c at.side) (means.ScriptCompiled is.0 is.1.side)
+      (means.ScriptRun is.0 is.1 ∷ []) (is.0, is.2, ap (means.ScriptCompiled is.0) (sym is.3.side))
+      (rules.script_compiled {p = is.0} {at = is.1}) ((is.0, is.1, is.2, is.3, refl), tt))
 
   pub sound_script_run : (c : ℕ) (at : PlacementNumber) → AreSound r s ids ms t (rows_of t (ScriptRun c at))
   sound_script_run c at =
@@ -104,18 +99,14 @@ module _ (r : Resolved) (s : BuildSettingModel) (ids : List Id) (ms : List Machi
       (each_one (Follows t) first (has.follows first (p, at, crate, number.3, refl))) in
       subst (λ n. Follows t (ScriptCompiled c n)) number.3.side there))
 
-  -- ---- what is needed is so by the rules
+  -- ---- the rows of what is needed are rules
 
   one_sound : (c : ℕ) (n : Side) (l : Link) (e : Edge) (d : DependencyModel) (child : CrateEntry) (j : ℕ) (y : TargetEntry)
       → LinkOf r s ids ms t c l e d → is_build l.kind ≡ true → l.passes_on_host ≡ true
       → slice_get t.crates.items l.child ≡ Some child → slice_get child.targets.items j ≡ Some y → y.is_library ≡ true
       → IsSound r s ids ms t (script_uses t c n l) (Needed l.place platforms.Host (unit_of y host_place))
-  one_sound c n l e d child j y link kind passes_there entry at is each =
-      let MD = MeansDerivable r s ids ms t in
+  one_sound c n l e d child j y link kind passes_there entry at is =
       let side = features_side t n in
-      let script = ScriptCompiled c n in
-      let name = ActivatedName c side l.name.now in
-      let named = if_optional l name in
       let lib = library_here r s ids ms t tables l.child j e.child child y host_place host_placement link.says.child entry at is
       (at_host ms) in
       let stays : lib.at ≡ host_placement = host_stays lib.target lib.at lib.goes in
@@ -124,21 +115,13 @@ module _ (r : Resolved) (s : BuildSettingModel) (ids : List Id) (ms : List Machi
       subst (λ p. UnitMeans ids ms t (unit_of y host_place) (unit e.child lib.target modes.Build p)) stays lib.unit_is in
       let built : IsBuiltFrom r s host e lib.target =
       record { passes = link.says.host.0 passes_there; has = lib.has; library = lib.library } in
-      let script_fact = means.ScriptCompiled e.parent n in
-      let linked_fact = means.Linked e d in
-      let name_fact = means.ActivatedName e.parent side (declared_name d) in
-      let compiled = derivable_at r s ids ms t script script_fact (e.parent, link.parent_at, refl)
-      (first_of MD script (Linked l.place ∷ named) each) in
-      let linked = derivable_at r s ids ms t (Linked l.place) linked_fact (e, d, link.means, refl)
-      (second_of MD script (Linked l.place) named each) in
-      let rest = optional r s ids ms t l.is_optional d.optional name name_fact link.says.optional
-      (e.parent, link.parent_at, ap (means.ActivatedName e.parent side) (sym link.says.name))
-      (rest_of MD (Linked l.place) named (rest_of MD script (Linked l.place ∷ named) each)) in
-      gives r s ids ms t (Needed l.place platforms.Host (unit_of y host_place)) (means.Needed e d host needed)
+      let rest = optional r s ids ms t l.is_optional d.optional (ActivatedName c side l.name.now)
+      (means.ActivatedName e.parent side (declared_name d)) link.says.optional
+      (e.parent, link.parent_at, ap (means.ActivatedName e.parent side) (sym link.says.name)) in
+      gives r s ids ms t (script_uses t c n l) (Needed l.place platforms.Host (unit_of y host_place)) (means.Needed e d host needed)
       (script_premises e d n side) (e, d, host, needed, link.means, refl, unit_is, refl)
       (rules.script_below {e = e} {d = d} (link.says.kind ∙ build_kind l.kind kind) built (features_means s t n tables.first))
-      (more_premises (IsDerivable r s) script_fact (linked_fact ∷ rules.if_optional d name_fact) compiled
-      (more_premises (IsDerivable r s) linked_fact (rules.if_optional d name_fact) linked rest))
+      ((e.parent, link.parent_at, refl), ((e, d, link.means, refl), rest))
 
   pub sound_script_compiled : (c : ℕ) (n : Side) → AreSound r s ids ms t (rows_of t (ScriptCompiled c n))
   sound_script_compiled c n =

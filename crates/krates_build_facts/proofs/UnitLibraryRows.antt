@@ -10,7 +10,6 @@ use Rattle.krates_units.specs.BuildFacts as means
 use Rattle.krates_units.specs.BuildRules.{IsBuiltFrom, unit}
 use Rattle.krates_units.specs.BuildRules as rules
 use Rattle.krates_units.specs.BuildSetting.{BuildSettingModel}
-use Rattle.krates_units.specs.Built.{IsDerivable, IsPremise}
 use Rattle.krates_units.specs.Machines.{MachineModel}
 use Rattle.krates_units.specs.Sides.{GoesTo, HasFeaturesOf, HasKind}
 use Rattle.krates_units.specs.declared.kinds.Mode.TheVariants as modes
@@ -22,16 +21,16 @@ use Rattle.krates_build_tables.specs.declared.tables.LinkPlace.{LinkPlace}
 use Rattle.krates_build_tables.specs.declared.tables.Tables.{Tables}
 use Rattle.krates_build_tables.specs.declared.tables.TargetEntry.{TargetEntry}
 use Rattle.krates_build_facts.specs.FactModels.{FactModel, RuleModel, ActivatedName, Compiled, Linked, Needed}
-use Rattle.krates_build_facts.specs.Meanings.{Follows, LinkMeans, PlatformMeans, UnitMeans}
+use Rattle.krates_build_facts.specs.Meanings.{AreMeant, Follows, LinkMeans, PlatformMeans, UnitMeans}
 use Rattle.krates_build_facts.specs.Rows.{features_side, has_kind, if_optional, libraries, libraries_of_target, libraries_of_unit, passes, rows_of, runs_of_unit, unit_of}
 use Rattle.krates_build_facts.specs.declared.facts.PlatformNumber.{PlatformNumber}
 use Rattle.krates_build_facts.specs.declared.facts.UnitPlace.{UnitPlace}
-use Rattle.krates_build_facts.proofs.Claims.{AreSound, HaveNumbers, IsCovered, IsSound, MeansDerivable}
+use Rattle.krates_build_facts.proofs.Claims.{AreSound, HaveNumbers, IsCovered, IsSound}
 use Rattle.krates_build_facts.proofs.CoverRows.{in_link, linked_at, linked_here, optional_follows, unit_number}
 use Rattle.krates_build_facts.proofs.Decisions.{features_means, features_tells, kind_means, kind_tells, passes_decides}
 use Rattle.krates_build_facts.proofs.LibraryRows.{libraries_sound, library_here, library_row, needed_numbers}
-use Rattle.krates_build_facts.proofs.RowLists.{Each, each_more, first_of, in_some, in_where, more_premises, rest_of, rows_some, rows_where, second_of, there}
-use Rattle.krates_build_facts.proofs.SoundRows.{derivable_at, gives, optional, unit_derived}
+use Rattle.krates_build_facts.proofs.RowLists.{Each, each_more, in_some, in_where, rows_some, rows_where, there}
+use Rattle.krates_build_facts.proofs.SoundRows.{by_first, gives, optional}
 use Rattle.krates_build_facts.proofs.TableEntries.{LinkHere, LinkOf, link_here}
 use Rattle.krates_build_facts.proofs.TargetEntries.{UnitHere, unit_at, unit_here}
 use Rattle.krates_build_facts.proofs.Tests.{both_parts, both_true}
@@ -58,43 +57,37 @@ pub record UsesHere (r : Resolved) (s : BuildSettingModel) (ids : List Id) (ms :
 
 module _ (r : Resolved) (s : BuildSettingModel) (ids : List Id) (ms : List MachineModel) (t : Tables)
     (tables : AreTables r s ids ms t) where
-  -- ---- what is needed is so by the rules
+  -- ---- the rows are rules
 
-  -- what a unit uses is derivable, where it is derivable by number
-  pub uses_derived : (u : UnitPlace) (l : Link) (e : Edge) (d : DependencyModel) → LinkOf r s ids ms t u.target.krate l e d
-      → Each (MeansDerivable r s ids ms t) (unit_uses t u l)
-      → (one : CompiledUnit) × UnitMeans ids ms t u one
-      × ((g : Fact) → IsPremise g (unit_premises one e d (features_side t u.placement.side)) → IsDerivable r s g)
-  uses_derived u l e d link each =
-      let MD = MeansDerivable r s ids ms t in
+  -- what a unit uses means what it uses by the rules
+  pub uses_meant : (u : UnitPlace) (l : Link) (e : Edge) (d : DependencyModel) → LinkOf r s ids ms t u.target.krate l e d
+      → (one : CompiledUnit) → UnitMeans ids ms t u one
+      → AreMeant r s ids ms t (unit_uses t u l) (unit_premises one e d (features_side t u.placement.side))
+  uses_meant u l e d link one is =
       let n = features_side t u.placement.side in
-      let name = ActivatedName u.target.krate n l.name.now in
-      let named = if_optional l name in
-      let compiled = unit_derived r s ids ms t u (first_of MD (Compiled u) (Linked l.place ∷ named) each) in
-      let linked_fact = means.Linked e d in
-      let name_fact = means.ActivatedName e.parent n (declared_name d) in
-      let linked = derivable_at r s ids ms t (Linked l.place) linked_fact (e, d, link.means, refl)
-      (second_of MD (Compiled u) (Linked l.place) named each) in
-      let rest = optional r s ids ms t l.is_optional d.optional name name_fact link.says.optional
-      (e.parent, link.parent_at, ap (means.ActivatedName e.parent n) (sym link.says.name))
-      (rest_of MD (Linked l.place) named (rest_of MD (Compiled u) (Linked l.place ∷ named) each)) in (
-        compiled.0,
-        compiled.1,
-        more_premises (IsDerivable r s) (means.Compiled compiled.0) (linked_fact ∷ rules.if_optional d name_fact) compiled.2
-            (more_premises (IsDerivable r s) linked_fact (rules.if_optional d name_fact) linked rest),
-      )
+      let rest = optional r s ids ms t l.is_optional d.optional (ActivatedName u.target.krate n l.name.now)
+      (means.ActivatedName e.parent n (declared_name d)) link.says.optional
+      (e.parent, link.parent_at, ap (means.ActivatedName e.parent n) (sym link.says.name)) in
+      ((one, is, refl), ((e, d, link.means, refl), rest))
+
+  -- so a row is a rule if it is one for the unit that is meant
+  pub by_unit : (u : UnitPlace) (l : Link) (n : FactModel)
+      → ((one : CompiledUnit) → UnitMeans ids ms t u one → IsSound r s ids ms t (unit_uses t u l) n) → IsSound r s ids ms t (unit_uses t u l) n
+  by_unit u l n sound =
+      by_first r s ids ms t (Compiled u) (Linked l.place ∷ if_optional l (ActivatedName u.target.krate (features_side t u.placement.side) l.name.now)) n
+      (λ f is. sound is.0 is.1)
 
   one_sound : (u : UnitPlace) (p : CrateEntry) (x : TargetEntry) (l : Link) (e : Edge) (d : DependencyModel) (child : CrateEntry)
       (j : ℕ) (y : TargetEntry) → slice_get t.crates.items u.target.krate ≡ Some p → slice_get p.targets.items u.target.index ≡ Some x
       → LinkOf r s ids ms t u.target.krate l e d → has_kind x u.mode l.kind ≡ true → passes l u.placement.platform ≡ true
       → slice_get t.crates.items l.child ≡ Some child → slice_get child.targets.items j ≡ Some y → y.is_library ≡ true
       → IsSound r s ids ms t (unit_uses t u l) (Needed l.place u.placement.platform (unit_of y u.placement))
-  one_sound u p x l e d child j y entry target link kind passes_there child_entry at is each =
+  one_sound u p x l e d child j y entry target link kind passes_there child_entry at is =
       let n = features_side t u.placement.side in
-      let uses = uses_derived u l e d link each in
-      let one = uses.0 in
+      let fact = Needed l.place u.placement.platform (unit_of y u.placement) in
+      by_unit u l fact (λ one means_it.
       let platform = one.placement.platform in
-      let unit_is : UnitHere r s ids ms t u one p x = unit_at r s ids ms t tables u one p x uses.1 entry target in
+      let unit_is : UnitHere r s ids ms t u one p x = unit_at r s ids ms t tables u one p x means_it entry target in
       let parent : e.parent ≡ one.krate =
       one_id ids u.target.krate e.parent one.krate link.parent_at unit_is.crate.crate_at in
       let lib = library_here r s ids ms t tables l.child j e.child child y u.placement one.placement link.says.child child_entry at is
@@ -108,9 +101,9 @@ module _ (r : Resolved) (s : BuildSettingModel) (ids : List Id) (ms : List Machi
       let features : HasFeaturesOf s one.placement.side n =
       subst (λ side. HasFeaturesOf s side n) unit_is.placement.side (features_means s t u.placement.side tables.first) in
       let needed = unit e.child lib.target modes.Build lib.at in
-      gives r s ids ms t (Needed l.place u.placement.platform (unit_of y u.placement)) (means.Needed e d platform needed)
-      (unit_premises one e d n) (e, d, platform, needed, link.means, unit_is.placement.platform, lib.unit_is, refl)
-      (rules.library_below {u = one} {e = e} {d = d} parent kind_is built features lib.goes) uses.2
+      gives r s ids ms t (unit_uses t u l) fact (means.Needed e d platform needed) (unit_premises one e d n)
+      (e, d, platform, needed, link.means, unit_is.placement.platform, lib.unit_is, refl)
+      (rules.library_below {u = one} {e = e} {d = d} parent kind_is built features lib.goes) (uses_meant u l e d link one means_it))
 
   pub libraries_of_unit_sound : (u : UnitPlace) (p : CrateEntry) (l : Link) (e : Edge) (d : DependencyModel)
       → slice_get t.crates.items u.target.krate ≡ Some p → LinkOf r s ids ms t u.target.krate l e d

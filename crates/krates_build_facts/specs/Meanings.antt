@@ -1,10 +1,11 @@
 -- What facts by number mean in a document and a build, and what follows from the instances that the tables have.
-use Rattle.std.specs.Prelude.{◌≡◌, ◌⊎◌, ◌↔◌, ℕ, List, Contains, Some, slice_get}
+use Rattle.std.specs.Prelude.{◌≡◌, ◌⊎◌, ◌↔◌, ⊤, ℕ, List, [], ◌∷◌, Contains, Some, slice_get}
 use Rattle.krates_cm.specs.Document.{DependencyModel, dependency_view, target_view}
 use Rattle.krates_rules.specs.Facts.{Id, Edge}
 use Rattle.krates_rules.specs.Resolved.{Resolved}
 use Rattle.krates_units.specs.BuildFacts.{Fact, CompiledUnit, Platform, Placement, host, machine}
 use Rattle.krates_units.specs.BuildFacts as means
+use Rattle.krates_units.specs.BuildRules.{Rule}
 use Rattle.krates_units.specs.BuildSetting.{BuildSettingModel}
 use Rattle.krates_units.specs.Built.{IsDerivable}
 use Rattle.krates_units.specs.Machines.{MachineModel}
@@ -99,6 +100,20 @@ Means r s ids ms t (ScriptRun c at) f = (i : Id) × (a : Placement) × CrateAt i
 Means r s ids ms t (ScriptCompiled c n) f = (i : Id) × CrateAt ids c i × (f ≡ means.ScriptCompiled i n)
 Means r s ids ms t (RunNeeded place from run) f = (e : Edge) × (d : DependencyModel) × (a : Placement) × (b : Placement)
     × LinkMeans r s ids ms t place e d × PlacementMeans ms from a × PlacementMeans ms run b × (f ≡ means.RunNeeded e d a b)
+
+-- the facts by number mean these facts, one by one
+abbrev pub AreMeant : (r : Resolved) (s : BuildSettingModel) (ids : List Id) (ms : List MachineModel) (t : Tables) → List FactModel
+    → List Fact → Type 0
+AreMeant r s ids ms t [] [] = ⊤
+AreMeant r s ids ms t [] (f ∷ fs) = ⊥
+AreMeant r s ids ms t (n ∷ ns) [] = ⊥
+AreMeant r s ids ms t (n ∷ ns) (f ∷ fs) = Means r s ids ms t n f × AreMeant r s ids ms t ns fs
+
+-- An instance that the tables have, with premises that mean facts, is one rule with these premises, in their order.
+abbrev pub EachRowIsRule : Type 0
+EachRowIsRule = (r : Resolved) (s : BuildSettingModel) (ids : List Id) (ms : List MachineModel) (t : Tables) → AreTables r s ids ms t
+    → (premises : List FactModel) (number : FactModel) → IsRow t premises number
+    → (facts : List Fact) → AreMeant r s ids ms t premises facts → (f : Fact) × Means r s ids ms t number f × Rule r s facts f
 
 -- By the instances that the tables have follow exactly the facts that are derivable by the rules.
 abbrev pub FollowsAsDerivable : Type 0

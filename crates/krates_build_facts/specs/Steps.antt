@@ -1,8 +1,15 @@
 -- Derivations by number: steps, each of which follows by a row from what those before it give.
 use Rattle.std.specs.Prelude.{◌≡◌, ◌⊎◌, ℕ, List, Contains, Some, map, slice_get, take}
+use Rattle.krates_rules.specs.Facts.{Id}
+use Rattle.krates_rules.specs.Resolved.{Resolved}
+use Rattle.krates_units.specs.BuildFacts.{Fact}
+use Rattle.krates_units.specs.BuildRules.{Rule}
+use Rattle.krates_units.specs.BuildSetting.{BuildSettingModel}
+use Rattle.krates_units.specs.Machines.{MachineModel}
+use Rattle.krates_build_tables.specs.TablesOf.{AreTables}
 use Rattle.krates_build_tables.specs.declared.tables.Tables.{Tables}
 use Rattle.krates_build_facts.specs.FactModels.{FactModel, RuleModel, fact_view}
-use Rattle.krates_build_facts.specs.Meanings.{Follows, IsRow}
+use Rattle.krates_build_facts.specs.Meanings.{AreMeant, Follows, IsRow, Means}
 use Rattle.krates_build_facts.specs.declared.steps.BuildStep.{BuildStep}
 
 -- a step, by its texts
@@ -36,3 +43,16 @@ pub record AreStepsTo (t : Tables) (steps : List RuleModel) (f : FactModel) : Ty
 -- what steps give follows
 abbrev pub StepsAreSound : Type 0
 StepsAreSound = (t : Tables) (steps : List RuleModel) → AreSteps t steps → (f : FactModel) → Contains (given_in steps) f → Follows t f
+
+-- the step means one rule: what it uses means the premises of the rule, in order, and its fact means what the rule gives
+pub record MeansRule (r : Resolved) (s : BuildSettingModel) (ids : List Id) (ms : List MachineModel) (t : Tables) (step : RuleModel) : Type 0 where
+  pub premises : List Fact
+  pub fact : Fact
+  pub uses : AreMeant r s ids ms t step.premises premises
+  pub gives : Means r s ids ms t step.fact fact
+  pub by : Rule r s premises fact
+
+-- each step means one rule, where the tables are those of a document and a build
+abbrev pub StepsAreRules : Type 0
+StepsAreRules = (r : Resolved) (s : BuildSettingModel) (ids : List Id) (ms : List MachineModel) (t : Tables) → AreTables r s ids ms t
+    → (steps : List RuleModel) → AreSteps t steps → (step : RuleModel) → Contains steps step → MeansRule r s ids ms t step

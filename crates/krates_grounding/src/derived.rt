@@ -116,8 +116,9 @@ impl<'a> Derived<'a> {
     }
 
     /// Why a fact follows: steps, each after those that give what it follows from. What they give is the fact itself, or what another of
-    /// them needs. `None` where it doesn't follow; that a text is available is told as `holds` tells it. The only error is running out of
-    /// memory. Time O(n) in the facts that may follow, their instances and premises.
+    /// them needs. Each step is one rule of what cargo builds (`krates_build_facts::laws::steps`). `None` where the fact doesn't follow;
+    /// that a text is available is told as `holds` tells it. The only error is running out of memory. Time O(n) in the facts that may
+    /// follow, their instances and premises.
     ///
     /// ```text
     /// if let Some(steps) = derived.why(alloc, &BuildFact::Met(0, Meeting::Root))? {
