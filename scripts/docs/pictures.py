@@ -31,7 +31,7 @@ ROOMS = {
     ),
     "checkers": ("#fdeaea", ["krates_derive", "krates_checkers", "krates_certificate", "krates_verdict"]),
     "the graph": ("#e6f6f6", ["krates_drawing", "krates_queries", "krates"]),
-    "what cargo builds": ("#fdf3d8", ["krates_closure", "krates_units", "krates_manifest", "krates_build_tables", "krates_build_facts", "krates_build_checkers", "krates_grounding", "krates_built"]),
+    "what cargo builds": ("#fdf3d8", ["krates_closure", "krates_units", "krates_manifest", "krates_build_tables", "krates_build_facts", "krates_build_checkers", "krates_build_naming", "krates_build_certificate", "krates_grounding", "krates_built", "krates_build_answers"]),
     "programs": (
         "#eceff1",
         [

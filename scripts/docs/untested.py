@@ -63,6 +63,7 @@ SHOWN_BY = {
     "Derived::of": ("Clauses::grow",),
     # what is built has its lists whole
     "units_of": ("Units::agrees",),
+    "BuiltCrates::of": ("BuiltCrates::agrees",),
     # a selection is made of what a document has
     "select": (
         "select_in Context::exclusions Context::availability_at Work::new Work::count_krate"
@@ -87,7 +88,7 @@ SHOWN_BY = {
     "Reporter::answer": (
         "duplicates lacking lost_dependencies materials is_unreachable DirectLinks::dependents"
         " DirectLinks::dependencies DirectLinks::of DirectLinks::leads DirectLinks::tree Builds::of"
-        " Builds::all Builds::agree Builds::use_of Builds::uses Packages::one Packages::any Bill::of"
+        " Builds::all Builds::agree Builds::uses Packages::one Packages::any Bill::of"
         " Changed::between Difference::between Duplicates::of licences Tree::of ExplainedFeatures::of"
         " Bill::text Lines::new Lines::end"
     ).split(),

@@ -1,11 +1,12 @@
 //! What cargo builds.
-ghost use Rattle.std.specs.Prelude.{◌≡◌, IfErr, IfOk, map};
+ghost use Rattle.std.specs.Prelude.{◌≡◌, ◌↔◌, IfErr, IfOk, IsTrue, map};
 ghost use Rattle.std.specs.Cmp.Lexicographic.{slice_cmp};
 ghost use Rattle.std.specs.Ordering.{nat_cmp};
 ghost use Rattle.krates_build_tables.specs.CrateParts.{AreTablesOf};
 ghost use Rattle.krates_built.specs.BuildLists.{IsListOf, IsListed};
 ghost use Rattle.krates_built.specs.Refusals.{IsRefusal};
-ghost use Rattle.krates_build_facts.specs.FactModels.{ActivatedFeature};
+ghost use Rattle.krates_build_facts.specs.FactModels.{ActivatedFeature, ActivatedName};
+ghost use Rattle.krates_build_facts.specs.Meanings.{Follows};
 ghost use Rattle.krates_questions.specs.Lookup.{resolved_view};
 ghost use Rattle.krates_rules.specs.Facts.{Id};
 ghost use Rattle.krates_rules.specs.Resolved.{id_of};
@@ -19,9 +20,10 @@ use crate::listed::{Listed, listed_of};
 use crate::not_built::NotBuilt;
 use crate::places::{FeaturePlace, NeedPlace, RunNeedPlace, RunPlace, ScriptPlace};
 use crate::refusal::refusal;
-use krates_build_facts::{UnitPlace, laws};
+use krates_build_facts::{BuildFact, UnitPlace, laws};
 use krates_build_tables::Tables;
 use krates_build_tables::unanswered::first_unanswered;
+use krates_grounding::Derived;
 use krates_questions::Document;
 use krates_units::{BuildSetting, Side};
 use std::alloc::{AllocError, Global};
@@ -62,6 +64,13 @@ impl<'a> Units<'a> {
         ensures { result.now ≡ self.now.derived }
     {
         self.listed.derived.tables()
+    }
+
+    /// What follows, from which the lists are. Time O(1).
+    pub fn derived(&self) -> &Derived<'a>
+        ensures { result.now ≡ self.now.derived }
+    {
+        &self.listed.derived
     }
 
     /// The units that are compiled: targets of crates, each in a mode, by what they are compiled for. Build scripts aren't among them. Time
@@ -125,6 +134,24 @@ impl<'a> Units<'a> {
         self.agrees();
         let names = names_of(alloc, &self.listed.lists.features, krate, side)?;
         Ok(names)
+    }
+
+    /// Whether the feature of the crate with that number is enabled, on that side. By the first resolver all features are on the side of the
+    /// targets. Takes no memory. Time O(log n) in the facts that may follow.
+    pub fn is_feature(&self, krate: usize, side: Side, name: &'a str) -> bool
+        ensures { IsTrue result ↔ Follows self.now.derived (ActivatedFeature krate side name.now) }
+    {
+        let feature = BuildFact::ActivatedFeature(krate, side, name);
+        self.listed.derived.holds(&feature)
+    }
+
+    /// Whether the dependencies of this name are turned on, of the crate with that number and for the features of that side. Takes no memory.
+    /// Time O(log n) in the facts that may follow.
+    pub fn is_turned_on(&self, krate: usize, side: Side, name: &'a str) -> bool
+        ensures { IsTrue result ↔ Follows self.now.derived (ActivatedName krate side name.now) }
+    {
+        let dependencies = BuildFact::ActivatedName(krate, side, name);
+        self.listed.derived.holds(&dependencies)
     }
 }
 

@@ -1,0 +1,14 @@
+pub mod Added
+pub mod BuiltLaws
+pub mod BuiltPlaces
+pub mod LinkLaws
+pub mod LinkPositions
+pub mod LinkSteps
+pub mod PlaceOrders
+pub mod Searched
+pub mod SideLaws
+pub mod SomeElements
+pub mod TwiceBuilt
+pub mod TwiceLaws
+pub mod UnbuiltCrates
+pub mod UseSteps

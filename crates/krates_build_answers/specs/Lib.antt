@@ -1,0 +1,12 @@
+pub mod Adding
+pub mod BuiltCrates
+pub mod BuiltMeanings
+pub mod BuiltSides
+pub mod BuiltTwice
+pub mod LinkMeanings
+pub mod Links
+pub mod Orders
+pub mod Positions
+pub mod TwiceMeanings
+pub mod Unbuilt
+pub mod Uses

@@ -1,0 +1,2 @@
+pub mod CertificateAgain
+pub mod CertificateFaults

@@ -1,0 +1,5 @@
+pub mod BuildCertificateRoundTrip
+pub mod BuildCertificateTables
+pub mod BuildCertificateTexts
+pub mod BuildCertificateViews
+pub mod BuildCertificateWritten

@@ -1,0 +1,2 @@
+pub mod NamingFaults
+pub mod SameFact

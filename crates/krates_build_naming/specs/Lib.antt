@@ -1,0 +1,5 @@
+pub mod NamedFacts
+pub mod NamedParts
+pub mod NamedPlaces
+pub mod Naming
+pub mod PartTexts
