@@ -2,7 +2,11 @@
 #![tactic(auto)]
 
 #[cfg(test)]
+mod answers;
+#[cfg(test)]
 mod builds;
+#[cfg(test)]
+mod certificates;
 #[cfg(test)]
 mod checks;
 #[cfg(test)]
@@ -11,6 +15,8 @@ mod differences;
 mod linking;
 #[cfg(test)]
 mod lists;
+#[cfg(test)]
+mod naming;
 #[cfg(test)]
 mod requests;
 #[cfg(test)]
