@@ -17,13 +17,13 @@ documents are the two small ones of scripts/documents. The word is one of these:
     written        what is read of a document that was read and written with what was read of it at first
     certificates   the certificates that cargo-krates writes, and COUNT damaged ones (1,000 where none is given), with
                    what krates-check says of them
-    built          what built-units derives about builds with the unit graphs of cargo, which FOLDER has in files of its own
-    cargo          what built-units derives about a build of WORKSPACE that the words of `cargo build` ask for, with what the installed
+    built          what `units_of` derives about builds with the unit graphs of cargo, which FOLDER has in files of its own
+    cargo          what `units_of` derives about a build of WORKSPACE that the words of `cargo build` ask for, with what the installed
                    cargo would build
 
 The module of the word, in scripts/compare, says more. The programs are those that `rt run` builds in
-crates/krates_list, crates/cargo_krates, crates/krates_check and crates/built_units, or $KRATES_LIST, $CARGO_KRATES,
-$KRATES_CHECK and $BUILT_UNITS; `written` makes its own.
+crates/krates_list, crates/cargo_krates and crates/krates_check, or $KRATES_LIST, $CARGO_KRATES and $KRATES_CHECK. `written`
+makes its own, and so do `built` and `cargo`, by scripts/compare/built_units.sh in two minutes, unless $BUILT_UNITS names it.
 
 The status is 0 where nothing differs and something was compared, 1 where not, and 2 where a program isn't there.
 """
@@ -43,8 +43,8 @@ WORDS = {
     "words": (words.compare, ["cargo_krates"]),
     "written": (written.compare, []),
     "certificates": (certificates.compare, ["cargo_krates", "krates_check"]),
-    "built": (built.compare, ["built_units"]),
-    "cargo": (cargo.compare, ["built_units"]),
+    "built": (built.compare, []),
+    "cargo": (cargo.compare, []),
 }
 
 

@@ -1,4 +1,4 @@
-"""What built-units derives about a build, beside the unit graph that cargo prints for it.
+"""What `units_of` derives about a build, beside the unit graph that cargo prints for it.
 
 Compared are the units, each with its features, and from which package an edge leads to which other, and the platforms at both
 ends. Edges between two runs of build scripts, which `links` makes, are compared apart from the others.

@@ -1,4 +1,4 @@
-"""Compares what built-units derives about builds with the unit graphs that cargo printed for them.
+"""Compares what `units_of` derives about builds with the unit graphs that cargo printed for them.
 
 The folder has these files, of which each may be compressed, as NAME.json.gz:
 
@@ -18,6 +18,7 @@ import os
 from concurrent.futures import ThreadPoolExecutor
 
 from compare.builds import SHOWN, Build
+from compare.programs import made_here
 from krates_sources import text_of
 
 HOST = "x86_64-unknown-linux-gnu"
@@ -56,7 +57,7 @@ def compare(folder):
         print(f"there is no file {error}")
         return False
     counts, first = collections.Counter(), []
-    with ThreadPoolExecutor(AT_ONCE) as pool:
+    with made_here("built_units"), ThreadPoolExecutor(AT_ONCE) as pool:
         answers = pool.map(lambda case: answer(folder, case), cases)
         for case, found in zip(cases, answers):
             counts[found if isinstance(found, str) else "differ"] += 1

@@ -1,4 +1,4 @@
-"""Compares what built-units derives about a build of a workspace with what the installed cargo would build; nothing is built.
+"""Compares what `units_of` derives about a build of a workspace with what the installed cargo would build; nothing is built.
 
 The words behind the workspace are those of `cargo build` that the program knows, so neither a manifest nor a profile. Cargo is asked in
 the workspace's folder, without a network, and with no flags of the environment for rustc.
@@ -11,6 +11,7 @@ import tempfile
 import tomllib
 
 from compare.builds import SHOWN, Build
+from compare.programs import made_here
 
 SET_ASIDE = ("RUSTFLAGS", "CARGO_BUILD_TARGET", "CARGO_ENCODED_RUSTFLAGS")
 OF_EDITION = {"2021": "2", "2024": "3"}
@@ -67,7 +68,8 @@ def compare(folder, *words):
         graph = told(folder, "cargo", "build", "--unit-graph", "-Z", "unstable-options", "--offline", *words)
         if asked is None or document is None or graph is None:
             return False
-        build = Build(asked, words, document)
+        with made_here("built_units"):
+            build = Build(asked, words, document)
     found = build.differences(graph)
     print("\n".join([ascii(line) for line in found[:SHOWN]] or [f"{len(build.units())} units and {len(build.edges())} edges agree"]))
     return not found

@@ -1,6 +1,9 @@
 """The programs that are asked, and the settings under which they are asked."""
+import contextlib
 import os
+import pathlib
 import subprocess
+import tempfile
 
 from krates_sources import ROOT
 
@@ -11,6 +14,17 @@ SETTINGS = {"none": [], "linux": LINUX}
 def program(crate):
     """The program of a crate: that of the variable with its name, or what `rt run` builds in its folder."""
     return os.environ.get(crate.upper(), str(ROOT / "crates" / crate / "out" / crate))
+
+
+@contextlib.contextmanager
+def made_here(name):
+    """While this lasts, there is the program that scripts/compare/NAME.sh makes, if no variable names another one."""
+    with tempfile.TemporaryDirectory() as folder:
+        if name.upper() not in os.environ:
+            made = pathlib.Path(folder) / name
+            subprocess.run([ROOT / "scripts" / "compare" / f"{name}.sh", made], check=True)
+            os.environ[name.upper()] = str(made)
+        yield
 
 
 def is_there(crate):

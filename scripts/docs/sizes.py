@@ -22,7 +22,6 @@ TOGETHER = {
         "krates_check",
     ),
     "samples and tests": (
-        "built_units",
         "fake_cargo",
         "krates_samples",
         "krates_basic_tests",
