@@ -1,7 +1,8 @@
 """What `units_of` derives about a build, beside the unit graph that cargo prints for it.
 
-Compared are the units, each with its features, and from which package an edge leads to which other, and the platforms at both
-ends. Edges between two runs of build scripts, which `links` makes, are compared apart from the others.
+Compared are the units, each with its features, and from which package an edge leads to which other, for which platform at both
+ends, and with which features at its far end. Edges between two runs of build scripts, which `links` makes, are compared apart from the
+others, with the features at both ends.
 """
 import collections
 import json
@@ -43,13 +44,14 @@ class Build:
                     scripts.setdefault(package["id"], ("+".join(target["kind"]), target["name"]))
         return scripts
 
+    def side_features(self):
+        """The function that answers the features of a package on a side."""
+        features = self.features()
+        return lambda krate, side: tuple(sorted(features[krate, "targets" if self.resolver == "1" else side]))
+
     def units(self):
         """The units that are derived: package, kinds, name, mode, platform and features."""
-        features, scripts = self.features(), self.scripts()
-
-        def on(krate, side):
-            return tuple(sorted(features[krate, "targets" if self.resolver == "1" else side]))
-
+        on, scripts = self.side_features(), self.scripts()
         units = {(krate, kinds, name, mode, self.platform(platform), on(krate, side))
                  for krate, kinds, name, mode, platform, side in self.facts["unit"]}
         units |= {(krate, *scripts[krate], "run-custom-build", self.platform(platform), on(krate, side))
@@ -58,9 +60,12 @@ class Build:
                         for krate, side, _ in self.facts["script"]}
 
     def edges(self):
-        """The edges that are derived: the word of their lines, and package and platform at both ends."""
-        return {(word, one, self.platform(here), other, self.platform(there))
-                for word in ("needed", "run_needed") for one, here, other, there in self.facts[word] if one != other}
+        """The edges that are derived: the word of their lines, and package, platform and features at both ends, as far as they are compared."""
+        on = self.side_features()
+        edges = {("needed", one, self.platform(here), other, self.platform(there), on(other, side))
+                 for one, here, other, there, side in self.facts["needed"] if one != other}
+        return edges | {("run_needed", one, self.platform(here), on(one, near), other, self.platform(there), on(other, far))
+                        for one, here, near, other, there, far in self.facts["run_needed"] if one != other}
 
     def differences(self, graph):
         """What only one of the program and a unit graph has, or that the program derives nothing."""
@@ -78,10 +83,17 @@ def printed(graph):
     for unit in units:
         for dep in unit["dependencies"]:
             other = units[dep["index"]]
-            word = "run_needed" if unit["mode"] == other["mode"] == "run-custom-build" else "needed"
             if unit["pkg_id"] != other["pkg_id"]:
-                edges.add((word, unit["pkg_id"], unit["platform"] or "host", other["pkg_id"], other["platform"] or "host"))
+                edges.add(edge(unit, other))
     return {shown(unit) for unit in units}, edges
+
+
+def edge(unit, other):
+    """An edge that cargo printed, as derived ones are."""
+    ends = [(it["pkg_id"], it["platform"] or "host", tuple(sorted(it["features"]))) for it in (unit, other)]
+    if unit["mode"] == other["mode"] == "run-custom-build":
+        return "run_needed", *ends[0], *ends[1]
+    return "needed", *ends[0][:2], *ends[1]
 
 
 def shown(unit):
