@@ -16,8 +16,10 @@ set -euo pipefail
 kind=$1 text=$(realpath "$2") made=$(realpath -m "$3")
 shift 3
 kit=$(dirname "$(dirname "$(realpath "$(command -v rt)")")")
+here=$(dirname "$(realpath "$0")")
+. "$here/jobs.sh"
 room=$(mktemp -d)
-trap 'rm -rf "$room"' EXIT
+trap 'stop_jobs; rm -rf "$room"' EXIT
 cd "$room"
 
 # with less put in line than -O2 does, it takes a quarter less time, and the program a sixth more
@@ -31,6 +33,15 @@ compile() {
     mapfile -t words < "$text.words"
     words=("${words[@]/#module.bc/$name.ll}")
     "$kit/toolchain/bin/clang" "${words[@]/#module.o/$name.o}" "${@:2}"
+}
+
+# Compiles a module's text, NAME.ll, optimised, as two halves side by side: NAME.0.o and NAME.1.o.
+compile_halves() {
+    local half
+    for half in 0 1; do awk -v half="$half" -f "$here/halves.awk" "$1.ll" > "$1.$half.ll"; done
+    begin compile "$1.0" "${optimised[@]}"
+    compile "$1.1" "${optimised[@]}"
+    end 0
 }
 
 # Makes a program of these objects.
@@ -75,8 +86,8 @@ for_each_crate() {
 case $kind in
     program)
         { text_without "i64 $number" && echo "define internal i64 $number { ret i64 $1 }"; } > own.ll
-        compile own "${optimised[@]}"
-        link_to program own.o
+        compile_halves own
+        link_to program own.0.o own.1.o
         mv program "$made"
         ;;
     archive)
@@ -84,8 +95,8 @@ case $kind in
         names=$(IFS='|' && echo "$*")
         sed -E "s/@\"joined::($names)\"/@\1/g; /^define internal .*@($names)\(/s/internal //
             s/^define (i32 @main\()/define internal \1/" "$text" > own.ll
-        compile own "${optimised[@]}"
-        "$kit/toolchain/bin/llvm-ar" rcs "$made" own.o
+        compile_halves own
+        "$kit/toolchain/bin/llvm-ar" rcs "$made" own.0.o own.1.o
         ;;
     tried | tests) for_each_crate "$@" ;;
 esac
