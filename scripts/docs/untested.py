@@ -62,7 +62,7 @@ SHOWN_BY = {
     # what follows is that of clauses, which may name more facts as they are written
     "Derived::of": ("Clauses::grow",),
     # what is built has its lists whole
-    "units_of": ("Units::agrees",),
+    "units_of": ("Units::agrees", "Units::derived"),
     "BuiltCrates::of": ("BuiltCrates::agrees",),
     # a selection is made of what a document has
     "select": (

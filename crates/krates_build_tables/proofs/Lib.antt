@@ -1,4 +1,5 @@
 pub mod Additions
+pub mod ChildFeatures
 pub mod CrateNumbers
 pub mod CurrentCrates
 pub mod Entries

@@ -49,7 +49,7 @@ library_told r c d name ts b is same told = (
 
 -- ---- edges by which a dependency is resolved
 
-by_resolves : (r : Resolved) (e : Edge) (d : DependencyModel) → Resolves r e d → IsResolvedBy r e d
+pub by_resolves : (r : Resolved) (e : Edge) (d : DependencyModel) → Resolves r e d → IsResolvedBy r e d
 by_resolves r e d h = record {
   dep = h.dep;
   lists = h.lists;
@@ -58,7 +58,7 @@ by_resolves r e d h = record {
   fits = record { pkg = h.pkg; has_package = h.has_package; name = h.name; version = h.version; called = h.called };
 }
 
-whole_resolves : (r : Resolved) (i : Id) (e : Edge) (d : DependencyModel) → e.parent ≡ i → HasDeclared r i d → IsResolvedBy r e d → Resolves r e d
+pub whole_resolves : (r : Resolved) (i : Id) (e : Edge) (d : DependencyModel) → e.parent ≡ i → HasDeclared r i d → IsResolvedBy r e d → Resolves r e d
 whole_resolves r i e d parent declared by = record {
   pkg = by.fits.pkg;
   has_package = by.fits.has_package;
@@ -91,22 +91,29 @@ all_none r i d (p ∷ ps) pairs none =
 abbrev pub GivesAt : Resolved → NodeParts → DependencyModel → ℕ → Edge × DependencyModel → Type 0
 GivesAt r x d k b = (dep : NodeDepModel) × (c : Identity) × (slice_get (map node_dep_view x.deps.now) k ≡ Some dep) × (slice_get x.children.now k ≡ Some c) × GivesOf r (krate_of x) (id_of c) dep d b
 
-pub entry_gives : (r : Resolved) (x : NodeParts) (d : DependencyModel) (k : ℕ) (y : NodeEntry) (added : List (Edge × DependencyModel)) → IsEntryOf x k y
-    → ((b : Edge × DependencyModel) → GivesOf r (parent_of y) (child_of y) (node_dep_view y.dep.now) d b ↔ Contains added b) → (b : Edge × DependencyModel) → GivesAt r x d k b ↔ Contains added b
-entry_gives r x d k y added e told b =
+-- what it gives is what the entry at the place gives
+pub gives_here : (r : Resolved) (x : NodeParts) (d : DependencyModel) (k : ℕ) (y : NodeEntry) → IsEntryOf x k y → (b : Edge × DependencyModel)
+    → GivesAt r x d k b ↔ GivesOf r (parent_of y) (child_of y) (node_dep_view y.dep.now) d b
+gives_here r x d k y e b =
     let dep = slice_get-map node_dep_view x.deps.now k ∙ ap (option_map node_dep_view) e.dep in
     let parent : parent_of y ≡ krate_of x = ap id_of e.parent in (
       λ h. (
           let same_dep = same_Some h.0 (node_dep_view y.dep.now) (sym h.2 ∙ dep) in
           let same_child = ap id_of (same_Some h.1 y.child.now (sym h.3 ∙ e.child)) in
-          (told b).0 (rw parent (subst (λ (m : NodeDepModel). GivesOf r (krate_of x) (child_of y) m d b) same_dep (subst (λ (i : Id). GivesOf r (krate_of x) i h.0 d b) same_child h.4)))),
-      λ h. (node_dep_view y.dep.now, y.child.now, dep, e.child, subst (λ (i : Id). GivesOf r i (child_of y) (node_dep_view y.dep.now) d b) parent ((told b).1 h)),
+          rw parent (subst (λ (m : NodeDepModel). GivesOf r (krate_of x) (child_of y) m d b) same_dep (subst (λ (i : Id). GivesOf r (krate_of x) i h.0 d b) same_child h.4))),
+      λ h. (node_dep_view y.dep.now, y.child.now, dep, e.child, subst (λ (i : Id). GivesOf r i (child_of y) (node_dep_view y.dep.now) d b) parent h),
     )
+
+pub entry_gives : (r : Resolved) (x : NodeParts) (d : DependencyModel) (k : ℕ) (y : NodeEntry) (added : List (Edge × DependencyModel)) → IsEntryOf x k y
+    → ((b : Edge × DependencyModel) → GivesOf r (parent_of y) (child_of y) (node_dep_view y.dep.now) d b ↔ Contains added b) → (b : Edge × DependencyModel) → GivesAt r x d k b ↔ Contains added b
+entry_gives r x d k y added e told b =
+    let here = gives_here r x d k y e b in
+    (λ h. (told b).0 (here.0 h), λ h. here.1 ((told b).1 h))
 
 -- ---- a node
 
 -- an edge that a dependency of the node gives
-gives_for : (r : Resolved) (place : ℕ) (x : NodeParts) (d : DependencyModel) (k : ℕ) (b : Edge × DependencyModel) → AreParts r place x → GivesAt r x d k b → PairsFor r (krate_of x) d b
+pub gives_for : (r : Resolved) (place : ℕ) (x : NodeParts) (d : DependencyModel) (k : ℕ) (b : Edge × DependencyModel) → AreParts r place x → GivesAt r x d k b → PairsFor r (krate_of x) d b
 gives_for r place x d k b p (dep, c, at_dep, at_child, (fits, (kind, among, (info, is)))) =
     let here = has_dep_here p.at.node x.children.now k dep c p.children (ap (λ (ds : List NodeDepModel). slice_get ds k) p.deps ∙ at_dep) at_child in
     subst (PairsFor r (krate_of x) d) (sym is) (

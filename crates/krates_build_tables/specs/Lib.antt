@@ -9,4 +9,5 @@ pub mod FeatureLists
 pub mod Pairs
 pub mod Builds
 pub mod CrateParts
+pub mod Leading
 pub mod Unanswered

@@ -7,6 +7,7 @@ mod features;
 mod fitting;
 mod given;
 mod lacking;
+mod leading;
 mod links;
 mod machines;
 mod named;

@@ -10,7 +10,8 @@ ghost use Rattle.krates_build_tables.specs.RequestsFlags.{FlagsSay, flagged};
 ghost use Rattle.krates_build_tables.specs.Unanswered.{IsTaking, model_taking, setting_taking};
 
 use crate::features::reference_of;
-use crate::package_names::{has_feature, knows_name};
+use crate::leading::has_feature_of;
+use crate::package_names::has_feature;
 use crate::reference::FeatureReference;
 use crate::roots::root_as;
 use crate::selection::CrateFlags;
@@ -132,8 +133,8 @@ fn has_named(document: &Document<'_>, krate: &Kid, reference: &FeatureReference<
 {
     match *reference {
         FeatureReference::Krate(_) => false,
-        FeatureReference::Weak(name, _) | FeatureReference::Strong(name, _) => {
-            knows_name(document, krate, name)
+        FeatureReference::Weak(name, feature) | FeatureReference::Strong(name, feature) => {
+            has_feature_of(document, krate, name, feature)
         }
         FeatureReference::Simple(feature) => has_feature(document, krate, feature),
     }

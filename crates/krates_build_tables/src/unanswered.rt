@@ -23,7 +23,7 @@ pub enum Unanswered<'a> {
     Package(&'a PkgSpec),
     /// No package is asked for: the workspace has no members, or no default ones.
     Selection,
-    /// `--features`: no package takes the feature, or one that takes it doesn't have it.
+    /// `--features`: no package takes the feature, or one that has to have it doesn't.
     Feature(&'a str),
     /// `--all-features` or `--no-default-features`: no member is selected that could take it.
     FeatureFlag,
@@ -34,10 +34,11 @@ pub enum Unanswered<'a> {
 ///
 /// Where the resolver is a later one, or the folder of the build has no package, a feature has to be one of a selected member.
 /// Otherwise the package of the folder has to have it, even if that isn't selected, unless `NAME/FEATURE` names another member that
-/// is. A dependency that a feature is named of has to be declared; whether it has that feature isn't asked.
+/// is. A dependency that a feature is named of has to be declared. Each package that it leads to has to have the feature, even if it
+/// is optional, for tests or for another target; if the document has no edge for it, it leads to none.
 ///
-/// The only error is running out of memory. Time O(s p + n (log n + m + s) + f n (log n + d)) for s specifications, p packages, n
-/// crates with d dependencies each, m default members and f features.
+/// The only error is running out of memory. Time O(s p + n (log n + m + s) + f n (k² log n + k d)) for s specifications, p packages, n
+/// crates with d dependencies each, k of them under one name, m default members and f features.
 ///
 /// ```text
 /// match first_unanswered(alloc, &document, &setting)? {

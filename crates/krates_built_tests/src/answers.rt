@@ -1,20 +1,24 @@
 //! Answers about what cargo builds for a small document.
 
-use crate::builds::{Told, document_of, name_of, push_platform, setting_of};
-use krates_build_answers::{
-    BuildLink, BuildUse, BuiltCrate, BuiltCrates, build_links, build_uses, built_twice, is_unbuilt,
-    link_positions,
+use crate::builds::{Told, name_of, push_platform, setting_of};
+use crate::of_build::{
+    OfBuild, OfDerived, OfUnits, ToldOfBuild, ToldOfDerived, ToldOfUnits, push_admitted,
 };
-use krates_build_tables::tables_of::tables_of;
+use krates_build_answers::{
+    BuildLink, BuildUse, BuiltCrate, BuiltCrates, UsedCrate, build_links, build_uses, built_twice,
+    is_unbuilt, link_positions,
+};
+use krates_build_facts::BuildFact;
+use krates_build_samples::targets::document_of;
 use krates_built::{Units, units_of};
-use krates_document::admission::admit;
+use krates_cm::Metadata;
 use krates_grounding::Derived;
 use krates_questions::Document;
 use krates_rules::DepKind;
 use krates_samples::table::{Row, Tell, hold};
 use krates_text::text::Text;
 use krates_units::{BuildSetting, Side};
-use std::alloc::AllocError;
+use std::alloc::{AllocError, Global};
 use std::test::Fail;
 
 /// A document and what is asked for, as in `builds`; and the crates that are built, each with what for, which of them need which, at which
@@ -74,7 +78,7 @@ const SIDES: &[Row] = &[(
 
 /// Writes a crate and what it is built for.
 fn push_crate(told: &mut Text, of: Told<'_, '_>, place: BuiltCrate) {
-    told.push_str(name_of(of, place.krate));
+    told.push_str(name_of(of.document, place.krate));
     push_platform(told, of, place.platform);
 }
 
@@ -104,7 +108,7 @@ fn push_link(told: &mut Text, of: Told<'_, '_>, link: &BuildLink) {
 /// Writes the names of these crates.
 fn push_names(told: &mut Text, of: Told<'_, '_>, krates: &[usize]) {
     for krate in krates {
-        write!(told, "{}, ", name_of(of, *krate));
+        write!(told, "{}, ", name_of(of.document, *krate));
     }
 }
 
@@ -134,37 +138,17 @@ fn push_links(
     Ok(())
 }
 
-/// Writes what is answered about one build.
-fn push_built(told: &mut Text, of: Told<'_, '_>, units: &Units<'_>) -> Result<(), AllocError> {
-    let alloc = told.allocator();
-    let built = BuiltCrates::of(alloc, units)?;
-    push_crates(told, of, &built);
-    push_links(told, of, units, &built)?;
-    let twice = built_twice(alloc, units)?;
-    push_names(told, of, &twice);
-    Ok(())
-}
-
-/// What is built of a line's document.
+/// What is built.
 struct Built;
 
-impl Tell for Built {
-    fn tell(told: &mut Text, line: &str) -> Result<(), Fail> {
+impl ToldOfUnits for Built {
+    fn push(told: &mut Text, of: Told<'_, '_>, units: &Units<'_>) -> Result<(), AllocError> {
         let alloc = told.allocator();
-        let metadata = document_of(alloc, line)?;
-        let setting = setting_of(alloc, line)?;
-        let ids = admit(alloc, &metadata)?;
-        let document = Document::new(alloc, &metadata, &ids)?;
-        match units_of(alloc, &document, &setting) {
-            Ok(units) => {
-                let of = Told {
-                    document: &document,
-                    tables: units.tables(),
-                };
-                push_built(told, of, &units)?;
-            }
-            Err(refusal) => write!(told, "{refusal}"),
-        }
+        let built = BuiltCrates::of(alloc, units)?;
+        push_crates(told, of, &built);
+        push_links(told, of, units, &built)?;
+        let twice = built_twice(alloc, units)?;
+        push_names(told, of, &twice);
         Ok(())
     }
 }
@@ -188,27 +172,16 @@ fn push_sides(told: &mut Text, built: &BuiltCrates, units: &Units<'_>, krate: us
     told.push_str(", ");
 }
 
-/// For which sides the crates of a line's document are built.
+/// For which sides the crates of a build are built.
 struct Sides;
 
-impl Tell for Sides {
-    fn tell(told: &mut Text, line: &str) -> Result<(), Fail> {
-        let alloc = told.allocator();
-        let metadata = document_of(alloc, line)?;
-        let setting = setting_of(alloc, line)?;
-        let ids = admit(alloc, &metadata)?;
-        let document = Document::new(alloc, &metadata, &ids)?;
-        let Ok(units) = units_of(alloc, &document, &setting) else {
-            return Err(Fail::new("not built"));
-        };
-        let of = Told {
-            document: &document,
-            tables: units.derived().tables(),
-        };
-        let built = BuiltCrates::of(alloc, &units)?;
-        for krate in built.krates(alloc)? {
-            told.push_str(name_of(of, krate));
-            push_sides(told, &built, &units, krate);
+impl ToldOfUnits for Sides {
+    fn push(told: &mut Text, of: Told<'_, '_>, units: &Units<'_>) -> Result<(), AllocError> {
+        let built = BuiltCrates::of(told.allocator(), units)?;
+        let krates = built.krates(told.allocator())?;
+        for krate in &krates {
+            told.push_str(name_of(of.document, *krate));
+            push_sides(told, &built, units, *krate);
         }
         Ok(())
     }
@@ -223,81 +196,126 @@ fn use_word(usage: BuildUse) -> &'static str {
     }
 }
 
-/// Writes what the crates of two builds are used for.
-fn push_uses(
-    told: &mut Text,
-    of: Told<'_, '_>,
-    as_asked: &Units<'_>,
-    with_all: &Units<'_>,
-) -> Result<(), AllocError> {
-    let alloc = told.allocator();
-    let asked = BuiltCrates::of(alloc, as_asked)?;
-    let all = BuiltCrates::of(alloc, with_all)?;
-    let uses = build_uses(alloc, &asked, &all)?;
-    for used in &uses {
+/// Writes what crates are used for.
+fn push_uses(told: &mut Text, document: &Document<'_>, uses: &[UsedCrate]) {
+    for used in uses {
         let word = use_word(used.usage);
-        write!(told, "{} {word}, ", name_of(of, used.krate));
+        write!(told, "{} {word}, ", name_of(document, used.krate));
     }
     told.push_str("| ");
-    Ok(())
 }
 
-/// Writes the crates that aren't built, as is shown without trusting what derives facts.
-fn push_unbuilt<'a>(
-    told: &mut Text,
-    of: Told<'a, '_>,
-    setting: &'a BuildSetting,
-) -> Result<(), Fail> {
-    let alloc = told.allocator();
-    let tables = tables_of(alloc, of.document, setting)?;
-    let derived = Derived::of(alloc, tables)?;
-    let facts = derived.facts(alloc)?;
-    for krate in 0..derived.tables().crates.len() {
-        if is_unbuilt(alloc, derived.tables(), &facts, krate)? {
-            write!(told, "{}, ", name_of(of, krate));
-        }
-    }
-    Ok(())
-}
+/// The crates that aren't built, as is shown without trusting what derives facts.
+struct Unbuilt;
 
-/// What the crates of a line's document are used for, and those that aren't built.
-struct Uses;
-
-impl Tell for Uses {
-    fn tell(told: &mut Text, line: &str) -> Result<(), Fail> {
-        let alloc = told.allocator();
-        let metadata = document_of(alloc, line)?;
-        let setting = setting_of(alloc, line)?;
-        let mut all = setting_of(alloc, line)?;
-        all.kinds.all = true;
-        let ids = admit(alloc, &metadata)?;
-        let document = Document::new(alloc, &metadata, &ids)?;
-        match (
-            units_of(alloc, &document, &setting),
-            units_of(alloc, &document, &all),
-        ) {
-            (Ok(as_asked), Ok(with_all)) => {
-                let of = Told {
-                    document: &document,
-                    tables: as_asked.tables(),
-                };
-                push_uses(told, of, &as_asked, &with_all)?;
-                push_unbuilt(told, of, &setting)?;
+impl ToldOfDerived for Unbuilt {
+    fn push<'a>(
+        told: &mut Text,
+        of: Told<'a, '_>,
+        _derived: &Derived<'a>,
+        facts: &[BuildFact<'a>],
+    ) -> Result<(), Fail> {
+        for krate in 0..of.tables.crates.len() {
+            if is_unbuilt(told.allocator(), of.tables, facts, krate)? {
+                write!(told, "{}, ", name_of(of.document, krate));
             }
-            _ => told.push_str("not built"),
         }
         Ok(())
     }
 }
 
+/// What is asked for, and the same with all targets.
+#[derive(Drop)]
+struct Both {
+    as_asked: BuildSetting,
+    with_all: BuildSetting,
+}
+
+/// What a line asks for, with all targets.
+fn with_all_targets(alloc: Global, line: &str) -> Result<BuildSetting, Fail> {
+    let mut setting = setting_of(alloc, line)?;
+    setting.kinds.all = true;
+    Ok(setting)
+}
+
+/// What a line asks for, and the same with all targets.
+fn both_of(alloc: Global, line: &str) -> Result<Both, Fail> {
+    let as_asked = setting_of(alloc, line)?;
+    let with_all = with_all_targets(alloc, line)?;
+    Ok(Both { as_asked, with_all })
+}
+
+/// The crates of a build.
+fn crates_in(alloc: Global, units: Units<'_>) -> Result<BuiltCrates, AllocError> {
+    let built = BuiltCrates::of(alloc, &units);
+    drop(units);
+    built
+}
+
+/// The crates that are built of a document, which fails where it isn't said what is built.
+fn crates_of<'a>(
+    alloc: Global,
+    document: &Document<'a>,
+    setting: &'a BuildSetting,
+) -> Result<BuiltCrates, Fail> {
+    match units_of(alloc, document, setting) {
+        Ok(units) => Ok(crates_in(alloc, units)?),
+        Err(refusal) => Err(Fail::new(refusal)),
+    }
+}
+
+/// What the crates are used for that are built of a document with all targets.
+fn uses_in<'a>(
+    alloc: Global,
+    document: &Document<'a>,
+    asked: &'a Both,
+) -> Result<Vec<UsedCrate>, Fail> {
+    let as_asked = crates_of(alloc, document, &asked.as_asked)?;
+    let with_all = crates_of(alloc, document, &asked.with_all)?;
+    Ok(build_uses(alloc, &as_asked, &with_all)?)
+}
+
+/// What the crates of a document are used for, and those that aren't built.
+struct Uses;
+
+impl ToldOfBuild<Both> for Uses {
+    fn push<'a>(
+        told: &mut Text,
+        document: &Document<'a>,
+        asked: &'a Both,
+        words: &str,
+    ) -> Result<(), Fail> {
+        let uses = uses_in(told.allocator(), document, asked)?;
+        push_uses(told, document, &uses);
+        OfDerived::<Unbuilt>::push(told, document, &asked.as_asked, words)
+    }
+}
+
+/// Writes what is told of a document, and of what a line asks for, as it is asked for and with all targets.
+fn push_both(told: &mut Text, metadata: &Metadata, line: &str) -> Result<(), Fail> {
+    let asked = both_of(told.allocator(), line)?;
+    let pushed = push_admitted::<Both, Uses>(told, metadata, &asked, line);
+    drop(asked);
+    pushed
+}
+
+impl Tell for Uses {
+    fn tell(told: &mut Text, line: &str) -> Result<(), Fail> {
+        let metadata = document_of(told.allocator(), line)?;
+        let pushed = push_both(told, &metadata, line);
+        metadata.let_go();
+        pushed
+    }
+}
+
 #[test]
 fn built_crates_are_told(rt: HostRuntime) -> Result<(), Fail> {
-    hold::<Built>(rt.alloc(), BUILT)
+    hold::<OfBuild<OfUnits<Built>>>(rt.alloc(), BUILT)
 }
 
 #[test]
 fn sides_are_told(rt: HostRuntime) -> Result<(), Fail> {
-    hold::<Sides>(rt.alloc(), SIDES)
+    hold::<OfBuild<OfUnits<Sides>>>(rt.alloc(), SIDES)
 }
 
 #[test]

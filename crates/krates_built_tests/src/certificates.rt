@@ -19,15 +19,24 @@ fn push_refusal(told: &mut Text, error: BuildCertificateError) -> Result<(), Fai
     Ok(())
 }
 
+/// Adds what is written for a certificate.
+fn push_value(told: &mut Text, certificate: &BuildCertificate) -> Result<(), AllocError> {
+    let value = certificate.to_value(told.allocator())?;
+    write!(told, "{value}");
+    Ok(())
+}
+
+/// Adds what is written for a certificate, and lets it go.
+fn push_written(told: &mut Text, certificate: BuildCertificate) -> Result<(), AllocError> {
+    let pushed = push_value(told, &certificate);
+    drop(certificate);
+    pushed
+}
+
 impl Tell for Again {
     fn tell(told: &mut Text, text: &str) -> Result<(), Fail> {
-        let alloc = told.allocator();
-        match BuildCertificate::parse(alloc, text) {
-            Ok(certificate) => {
-                let value = certificate.to_value(alloc)?;
-                write!(told, "{value}");
-                Ok(())
-            }
+        match BuildCertificate::parse(told.allocator(), text) {
+            Ok(certificate) => Ok(push_written(told, certificate)?),
             Err(error) => push_refusal(told, error),
         }
     }

@@ -1,23 +1,18 @@
 //! What the checkers say of steps and of lists of facts about a build of a small document.
 
-use crate::builds::{document_of, setting_of};
+use crate::builds::Told;
+use crate::of_build::{OfBuild, OfDerived, OfProgram, OfTables, ToldOfDerived, ToldOfTables};
 use krates_build_checkers::{BuildCheckError, check_built, check_built_closed};
 use krates_build_facts::{BuildFact, BuildStep, PlacementNumber, PlatformNumber, UnitPlace};
-use krates_build_tables::tables_of::tables_of;
 use krates_build_tables::{LinkPlace, TargetPlace};
-use krates_document::admission::admit;
 use krates_grounding::Derived;
-use krates_questions::Document;
-use krates_samples::table::{Row, Tell, hold};
+use krates_samples::table::{Row, hold};
 use krates_text::text::Text;
 use krates_units::{Meeting, Mode, Side};
 use std::alloc::{AllocError, Global};
 use std::test::Fail;
 
-/// The program `a`, which depends on the library `b`.
-const BUILD: &str = "a b|b / targets a:bin b:lib / build 2";
-
-/// Steps: of each the facts that it follows from, and last the fact that it gives.
+/// Steps about the one program: of each the facts that it follows from, and last the fact that it gives.
 const STEPS: &[Row] = &[
     ("met", "accepted"),
     ("met/met linked/linked other", "accepted"),
@@ -47,7 +42,7 @@ const STEPS: &[Row] = &[
     ("met/met linked/met other", "step 2 does not follow"),
 ];
 
-/// Lists of facts: all that follow are nine.
+/// Lists of facts about it: all that follow are nine.
 const LISTS: &[Row] = &[
     (
         "met active unit linked other used below needed library",
@@ -130,7 +125,7 @@ fn unit_of(krate: usize) -> UnitPlace {
 }
 
 /// The fact of a word.
-fn fact_of(word: &str) -> BuildFact<'static> {
+fn fact_of<'a>(word: &str) -> BuildFact<'a> {
     match word {
         "met" => BuildFact::Met(0, Meeting::Root),
         "active" => BuildFact::Activated(0, Side::Targets),
@@ -146,7 +141,7 @@ fn fact_of(word: &str) -> BuildFact<'static> {
 }
 
 /// The facts of words.
-fn facts_of(alloc: Global, words: &str) -> Result<Vec<BuildFact<'static>>, AllocError> {
+fn facts_of<'a>(alloc: Global, words: &str) -> Result<Vec<BuildFact<'a>>, AllocError> {
     let mut facts = Vec::new(alloc);
     for word in words.split(' ') {
         if !word.is_empty() {
@@ -157,14 +152,14 @@ fn facts_of(alloc: Global, words: &str) -> Result<Vec<BuildFact<'static>>, Alloc
 }
 
 /// The step of words, of which the last is the fact that it gives.
-fn step_by(alloc: Global, words: &str) -> Result<BuildStep<'static>, AllocError> {
+fn step_by<'a>(alloc: Global, words: &str) -> Result<BuildStep<'a>, AllocError> {
     let mut premises = facts_of(alloc, words)?;
     let fact = premises.pop().unwrap_or(fact_of(""));
     Ok(BuildStep { premises, fact })
 }
 
 /// The steps of a line.
-fn steps_by(alloc: Global, line: &str) -> Result<Vec<BuildStep<'static>>, AllocError> {
+fn steps_by<'a>(alloc: Global, line: &str) -> Result<Vec<BuildStep<'a>>, AllocError> {
     let mut steps = Vec::new(alloc);
     for words in line.split('/') {
         if !words.is_empty() {
@@ -185,16 +180,11 @@ fn push_said(told: &mut Text, said: Result<(), BuildCheckError>, accepted: &str)
 /// What the checker says of steps.
 struct Steps;
 
-impl Tell for Steps {
-    fn tell(told: &mut Text, line: &str) -> Result<(), Fail> {
-        let alloc = told.allocator();
-        let metadata = document_of(alloc, BUILD)?;
-        let setting = setting_of(alloc, BUILD)?;
-        let ids = admit(alloc, &metadata)?;
-        let document = Document::new(alloc, &metadata, &ids)?;
-        let tables = tables_of(alloc, &document, &setting)?;
-        let steps = steps_by(alloc, line)?;
-        push_said(told, check_built(alloc, &tables, &steps), "accepted");
+impl ToldOfTables for Steps {
+    fn push(told: &mut Text, of: Told<'_, '_>, line: &str) -> Result<(), Fail> {
+        let steps = steps_by(told.allocator(), line)?;
+        let said = check_built(told.allocator(), of.tables, &steps);
+        push_said(told, said, "accepted");
         Ok(())
     }
 }
@@ -202,16 +192,11 @@ impl Tell for Steps {
 /// What the checker says of lists of facts.
 struct Lists;
 
-impl Tell for Lists {
-    fn tell(told: &mut Text, line: &str) -> Result<(), Fail> {
-        let alloc = told.allocator();
-        let metadata = document_of(alloc, BUILD)?;
-        let setting = setting_of(alloc, BUILD)?;
-        let ids = admit(alloc, &metadata)?;
-        let document = Document::new(alloc, &metadata, &ids)?;
-        let tables = tables_of(alloc, &document, &setting)?;
-        let facts = facts_of(alloc, line)?;
-        push_said(told, check_built_closed(alloc, &tables, &facts), "closed");
+impl ToldOfTables for Lists {
+    fn push(told: &mut Text, of: Told<'_, '_>, line: &str) -> Result<(), Fail> {
+        let facts = facts_of(told.allocator(), line)?;
+        let said = check_built_closed(told.allocator(), of.tables, &facts);
+        push_said(told, said, "closed");
         Ok(())
     }
 }
@@ -228,22 +213,20 @@ fn push_refused<'a>(
     Ok(())
 }
 
-/// What the checkers say of what is derived of a line's build.
+/// What the checkers say of what is derived of a build.
 struct Answers;
 
-impl Tell for Answers {
-    fn tell(told: &mut Text, line: &str) -> Result<(), Fail> {
-        let alloc = told.allocator();
-        let metadata = document_of(alloc, line)?;
-        let setting = setting_of(alloc, line)?;
-        let ids = admit(alloc, &metadata)?;
-        let document = Document::new(alloc, &metadata, &ids)?;
-        let derived = Derived::of(alloc, tables_of(alloc, &document, &setting)?)?;
-        let facts = derived.facts(alloc)?;
-        for fact in &facts {
-            push_refused(told, &derived, fact)?;
+impl ToldOfDerived for Answers {
+    fn push<'a>(
+        told: &mut Text,
+        of: Told<'a, '_>,
+        derived: &Derived<'a>,
+        facts: &[BuildFact<'a>],
+    ) -> Result<(), Fail> {
+        for fact in facts {
+            push_refused(told, derived, fact)?;
         }
-        let said = check_built_closed(alloc, derived.tables(), &facts);
+        let said = check_built_closed(told.allocator(), of.tables, facts);
         push_said(told, said, "closed");
         Ok(())
     }
@@ -251,15 +234,15 @@ impl Tell for Answers {
 
 #[test]
 fn steps_are_checked(rt: HostRuntime) -> Result<(), Fail> {
-    hold::<Steps>(rt.alloc(), STEPS)
+    hold::<OfProgram<OfTables<Steps>>>(rt.alloc(), STEPS)
 }
 
 #[test]
 fn lists_of_facts_are_checked(rt: HostRuntime) -> Result<(), Fail> {
-    hold::<Lists>(rt.alloc(), LISTS)
+    hold::<OfProgram<OfTables<Lists>>>(rt.alloc(), LISTS)
 }
 
 #[test]
 fn what_is_derived_is_accepted(rt: HostRuntime) -> Result<(), Fail> {
-    hold::<Answers>(rt.alloc(), DERIVED)
+    hold::<OfBuild<OfDerived<Answers>>>(rt.alloc(), DERIVED)
 }

@@ -1,6 +1,6 @@
 //! Where cargo builds something else than what the resolved graph alone keeps, which has no sides, no resolver and no request.
 
-use crate::builds::Units;
+use crate::builds::{Needs, Units};
 use krates_samples::table::{Row, hold};
 use std::test::Fail;
 
@@ -64,6 +64,44 @@ const MEMBER_ALONE: &[Row] = &[
     ),
 ];
 
+/// The same, where a build that is asked for less isn't a part of one that is asked for more: if no member is asked for, each turns on features
+/// of its dependencies, and otherwise only those do that are asked for.
+const LESS_WITHOUT_MEMBERS: &[Row] = &[
+    (
+        "a c|b c&with=f|c;f= / members a b / targets a:lib b:lib c:lib / build 2 package=c",
+        "c/f, c Lib@linux, ",
+    ),
+    (
+        "a c|b c&with=f|c;f= / members a b / targets a:lib b:lib c:lib / build 2 package=c,a",
+        "a Lib@linux, c Lib@linux, ",
+    ),
+];
+
+/// The same in the folder of `a` by the first resolver, for which `b/f` is a feature of the dependency `b` of `a`, unless the member `b` is asked
+/// for too: then it is one of that member. Both are built either way.
+const LESS_OF_THE_FOLDER: &[Row] = &[
+    (
+        "a b?;y=dep:b|b;f= / members a b / root a / targets a:lib b:lib / build 1 features=b/f",
+        "b/f, a Lib@linux, b Lib@linux, ",
+    ),
+    (
+        "a b?;y=dep:b|b;f= / members a b / root a / targets a:lib b:lib / build 1 package=a,b features=b/f",
+        "b/f, a Lib@linux, b Lib@linux, ",
+    ),
+];
+
+/// What units need in the same builds: only the one that is asked for less turns on the dependency, so that `a` needs `b` there.
+const NEEDED_OF_THE_FOLDER: &[Row] = &[
+    (
+        "a b?;y=dep:b|b;f= / members a b / root a / targets a:lib b:lib / build 1 features=b/f",
+        "a@linux>b@linux, ",
+    ),
+    (
+        "a b?;y=dep:b|b;f= / members a b / root a / targets a:lib b:lib / build 1 package=a,b features=b/f",
+        "",
+    ),
+];
+
 #[test]
 fn the_first_resolver_counts_dev_dependencies(rt: HostRuntime) -> Result<(), Fail> {
     hold::<Units>(rt.alloc(), FIRST_RESOLVER)
@@ -87,4 +125,19 @@ fn optional_dependencies_give_their_feature(rt: HostRuntime) -> Result<(), Fail>
 #[test]
 fn members_lack_features_of_others(rt: HostRuntime) -> Result<(), Fail> {
     hold::<Units>(rt.alloc(), MEMBER_ALONE)
+}
+
+#[test]
+fn fewer_packages_may_have_more_features(rt: HostRuntime) -> Result<(), Fail> {
+    hold::<Units>(rt.alloc(), LESS_WITHOUT_MEMBERS)
+}
+
+#[test]
+fn features_of_a_member_are_enabled_either_way(rt: HostRuntime) -> Result<(), Fail> {
+    hold::<Units>(rt.alloc(), LESS_OF_THE_FOLDER)
+}
+
+#[test]
+fn fewer_packages_may_need_more(rt: HostRuntime) -> Result<(), Fail> {
+    hold::<Needs>(rt.alloc(), NEEDED_OF_THE_FOLDER)
 }

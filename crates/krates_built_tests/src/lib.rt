@@ -18,6 +18,8 @@ mod lists;
 #[cfg(test)]
 mod naming;
 #[cfg(test)]
+mod of_build;
+#[cfg(test)]
 mod requests;
 #[cfg(test)]
 mod resolvers;

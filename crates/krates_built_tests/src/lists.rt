@@ -1,12 +1,9 @@
 //! What cargo builds for a small document, list by list, or why it isn't said.
 
-use crate::builds::{
-    Told, document_of, name_of, push_edge, push_platform, push_side, push_unit, setting_of,
-};
-use krates_built::{Units, units_of};
-use krates_document::admission::admit;
-use krates_questions::Document;
-use krates_samples::table::{Row, Tell, hold};
+use crate::builds::{Told, name_of, push_edge, push_platform, push_side, push_unit};
+use crate::of_build::{OfBuild, OfUnits, ToldOfUnits};
+use krates_built::Units;
+use krates_samples::table::{Row, hold};
 use krates_text::text::Text;
 use std::alloc::AllocError;
 use std::test::Fail;
@@ -61,7 +58,12 @@ fn push_bar(told: &mut Text) {
 fn push_features(told: &mut Text, of: Told<'_, '_>, built: &Units<'_>) -> Result<(), AllocError> {
     for feature in built.features() {
         let names = built.features_of(told.allocator(), feature.krate, feature.side)?;
-        write!(told, "{}/{}", name_of(of, feature.krate), feature.name);
+        write!(
+            told,
+            "{}/{}",
+            name_of(of.document, feature.krate),
+            feature.name
+        );
         if !names.as_slice().contains(&feature.name) {
             told.push_str("?");
         }
@@ -78,7 +80,7 @@ fn push_compiled(told: &mut Text, of: Told<'_, '_>, built: &Units<'_>) {
     }
     push_bar(told);
     for script in built.scripts() {
-        write!(told, "{} script", name_of(of, script.krate));
+        write!(told, "{} script", name_of(of.document, script.krate));
         push_side(told, script.side);
     }
     push_bar(told);
@@ -87,7 +89,7 @@ fn push_compiled(told: &mut Text, of: Told<'_, '_>, built: &Units<'_>) {
 /// Writes the runs, the needs, and the runs that runs need.
 fn push_edges(told: &mut Text, of: Told<'_, '_>, built: &Units<'_>) {
     for run in built.runs() {
-        told.push_str(name_of(of, run.krate));
+        told.push_str(name_of(of.document, run.krate));
         push_platform(told, of, run.placement.platform);
         told.push_str(", ");
     }
@@ -107,33 +109,19 @@ fn push_edges(told: &mut Text, of: Told<'_, '_>, built: &Units<'_>) {
     }
 }
 
-/// The lists of a line's build.
+/// The lists of a build.
 struct Lists;
 
-impl Tell for Lists {
-    fn tell(told: &mut Text, line: &str) -> Result<(), Fail> {
-        let alloc = told.allocator();
-        let metadata = document_of(alloc, line)?;
-        let setting = setting_of(alloc, line)?;
-        let ids = admit(alloc, &metadata)?;
-        let document = Document::new(alloc, &metadata, &ids)?;
-        match units_of(alloc, &document, &setting) {
-            Ok(built) => {
-                let of = Told {
-                    document: &document,
-                    tables: built.tables(),
-                };
-                push_features(told, of, &built)?;
-                push_compiled(told, of, &built);
-                push_edges(told, of, &built);
-            }
-            Err(refusal) => write!(told, "{refusal}"),
-        }
+impl ToldOfUnits for Lists {
+    fn push(told: &mut Text, of: Told<'_, '_>, units: &Units<'_>) -> Result<(), AllocError> {
+        push_features(told, of, units)?;
+        push_compiled(told, of, units);
+        push_edges(told, of, units);
         Ok(())
     }
 }
 
 #[test]
 fn builds_are_listed(rt: HostRuntime) -> Result<(), Fail> {
-    hold::<Lists>(rt.alloc(), LISTS)
+    hold::<OfBuild<OfUnits<Lists>>>(rt.alloc(), LISTS)
 }

@@ -1,23 +1,20 @@
 //! The words of facts about a build of a small document, and which words name none.
 
-use crate::builds::{document_of, setting_of};
+use crate::builds::Told;
+use crate::of_build::{
+    OfBuild, OfDerived, OfProgram, OfTables, PROGRAM, ToldOfDerived, ToldOfTables,
+};
 use krates_build_facts::BuildFact;
 use krates_build_naming::{FactNames, fact_named, words_of};
-use krates_build_tables::tables_of::tables_of;
-use krates_document::admission::admit;
 use krates_grounding::Derived;
-use krates_questions::Document;
-use krates_samples::table::{Row, Tell, hold};
+use krates_samples::table::{Row, hold};
 use krates_text::text::Text;
 use std::alloc::{AllocError, Global};
 use std::test::Fail;
 
-/// The program `a`, which depends on the library `b`.
-const BUILD: &str = "a b|b / targets a:bin b:lib / build 2";
-
 /// A document, and what is asked for; and the words of each fact that follows, in the order of facts.
 const WRITTEN: &[Row] = &[(
-    BUILD,
+    PROGRAM,
     "met|path+file:///w/a#0.1.0|root\n\
         met|path+file:///w/b#0.1.0|dependency\n\
         linked|path+file:///w/a#0.1.0|path+file:///w/b#0.1.0|normal|*|b\n\
@@ -68,6 +65,14 @@ const READ: &[Row] = &[
     ("compiled A bin a build windows targets", "Platform(5)"),
 ];
 
+/// What the words of facts are read against.
+fn names_in<'a, 's>(of: Told<'a, 's>) -> FactNames<'s, 'a> {
+    FactNames {
+        ids: of.document.crate_ids(),
+        tables: of.tables,
+    }
+}
+
 /// Writes the words of a fact, or that it has none that name it.
 fn push_words(
     told: &mut Text,
@@ -86,19 +91,15 @@ fn push_words(
 /// The words of each fact that follows.
 struct Written;
 
-impl Tell for Written {
-    fn tell(told: &mut Text, line: &str) -> Result<(), Fail> {
-        let alloc = told.allocator();
-        let metadata = document_of(alloc, line)?;
-        let setting = setting_of(alloc, line)?;
-        let ids = admit(alloc, &metadata)?;
-        let document = Document::new(alloc, &metadata, &ids)?;
-        let derived = Derived::of(alloc, tables_of(alloc, &document, &setting)?)?;
-        let names = FactNames {
-            ids: document.crate_ids(),
-            tables: derived.tables(),
-        };
-        for fact in &derived.facts(alloc)? {
+impl ToldOfDerived for Written {
+    fn push<'a>(
+        told: &mut Text,
+        of: Told<'a, '_>,
+        _derived: &Derived<'a>,
+        facts: &[BuildFact<'a>],
+    ) -> Result<(), Fail> {
+        let names = names_in(of);
+        for fact in facts {
             push_words(told, &names, fact)?;
         }
         Ok(())
@@ -122,20 +123,10 @@ fn words_in(alloc: Global, line: &str) -> Result<Vec<String>, AllocError> {
 /// The fact that words name.
 struct Named;
 
-impl Tell for Named {
-    fn tell(told: &mut Text, line: &str) -> Result<(), Fail> {
-        let alloc = told.allocator();
-        let metadata = document_of(alloc, BUILD)?;
-        let setting = setting_of(alloc, BUILD)?;
-        let ids = admit(alloc, &metadata)?;
-        let document = Document::new(alloc, &metadata, &ids)?;
-        let tables = tables_of(alloc, &document, &setting)?;
-        let names = FactNames {
-            ids: document.crate_ids(),
-            tables: &tables,
-        };
-        let words = words_in(alloc, line)?;
-        match fact_named(&names, &words) {
+impl ToldOfTables for Named {
+    fn push(told: &mut Text, of: Told<'_, '_>, line: &str) -> Result<(), Fail> {
+        let words = words_in(told.allocator(), line)?;
+        match fact_named(&names_in(of), &words) {
             Ok(fact) => write!(told, "{fact:?}"),
             Err(fault) => write!(told, "{fault:?}"),
         }
@@ -145,10 +136,10 @@ impl Tell for Named {
 
 #[test]
 fn facts_have_words(rt: HostRuntime) -> Result<(), Fail> {
-    hold::<Written>(rt.alloc(), WRITTEN)
+    hold::<OfBuild<OfDerived<Written>>>(rt.alloc(), WRITTEN)
 }
 
 #[test]
 fn words_name_facts(rt: HostRuntime) -> Result<(), Fail> {
-    hold::<Named>(rt.alloc(), READ)
+    hold::<OfProgram<OfTables<Named>>>(rt.alloc(), READ)
 }

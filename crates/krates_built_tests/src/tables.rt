@@ -1,13 +1,13 @@
 //! What tables of builds are made of: references, machines, and what a document says of itself.
 
 use crate::builds::machine_of;
+use crate::of_build::{OfBuild, ToldOfBuild};
 use krates_build_tables::FeatureReference;
-use krates_document::admission::admit;
 use krates_questions::Document;
-use krates_samples::documents;
 use krates_samples::table::{Row, Tell, hold};
 use krates_text::features::ParsedFeature;
 use krates_text::text::Text;
+use krates_units::BuildSetting;
 use std::test::Fail;
 
 /// A reference, and a name; the feature of the dependency of that name that it names, and whether it turns that on (Cargo Book,
@@ -75,11 +75,13 @@ const ROOTS: &[Row] = &[("a", "/w"), ("a|b / members a b / root b", "/w b")];
 /// What a document says of itself.
 struct Rooted;
 
-impl Tell for Rooted {
-    fn tell(told: &mut Text, line: &str) -> Result<(), Fail> {
-        let metadata = documents::metadata(told.allocator(), line)?;
-        let ids = admit(told.allocator(), &metadata)?;
-        let document = Document::new(told.allocator(), &metadata, &ids)?;
+impl ToldOfBuild<BuildSetting> for Rooted {
+    fn push<'a>(
+        told: &mut Text,
+        document: &Document<'a>,
+        _asked: &'a BuildSetting,
+        _words: &str,
+    ) -> Result<(), Fail> {
         told.push_str(document.metadata().workspace_root.as_str());
         if let Some(root) = document.graph_root() {
             write!(told, " {}", root.name());
@@ -90,5 +92,5 @@ impl Tell for Rooted {
 
 #[test]
 fn documents_have_roots(rt: HostRuntime) -> Result<(), Fail> {
-    hold::<Rooted>(rt.alloc(), ROOTS)
+    hold::<OfBuild<Rooted>>(rt.alloc(), ROOTS)
 }

@@ -1,14 +1,13 @@
 //! Why units are compiled, in a build of a small document.
 
-use crate::builds::{document_of, setting_of};
+use crate::builds::Told;
+use crate::of_build::{OfBuild, OfDerived, ToldOfDerived};
 use krates_build_facts::{BuildFact, BuildStep};
-use krates_build_tables::tables_of::tables_of;
-use krates_document::admission::admit;
 use krates_grounding::Derived;
-use krates_questions::Document;
-use krates_samples::table::{Row, Tell, hold};
+use krates_samples::table::{Row, hold};
 use krates_text::text::Text;
 use krates_units::Meeting;
+use std::alloc::{AllocError, Global};
 use std::test::Fail;
 
 /// A document, and what is asked for; and how many steps derive each unit.
@@ -75,24 +74,30 @@ fn push_why<'a>(told: &mut Text, derived: &Derived<'a>, fact: &BuildFact<'a>) ->
     Ok(())
 }
 
-/// How many steps derive each unit of a line's build.
+/// Whether there are steps to this fact.
+fn has_steps<'a>(
+    alloc: Global,
+    derived: &Derived<'a>,
+    fact: &BuildFact<'a>,
+) -> Result<bool, AllocError> {
+    let found = derived.why(alloc, fact)?;
+    Ok(found.is_some())
+}
+
+/// How many steps derive each unit of a build.
 struct Why;
 
-impl Tell for Why {
-    fn tell(told: &mut Text, line: &str) -> Result<(), Fail> {
-        let alloc = told.allocator();
-        let metadata = document_of(alloc, line)?;
-        let setting = setting_of(alloc, line)?;
-        let ids = admit(alloc, &metadata)?;
-        let document = Document::new(alloc, &metadata, &ids)?;
-        let derived = Derived::of(alloc, tables_of(alloc, &document, &setting)?)?;
-        for fact in &derived.facts(alloc)? {
-            push_why(told, &derived, fact)?;
+impl ToldOfDerived for Why {
+    fn push<'a>(
+        told: &mut Text,
+        _of: Told<'a, '_>,
+        derived: &Derived<'a>,
+        facts: &[BuildFact<'a>],
+    ) -> Result<(), Fail> {
+        for fact in facts {
+            push_why(told, derived, fact)?;
         }
-        if derived
-            .why(alloc, &BuildFact::Met(9, Meeting::Root))?
-            .is_some()
-        {
+        if has_steps(told.allocator(), derived, &BuildFact::Met(9, Meeting::Root))? {
             told.push_str("a crate that isn't there is met");
         }
         Ok(())
@@ -101,5 +106,5 @@ impl Tell for Why {
 
 #[test]
 fn units_follow_by_steps(rt: HostRuntime) -> Result<(), Fail> {
-    hold::<Why>(rt.alloc(), WHY)
+    hold::<OfBuild<OfDerived<Why>>>(rt.alloc(), WHY)
 }

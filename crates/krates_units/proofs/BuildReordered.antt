@@ -14,7 +14,7 @@ use Rattle.krates_rules.specs.Resolved.{Resolved, resolved, ReadsAs, HasGraphWit
 use Rattle.krates_rules.proofs.OnlyOne.{place_in}
 use Rattle.krates_rules.proofs.Readings.{left_of, right_of}
 use Rattle.krates_rules.proofs.Standings.{contains_at}
-use Rattle.krates_units.specs.Answered.{NamesPackage, HasNamed, TakesAsRoot, TakesLacking, NamesFeature, HasIdleFlag, IsAnswered}
+use Rattle.krates_units.specs.Answered.{NamesPackage, HasFeatureOf, HasNamed, TakesAsRoot, TakesLacking, NamesFeature, HasIdleFlag, IsAnswered}
 use Rattle.krates_units.specs.BuildFacts.{Fact, CompiledUnit}
 use Rattle.krates_units.specs.BuildReordering.{IsBuildOrderFree}
 use Rattle.krates_units.specs.BuildRules.{IsAsked}
@@ -348,10 +348,17 @@ derivable_like r t s f w x = derivable_within r s t s (like_within r t s w) x
 
 -- ---- requests
 
+feature_of_like : (r t : Resolved) (i : Id) (name f : Text) → SaysLike r t → HasFeatureOf r i name f → HasFeatureOf t i name f
+feature_of_like r t i name f w x = record {
+  knows = name_like r t i name w x.knows;
+  one_slash = x.one_slash;
+  each = λ e d resolves parent is. feature_like r t e.child f w (x.each e d (resolves_like t r e d (swapped r t w) resolves) parent is);
+}
+
 named_like : (r t : Resolved) (i : Id) (v : Reference) → SaysLike r t → HasNamed r i v → HasNamed t i v
 named_like r t i (krate d) w x = x
-named_like r t i (weak d f) w x = name_like r t i d w x
-named_like r t i (strong d f) w x = name_like r t i d w x
+named_like r t i (weak d f) w x = feature_of_like r t i d f w x
+named_like r t i (strong d f) w x = feature_of_like r t i d f w x
 named_like r t i (simple f) w x = feature_like r t i f w x
 
 takes_as_root_like : (r t : Resolved) (s : BuildSettingModel) (i : Id) (v u : Reference) → SaysLike r t

@@ -1,15 +1,18 @@
 -- Which requests of a build name something (Cargo Book, "cargo build", "Package Selection", and "Features", "Command-line feature
--- options"; who takes a feature was found by trial). Cargo refuses a build of which a request names nothing. What else it refuses
--- isn't asked here: a dependency that lacks the feature which is named of it, and a specification that fits several packages, or
--- only one that the build doesn't reach.
-use Rattle.std.specs.Prelude.{◌≡◌, ◌⊎◌, List, [], true, Contains}
-use Rattle.krates_cm.specs.Document.{Text, PackageModel}
+-- options"; who takes a feature, and which packages have to have it, was found by trial). Cargo refuses a build of which a request
+-- names nothing. What else it refuses isn't asked here: a specification that fits several packages, or only one that the build
+-- doesn't reach.
+use Rattle.std.specs.Prelude.{◌≡◌, ◌⊎◌, List, [], true, Contains, codes}
+use Rattle.krates_cm.specs.Document.{Text, DependencyModel, PackageModel}
 use Rattle.krates_ids.specs.PackageSpecification.{Specification, SpecFits}
 use Rattle.krates_text.specs.FeatureReference.{Reference, IsReference, krate, weak, strong, simple}
-use Rattle.krates_rules.specs.Facts.{Id}
+use Rattle.krates_text.specs.Text.{LacksText}
+use Rattle.krates_rules.specs.DeclaredDependency.{declared_name}
+use Rattle.krates_rules.specs.Facts.{Id, Edge}
 use Rattle.krates_rules.specs.Resolved.{Resolved}
 use Rattle.krates_units.specs.BuildSetting.{BuildSettingModel, SelectionModel, default_members, every_member, packages}
 use Rattle.krates_units.specs.Requests.{RootKind, AsksAlike, HasFeature, IsBuildRootAs, IsSelected, KnowsName, SelectsNoMember, Takes}
+use Rattle.krates_units.specs.Resolves.{Resolves}
 
 -- ---- packages
 
@@ -35,11 +38,18 @@ SelectsSome r s = (i : Id) × IsSelected r s i
 
 -- ---- features
 
--- the crate has what the reference names: the feature, or the dependency; the command line may not say `dep:`
+-- The crate declares a dependency of this name, and each package that the name leads to has the feature, even if the dependency is
+-- optional, for tests or for another target. One that the document has no edge for leads nowhere. A second slash is refused.
+pub record HasFeatureOf (r : Resolved) (i : Id) (name feature : Text) : Type 0 where
+  pub knows : KnowsName r i name
+  pub one_slash : LacksText (codes "/") feature
+  pub each : (e : Edge) (d : DependencyModel) → Resolves r e d → e.parent ≡ i → declared_name d ≡ name → HasFeature r e.child feature
+
+-- the crate has what the reference names: the feature, or that of the dependency; the command line may not say `dep:`
 abbrev pub HasNamed : Resolved → Id → Reference → Type 0
 HasNamed r i (krate d) = ⊥
-HasNamed r i (weak d f) = KnowsName r i d
-HasNamed r i (strong d f) = KnowsName r i d
+HasNamed r i (weak d f) = HasFeatureOf r i d f
+HasNamed r i (strong d f) = HasFeatureOf r i d f
 HasNamed r i (simple f) = HasFeature r i f
 
 -- the crate is a root, and takes this of the reference
