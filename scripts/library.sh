@@ -7,7 +7,7 @@
 #
 #     copy       copies the crate `krates` and all crates that it needs into a repository of your own, whose top is FOLDER
 #     bindings   makes the static library that Rust and C call, and tries it from both, at the end with COUNT damaged documents,
-#                30,000 where none is given; run it behind `rt ci`, in the same folder. With --unproved it is only compiled, in two and a half minutes
+#                30,000 where none is given; run it behind `rt ci`, in the same folder. With --unproved it is only compiled, in two minutes
 #
 # The file of the word, in scripts/library, says more. The status is 0 where all of it went well, and 2 where a word is wrong,
 # or something is missing: a program that it wants, or what the gate leaves.

@@ -12,7 +12,7 @@ fn main() {
     }
     if let Some(missing) = archives.iter().find(|archive| !archive.exists()) {
         println!(
-            "cargo::error={} is not there: `scripts/library.sh bindings --unproved` makes it in two and a half minutes, and \
+            "cargo::error={} is not there: `scripts/library.sh bindings --unproved` makes it in two minutes, and \
              `scripts/library.sh bindings` the proved one, after `rt ci`; KRATES_LIB_DIR names another folder",
             missing.display()
         );

@@ -1,5 +1,5 @@
 #!/usr/bin/env bash
-# Makes the static library that Rust and C call without proving it, in two and a half minutes, and asks it from C once.
+# Makes the static library that Rust and C call without proving it, in two minutes, and asks it from C once.
 #
 # The archive and the toolchain's functions for memory come to bindings/out, in place of what is there. They are compiled from the sources that the
 # gate proves, and optimised, but nothing is proved. It wants gcc. The status is 0 where all of it went well.
@@ -12,7 +12,7 @@ out=$PWD/bindings/out
 room=$(mktemp -d)
 trap 'stop_jobs; rm -rf "$room"' EXIT
 
-echo "compiling the static library, unproved, which takes two and a half minutes"
+echo "compiling the static library, unproved, which takes two minutes"
 mkdir -p "$out" "$room/copy"
 scripts/unproved/copy.sh "$room/copy" --marked
 scripts/unproved/join.sh library "$room/copy" krates_c

@@ -35,7 +35,8 @@ compile() {
     "$kit/toolchain/bin/clang" "${words[@]/#module.o/$name.o}" "${@:2}"
 }
 
-# Compiles a module's text, NAME.ll, optimised, as two halves side by side: NAME.0.o and NAME.1.o.
+# Compiles a module's text, NAME.ll, optimised, as two halves side by side: NAME.0.o and NAME.1.o. That takes a fifth more in all, so programs, of
+# which several are compiled at once, aren't cut.
 compile_halves() {
     local half
     for half in 0 1; do awk -v half="$half" -f "$here/halves.awk" "$1.ll" > "$1.$half.ll"; done
@@ -86,8 +87,8 @@ for_each_crate() {
 case $kind in
     program)
         { text_without "i64 $number" && echo "define internal i64 $number { ret i64 $1 }"; } > own.ll
-        compile_halves own
-        link_to program own.0.o own.1.o
+        compile own "${optimised[@]}"
+        link_to program own.o
         mv program "$made"
         ;;
     archive)
