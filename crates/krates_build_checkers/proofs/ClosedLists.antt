@@ -8,12 +8,13 @@ use Rattle.krates_rules.proofs.Members.{contains_of, member_of, spread_of}
 use Rattle.krates_build_tables.specs.declared.tables.Tables.{Tables}
 use Rattle.krates_build_facts.specs.FactModels.{FactModel, RuleModel, Met, LinkedReference, LinkedFeature, LinkedName, Linked, Lost, Activated, ActivatedReference, ActivatedFeature, ActivatedName, Used, Available, Compiled, Needed, ScriptRun, ScriptCompiled, RunNeeded, fact_view}
 use Rattle.krates_build_facts.specs.InitialRows.{initial_rows}
-use Rattle.krates_build_facts.specs.Meanings.{FollowsAsDerivable, IsRow, by_row}
+use Rattle.krates_build_facts.specs.Meanings.{Follows, FollowsAsDerivable, IsRow, by_row}
 use Rattle.krates_build_facts.specs.Rows.{rows_of, rule}
 use Rattle.krates_build_facts.specs.declared.facts.BuildFact.{BuildFact}
 use Rattle.krates_build_facts.proofs.BegunRows.{begun}
 use Rattle.krates_build_facts.proofs.RowLists.{Each, in_flat}
-use Rattle.krates_build_checkers.specs.Closedness.{ClosedHasAll, ClosedHasDerivable, IsClosed, IsRequired, MayMatter, available_rows, available_to_crate, available_to_target}
+use Rattle.krates_build_facts.specs.Mattering.{IsRequired, MayMatter}
+use Rattle.krates_build_checkers.specs.Closedness.{ClosedHasAll, ClosedHasDerivable, FollowingIsClosed, IsClosed, available_rows, available_to_crate, available_to_target}
 use Rattle.krates_build_checkers.specs.Finding.{Finds}
 use Rattle.krates_build_checkers.specs.GivenFacts.{HasFacts, IsOpen, facts_of_set}
 use Rattle.krates_build_checkers.specs.declared.sought.Sought.TheVariants as soughts
@@ -77,6 +78,11 @@ closed_has_all t facts closed f (by_row {premises = ps} row more) matters =
 pub closed_has_derivable : FollowsAsDerivable → ClosedHasDerivable
 closed_has_derivable exact r s ids ms t tables facts closed f derivable number means matters =
     closed_has_all t facts closed number ((exact r s ids ms t tables number f means).1 derivable) matters
+
+-- what follows from facts that follow does too
+pub following_is_closed : FollowingIsClosed
+following_is_closed t facts sound complete ps f row matters all =
+    complete f matters (by_row row (λ p c. All-contains (Follows t) facts p sound (All-contains (Contains facts) ps p all c)))
 
 -- ---- how a list is told to be closed
 

@@ -28,7 +28,7 @@ use Rattle.krates_units.specs.declared.sides.Meeting.TheVariants as meetings
 use Rattle.krates_units.specs.declared.sides.Side.{Side}
 use Rattle.krates_units.specs.declared.sides.Side.TheVariants as sides
 use Rattle.krates_build_facts.proofs.RowLists.{Each, EachRow, each_more, each_none, each_one, each_two, each_unless, rows_append, rows_flat, rows_if, rows_mapped, rows_more, rows_none, rows_one, rows_some, rows_unless, rows_where}
-use Rattle.krates_build_checkers.specs.Closedness.{MayMatter}
+use Rattle.krates_build_facts.specs.Mattering.{MayMatter}
 
 -- what the instance uses and what it gives may matter
 pub record Matters (t : Tables) (ps : List FactModel) (n : FactModel) : Type 0 where

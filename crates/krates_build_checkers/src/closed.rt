@@ -21,7 +21,8 @@ use std::collections::BTreeSet;
 
 /// Checks that a list of facts is closed for the tables of a document and a build: each fact that follows by an instance of a rule from
 /// facts of the list is in it. A fact that says a text is available has to be in it only where a target of the crate requires the text.
-/// So each fact that follows is in the list (`laws::closed_lists`): what isn't in it isn't built.
+/// So each fact that follows is in the list (`laws::closed_lists`): what isn't in it isn't built. The facts that `Derived::facts` of
+/// `krates_grounding` gives are accepted, since they are all that follow and may matter.
 ///
 /// It is refused as `Open`. It may instead return `Memory`.
 ///

@@ -35,7 +35,7 @@ pub enum Unanswered<'a> {
 /// Where the resolver is a later one, or the folder of the build has no package, a feature has to be one of a selected member.
 /// Otherwise the package of the folder has to have it, even if that isn't selected, unless `NAME/FEATURE` names another member that
 /// is. A dependency that a feature is named of has to be declared. Each package that it leads to has to have the feature, even if it
-/// is optional, for tests or for another target; if the document has no edge for it, it leads to none.
+/// is optional, for tests or for another target; if the document has no edge for it, it leads to none. A second slash is refused.
 ///
 /// The only error is running out of memory. Time O(s p + n (log n + m + s) + f n (k² log n + k d)) for s specifications, p packages, n
 /// crates with d dependencies each, k of them under one name, m default members and f features.

@@ -6,7 +6,7 @@ use Rattle.std.specs.List.Sorted.{IsStrictlySortedBy}
 use Rattle.krates_rules.proofs.Members.{contains_of, member_of}
 use Rattle.krates_build_tables.specs.declared.tables.Tables.{Tables}
 use Rattle.krates_build_facts.specs.FactModels.{FactModel, fact_view}
-use Rattle.krates_grounding.specs.Grounding.{SaysNoText}
+use Rattle.krates_build_facts.specs.Mattering.{MayMatter}
 use Rattle.krates_build_facts.specs.Meanings.{Follows}
 use Rattle.krates_build_facts.specs.FactOrder.{fact_cmp}
 use Rattle.krates_build_facts.specs.declared.facts.BuildFact.{BuildFact}
@@ -37,7 +37,7 @@ lists_more fs gs f old new is h added = subst (λ (hs : List FactModel). AreList
 -- ---- of all that follow
 
 module _ (t : Tables) (facts : List BuildFact) (sound : All (Follows t) (map fact_view facts))
-    (complete : (f : FactModel) → SaysNoText f → Follows t f → Contains (map fact_view facts) f) (ordered : IsStrictlySortedBy fact_cmp facts) where
+    (complete : (f : FactModel) → MayMatter t f → Follows t f → Contains (map fact_view facts) f) (ordered : IsStrictlySortedBy fact_cmp facts) where
   list_found : {A : Type 0} (pick : FactModel → Option A) (fact : A → FactModel) (order : A → A → Ordering) → IsPick pick fact order → (items : List A)
       → items ≡ filter_map pick (map fact_view facts) → IsListOf t fact order items
   list_found {A} pick fact order one items is =
@@ -48,7 +48,7 @@ module _ (t : Tables) (facts : List BuildFact) (sound : All (Follows t) (map fac
               let w = picked_from pick fs x (member_of _ x (subst (λ (xs : List A). Contains xs x) is c)) in
               subst (Follows t) (one.picked w.0 x w.2) (All-contains (Follows t) fs w.0 sound (contains_of fs w.0 w.1))),
           λ h. (
-              let there = member_of fs (fact x) (complete (fact x) (one.plain x) h) in
+              let there = member_of fs (fact x) (complete (fact x) (one.matters t x) h) in
               subst (λ (xs : List A). Contains xs x) (sym is) (contains_of _ x (picked_of pick fs (fact x) x there (one.picks x)))),
         );
         ascending = subst (IsStrictlySortedBy order) (sym (is ∙ picked_map pick fact_view facts))

@@ -2,7 +2,8 @@
 use Rattle.std.proofs.Common.{◌≡◌, Option, Some, Ordering, Less, refl, ap, subst}
 use Rattle.std.proofs.lemmas.Option.{same_Some}
 use Rattle.krates_build_facts.specs.FactModels.{FactModel, ActivatedFeature, Compiled, Lost, Needed, RunNeeded, ScriptCompiled, ScriptRun, fact_view}
-use Rattle.krates_grounding.specs.Grounding.{SaysNoText}
+use Rattle.krates_build_facts.specs.Mattering.{MayMatter}
+use Rattle.krates_build_tables.specs.declared.tables.Tables.{Tables}
 use Rattle.krates_build_facts.specs.FactOrder.{fact_cmp}
 use Rattle.krates_build_facts.specs.declared.facts.BuildFact.{BuildFact}
 use Rattle.krates_build_facts.specs.declared.facts.BuildFact.TheVariants as facts
@@ -19,7 +20,7 @@ use Rattle.krates_built.specs.declared.places.ScriptPlace.{ScriptPlace}
 pub record IsPick {A : Type 0} (pick : FactModel → Option A) (fact : A → FactModel) (order : A → A → Ordering) : Type 0 where
   pub picked : (f : FactModel) (x : A) → pick f ≡ Some x → f ≡ fact x
   pub picks : (x : A) → pick (fact x) ≡ Some x
-  pub plain : (x : A) → SaysNoText (fact x)
+  pub matters : (t : Tables) (x : A) → MayMatter t (fact x)
   pub keeps : (f g : BuildFact) (x y : A) → pick (fact_view f) ≡ Some x → pick (fact_view g) ≡ Some y → fact_cmp f g ≡ Less → order x y ≡ Less
 
 -- what is said of two places is said of equal ones
@@ -39,7 +40,7 @@ unit_keeps (facts.Compiled u) _ x y a b less = absurd cc
 unit_keeps _ g x y a b less = absurd cc
 
 pub unit_pick : IsPick unit_in Compiled unit_cmp
-unit_pick = record { picked = unit_picked; picks = λ x. refl; plain = λ x. tt; keeps = unit_keeps }
+unit_pick = record { picked = unit_picked; picks = λ x. refl; matters = λ t x. tt; keeps = unit_keeps }
 
 -- ---- build scripts
 
@@ -54,7 +55,7 @@ script_keeps (facts.ScriptCompiled c n) _ x y a b less = absurd cc
 script_keeps _ g x y a b less = absurd cc
 
 pub script_pick : IsPick script_in script_fact script_cmp
-script_pick = record { picked = script_picked; picks = λ x. refl; plain = λ x. tt; keeps = script_keeps }
+script_pick = record { picked = script_picked; picks = λ x. refl; matters = λ t x. tt; keeps = script_keeps }
 
 -- ---- runs
 
@@ -69,7 +70,7 @@ run_keeps (facts.ScriptRun c n) _ x y a b less = absurd cc
 run_keeps _ g x y a b less = absurd cc
 
 pub run_pick : IsPick run_in run_fact run_cmp
-run_pick = record { picked = run_picked; picks = λ x. refl; plain = λ x. tt; keeps = run_keeps }
+run_pick = record { picked = run_picked; picks = λ x. refl; matters = λ t x. tt; keeps = run_keeps }
 
 -- ---- needs
 
@@ -84,7 +85,7 @@ need_keeps (facts.Needed l k u) _ x y a b less = absurd cc
 need_keeps _ g x y a b less = absurd cc
 
 pub need_pick : IsPick need_in need_fact need_cmp
-need_pick = record { picked = need_picked; picks = λ x. refl; plain = λ x. tt; keeps = need_keeps }
+need_pick = record { picked = need_picked; picks = λ x. refl; matters = λ t x. tt; keeps = need_keeps }
 
 -- ---- needs of runs
 
@@ -99,7 +100,7 @@ run_need_keeps (facts.RunNeeded l k u) _ x y a b less = absurd cc
 run_need_keeps _ g x y a b less = absurd cc
 
 pub run_need_pick : IsPick run_need_in run_need_fact run_need_cmp
-run_need_pick = record { picked = run_need_picked; picks = λ x. refl; plain = λ x. tt; keeps = run_need_keeps }
+run_need_pick = record { picked = run_need_picked; picks = λ x. refl; matters = λ t x. tt; keeps = run_need_keeps }
 
 -- ---- features
 
@@ -114,7 +115,7 @@ feature_keeps (facts.ActivatedFeature c n f) _ x y a b less = absurd cc
 feature_keeps _ g x y a b less = absurd cc
 
 pub feature_pick : IsPick feature_in feature_fact feature_cmp
-feature_pick = record { picked = feature_picked; picks = λ x. refl; plain = λ x. tt; keeps = feature_keeps }
+feature_pick = record { picked = feature_picked; picks = λ x. refl; matters = λ t x. tt; keeps = feature_keeps }
 
 -- ---- what is lost
 
@@ -129,4 +130,4 @@ lost_keeps (facts.Lost c n) _ x y a b less = absurd cc
 lost_keeps _ g x y a b less = absurd cc
 
 pub lost_pick : IsPick lost_in lost_fact lost_cmp
-lost_pick = record { picked = lost_picked; picks = λ x. refl; plain = λ x. tt; keeps = lost_keeps }
+lost_pick = record { picked = lost_picked; picks = λ x. refl; matters = λ t x. tt; keeps = lost_keeps }

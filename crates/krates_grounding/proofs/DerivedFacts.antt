@@ -6,7 +6,7 @@ use Rattle.krates_build_tables.specs.declared.tables.Tables.{Tables}
 use Rattle.krates_closure.specs.Clauses.{ClausesModel, NamesBelow}
 use Rattle.krates_closure.specs.Closure.{Derivable}
 use Rattle.krates_build_facts.specs.FactModels.{FactModel, Lost, fact_view}
-use Rattle.krates_grounding.specs.Grounding.{SaysNoText}
+use Rattle.krates_build_facts.specs.Mattering.{MayMatter}
 use Rattle.krates_build_facts.specs.Meanings.{Follows}
 use Rattle.krates_build_facts.specs.FactOrder.{fact_cmp}
 use Rattle.krates_grounding.specs.Numbers.{AreDerived, IsNumberOf, IsOnlyAt}
@@ -27,8 +27,8 @@ module _ (t : Tables) (all : List FactModel) (numbers : BTreeMap BuildFact ℕ) 
   pub told_complete : (q : BuildFact) (n : ℕ) → get fact_cmp numbers q ≡ Some n → Follows t (fact_view q) → Derivable clauses.list n
   told_complete q n is f = (follows_derived t all clauses.list h.grounded below (fact_view q) f).derived n (number_here q n is).at
 
-  -- a fact that follows has a number unless it says a text
-  pub told_none : (q : BuildFact) → get fact_cmp numbers q ≡ None → SaysNoText (fact_view q) → Follows t (fact_view q) → ⊥
-  told_none q is plain f =
+  -- a fact that follows and may matter has a number
+  pub told_none : (q : BuildFact) → get fact_cmp numbers q ≡ None → MayMatter t (fact_view q) → Follows t (fact_view q) → ⊥
+  told_none q is matters f =
       let none : Contains all (fact_view q) → ⊥ = subst (IsNumberOf all (fact_view q)) is (h.ground.are_numbers q) in
-      none ((follows_derived t all clauses.list h.grounded below (fact_view q) f).numbered plain)
+      none ((follows_derived t all clauses.list h.grounded below (fact_view q) f).numbered matters)

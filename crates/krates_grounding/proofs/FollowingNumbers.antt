@@ -1,20 +1,23 @@
 -- What follows from the instances that the tables have is what the clauses derive that stand for those that were written.
-use Rattle.std.proofs.Common.{◌≡◌, ◌⊎◌, inl, inr, ℕ, ◌<◌, List, [], ◌∷◌, ◌++◌, All, Contains, Some, length, map, arith, sym, ap, ◌∙◌, subst}
+use Rattle.std.proofs.Common.{◌≡◌, ◌⊎◌, inl, inr, ℕ, ◌<◌, List, [], ◌∷◌, ◌++◌, All, Contains, Some, length, map, arith, refl, sym, ap, ◌∙◌, subst}
 use Rattle.std.proofs.lemmas.List.Elements.{All-contains, All-head, Contains-append_cases, Contains-append_left, Contains-append_right}
 use Rattle.std.proofs.lemmas.Option.{slice_get-get_or}
 use Rattle.std.specs.List.{flat_map, slice_get}
+use Rattle.krates_cm.specs.Document.{Text}
 use Rattle.krates_rules.proofs.Elements.{contains_image, contains_source}
 use Rattle.krates_rules.proofs.Standings.{contains_at}
 use Rattle.krates_build_tables.specs.declared.tables.Tables.{Tables}
 use Rattle.krates_closure.specs.Clauses.{ClauseModel, NamesBelow}
 use Rattle.krates_closure.specs.Closure.{Derivable, by_clause}
 use Rattle.krates_build_facts.specs.FactModels.{FactModel, RuleModel, Met, LinkedReference, LinkedFeature, LinkedName, Linked, Lost, Activated, ActivatedReference, ActivatedFeature, ActivatedName, Used, Available, Compiled, Needed, ScriptRun, ScriptCompiled, RunNeeded}
-use Rattle.krates_grounding.specs.Grounding.{IsGrounded, SaysNoText, fact_at, facts_of, rule_of}
+use Rattle.krates_grounding.specs.Grounding.{IsGrounded, fact_at, facts_of, required_texts, rule_of}
 use Rattle.krates_build_facts.specs.InitialRows.{initial_rows}
+use Rattle.krates_build_facts.specs.Mattering.{IsRequired, MayMatter}
 use Rattle.krates_build_facts.specs.Meanings.{Follows, IsRow, by_row}
 use Rattle.krates_build_facts.specs.Rows.{rows_of, rule}
 use Rattle.krates_build_facts.proofs.BegunRows.{Begins, begun}
 use Rattle.krates_build_facts.proofs.RowLists.{here, in_flat, there}
+use Rattle.krates_grounding.proofs.RequiredTexts.{required_among}
 
 -- ---- lists
 
@@ -28,25 +31,28 @@ from_flat f (x ∷ xs) y c = elim (Contains-append_cases (f x) (flat_map f xs) y
 
 -- ---- with which fact an instance begins
 
--- it is a premise and says no text, or it is the fact itself and says one
-begins_with : (b : FactModel) (ps : List FactModel) (n : FactModel) → Begins b ps n → (SaysNoText b × Contains ps b) ⊎ ((n ≡ b) × (SaysNoText n → ⊥))
-begins_with (Available c text) ps n is = inr (is, λ none. subst SaysNoText is none)
-begins_with (Met c m) ps n first = inl (tt, first)
-begins_with (LinkedReference c m v) ps n first = inl (tt, first)
-begins_with (LinkedFeature c m f) ps n first = inl (tt, first)
-begins_with (LinkedName c m d) ps n first = inl (tt, first)
-begins_with (Linked place) ps n first = inl (tt, first)
-begins_with (Lost c index) ps n first = inl (tt, first)
-begins_with (Activated c s) ps n first = inl (tt, first)
-begins_with (ActivatedReference c s v) ps n first = inl (tt, first)
-begins_with (ActivatedFeature c s f) ps n first = inl (tt, first)
-begins_with (ActivatedName c s d) ps n first = inl (tt, first)
-begins_with (Used place s) ps n first = inl (tt, first)
-begins_with (Compiled u) ps n first = inl (tt, first)
-begins_with (Needed place from u) ps n first = inl (tt, first)
-begins_with (ScriptRun c at) ps n first = inl (tt, first)
-begins_with (ScriptCompiled c s) ps n first = inl (tt, first)
-begins_with (RunNeeded place from run) ps n first = inl (tt, first)
+-- it is a premise that matters, or the fact itself, which says a text
+abbrev BeginsWith : Tables → FactModel → List FactModel → FactModel → Type 0
+BeginsWith t b ps n = (MayMatter t b × Contains ps b) ⊎ ((c : ℕ) × (text : Text) × (b ≡ Available c text) × (n ≡ b))
+
+begins_with : (t : Tables) (b : FactModel) (ps : List FactModel) (n : FactModel) → Begins b ps n → BeginsWith t b ps n
+begins_with t (Available c text) ps n is = inr (c, text, refl, is)
+begins_with t (Met c m) ps n first = inl (tt, first)
+begins_with t (LinkedReference c m v) ps n first = inl (tt, first)
+begins_with t (LinkedFeature c m f) ps n first = inl (tt, first)
+begins_with t (LinkedName c m d) ps n first = inl (tt, first)
+begins_with t (Linked place) ps n first = inl (tt, first)
+begins_with t (Lost c index) ps n first = inl (tt, first)
+begins_with t (Activated c s) ps n first = inl (tt, first)
+begins_with t (ActivatedReference c s v) ps n first = inl (tt, first)
+begins_with t (ActivatedFeature c s f) ps n first = inl (tt, first)
+begins_with t (ActivatedName c s d) ps n first = inl (tt, first)
+begins_with t (Used place s) ps n first = inl (tt, first)
+begins_with t (Compiled u) ps n first = inl (tt, first)
+begins_with t (Needed place from u) ps n first = inl (tt, first)
+begins_with t (ScriptRun c at) ps n first = inl (tt, first)
+begins_with t (ScriptCompiled c s) ps n first = inl (tt, first)
+begins_with t (RunNeeded place from run) ps n first = inl (tt, first)
 
 module _ (t : Tables) (facts : List FactModel) (clauses : List ClauseModel) (g : IsGrounded t (record { facts = facts; rules = map (rule_of facts) clauses })) (below : All (NamesBelow (length facts)) clauses) where
   -- ---- what the clauses derive follows
@@ -67,9 +73,9 @@ module _ (t : Tables) (facts : List FactModel) (clauses : List ClauseModel) (g :
 
   -- ---- and what follows is derived
 
-  -- the fact has a number unless it says a text, and a number that it has is derivable
+  -- the fact has a number if it may matter, and a number that it has is derivable
   pub record IsDerived (f : FactModel) : Type 0 where
-    pub numbered : SaysNoText f → Contains facts f
+    pub numbered : MayMatter t f → Contains facts f
     pub derived : (n : ℕ) → slice_get facts n ≡ Some f → Derivable clauses n
 
   -- the instance was written
@@ -82,14 +88,20 @@ module _ (t : Tables) (facts : List FactModel) (clauses : List ClauseModel) (g :
   begun_written : (b : FactModel) (ps : List FactModel) (f : FactModel) → Contains (rows_of t b) (rule ps f) → Contains facts b → IsWritten ps f
   begun_written b ps f among has = written ps f (Contains-append_right (initial_rows t) (flat_map (rows_of t) facts) (rule ps f) (in_flat (rows_of t) facts b (rule ps f) has among))
 
-  -- an instance was written if its premises are derived, and its fact has a number or has to have one
-  row_written : (ps : List FactModel) (f : FactModel) → IsRow t ps f → ((p : FactModel) → Contains ps p → IsDerived p) → SaysNoText f ⊎ Contains facts f → IsWritten ps f
+  -- what says that a text is available which a target requires has a number
+  text_numbered : (f b : FactModel) (c : ℕ) (text : Text) → b ≡ Available c text → f ≡ b → MayMatter t f → Contains facts b
+  text_numbered f b c text is same matters =
+      let required : IsRequired t c text = subst (MayMatter t) (same ∙ is) matters in
+      subst (Contains facts) (sym is) (All-contains (Contains facts) (required_texts t) (Available c text) g.texts (required_among t c text required))
+
+  -- an instance was written if its premises are derived, and its fact has a number or may matter
+  row_written : (ps : List FactModel) (f : FactModel) → IsRow t ps f → ((p : FactModel) → Contains ps p → IsDerived p) → MayMatter t f ⊎ Contains facts f → IsWritten ps f
   row_written ps f (inl first) h has = written ps f (Contains-append_left (initial_rows t) (flat_map (rows_of t) facts) (rule ps f) first)
-  row_written ps f (inr (b, among)) h has = elim (begins_with b ps f (begun t b ps f among)) [
+  row_written ps f (inr (b, among)) h has = elim (begins_with t b ps f (begun t b ps f among)) [
     | inl w ↦ begun_written b ps f among ((h b w.1).numbered w.0)
     | inr w ↦ elim has [
-      | inl plain ↦ absurd (w.1 plain)
-      | inr c ↦ begun_written b ps f among (subst (Contains facts) w.0 c)
+      | inl matters ↦ begun_written b ps f among (text_numbered f b w.0 w.1 w.2 w.3 matters)
+      | inr c ↦ begun_written b ps f among (subst (Contains facts) w.3 c)
     ]
   ]
 
@@ -115,6 +127,6 @@ module _ (t : Tables) (facts : List FactModel) (clauses : List ClauseModel) (g :
   follows_derived f (by_row {premises = ps} row premises) =
       let h : (p : FactModel) → Contains ps p → IsDerived p = λ p c. follows_derived p (premises p c) in
       record {
-        numbered = λ plain. named ps f (row_written ps f row h (inl plain));
+        numbered = λ matters. named ps f (row_written ps f row h (inl matters));
         derived = λ n at. derived_by ps f (row_written ps f row h (inr (contains_at facts n f at))) h n at;
       }

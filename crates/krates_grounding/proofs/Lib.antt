@@ -3,6 +3,7 @@ pub mod FeatureBehind
 pub mod FollowingNumbers
 pub mod GroundFacts
 pub mod GroundingSteps
+pub mod RequiredTexts
 pub mod StepLemmas
 pub mod ToldFacts
 pub mod WrittenRules

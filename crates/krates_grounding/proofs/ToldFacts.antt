@@ -11,7 +11,8 @@ use Rattle.krates_closure.specs.Clauses.{ClauseModel, ClausesModel, NamesBelow}
 use Rattle.krates_closure.specs.Closure.{Derivable}
 use Rattle.std.specs.BTreeMap.{BTreeMap}
 use Rattle.krates_build_facts.specs.FactModels.{FactModel, Lost, fact_view}
-use Rattle.krates_grounding.specs.Grounding.{AreToldUpTo, SaysNoText}
+use Rattle.krates_grounding.specs.Grounding.{AreToldUpTo}
+use Rattle.krates_build_facts.specs.Mattering.{MayMatter}
 use Rattle.krates_build_facts.specs.Meanings.{Follows}
 use Rattle.krates_build_facts.specs.FactOrder.{fact_cmp}
 use Rattle.krates_grounding.specs.Numbers.{AreDerived}
@@ -89,9 +90,9 @@ module _ (t : Tables) (all : List FactModel) (numbers : BTreeMap BuildFact ℕ) 
       let w = are.each f (Contains-get_or told k d lt) in
       subst (Follows t) (get_or_from_slice_get all w.0 f (Lost 0 0) w.2) (derived_follows t all clauses.list h.grounded below w.0 w.3)
 
-  pub told_all : (told : List FactModel) (bound : ℕ) → length all ≤ bound → AreToldUpTo clauses.list all told bound → (f : FactModel) → SaysNoText f → Follows t f → Contains told f
-  told_all told bound le are f plain follows =
+  pub told_all : (told : List FactModel) (bound : ℕ) → length all ≤ bound → AreToldUpTo clauses.list all told bound → (f : FactModel) → MayMatter t f → Follows t f → Contains told f
+  told_all told bound le are f matters follows =
       let d = follows_derived t all clauses.list h.grounded below f follows in
-      let c = d.numbered plain in
+      let c = d.numbered matters in
       let at : slice_get all c.0 ≡ Some f = slice_get_read all (length all) c.0 f refl c.1 (sym c.2) in
       are.all_told c.0 f (let lt = c.1 in omega arith) at (d.derived c.0 at)

@@ -1,12 +1,13 @@
 -- Instances of rules that are written down one by one, with the facts that they name.
-use Rattle.std.specs.Prelude.{◌≡◌, ◌<◌, ⊤, ℕ, List, ◌∷◌, ◌++◌, All, Contains, Some, map, slice_get, slice_index_or}
+use Rattle.std.specs.Prelude.{◌≡◌, ◌<◌, ℕ, List, ◌∷◌, ◌++◌, All, Contains, Some, map, slice_get, slice_index_or}
 use Rattle.std.specs.List.{flat_map}
+use Rattle.krates_build_tables.specs.declared.tables.CrateEntry.{CrateEntry}
 use Rattle.krates_build_tables.specs.declared.tables.Tables.{Tables}
 use Rattle.krates_closure.specs.Clauses.{ClauseModel}
 use Rattle.krates_closure.specs.Closure.{Derivable}
-use Rattle.krates_build_facts.specs.FactModels.{FactModel, RuleModel, Met, LinkedReference, LinkedFeature, LinkedName, Linked, Lost, Activated, ActivatedReference, ActivatedFeature, ActivatedName, Used, Available, Compiled, Needed, ScriptRun, ScriptCompiled, RunNeeded}
+use Rattle.krates_build_facts.specs.FactModels.{FactModel, RuleModel, Lost}
 use Rattle.krates_build_facts.specs.InitialRows.{initial_rows}
-use Rattle.krates_build_facts.specs.Rows.{rows_of}
+use Rattle.krates_build_facts.specs.Rows.{requires, rows_of}
 
 -- the facts by number, and the instances over them, in the order in which they were written
 pub record GroundModel : Type 0 where
@@ -53,34 +54,28 @@ pub record HaveNumbered (old new : GroundModel) (facts : List FactModel) (number
   pub facts_are : new.facts ≡ old.facts ++ more
   pub at : map (slice_get new.facts) numbers ≡ map (λ f. Some f) facts
 
+-- no instance was written, the facts of before keep their numbers, and each of these has one
+pub record HaveNumbers (old new : GroundModel) (facts : List FactModel) : Type 0 where
+  pub rules_are : new.rules ≡ old.rules
+  pub more : List FactModel
+  pub facts_are : new.facts ≡ old.facts ++ more
+  pub each : All (Contains new.facts) facts
+
 -- ---- all that matter
+
+-- what says that the texts are available which targets of a crate require, and those of all crates
+abbrev pub required_in : CrateEntry → List FactModel
+required_in e = flat_map requires e.targets.items
+
+abbrev pub required_texts : Tables → List FactModel
+required_texts t = flat_map required_in t.crates.items
 
 -- The instances are those that a build begins with, and those that begin with a fact that has a number; so every fact that may follow has one.
 pub record IsGrounded (t : Tables) (g : GroundModel) : Type 0 where
   pub rules_are : g.rules ≡ initial_rows t ++ flat_map (rows_of t) g.facts
+  pub texts : All (Contains g.facts) (required_texts t)
   pub named : AreNamed g
   pub distinct : AreDistinct g.facts
-
--- The fact doesn't say that a text is available. Those that do have numbers only where a target requires the text, since any text may be
--- asked for.
-abbrev pub SaysNoText : FactModel → Type 0
-SaysNoText (Met c m) = ⊤
-SaysNoText (LinkedReference c m v) = ⊤
-SaysNoText (LinkedFeature c m f) = ⊤
-SaysNoText (LinkedName c m d) = ⊤
-SaysNoText (Linked place) = ⊤
-SaysNoText (Lost c index) = ⊤
-SaysNoText (Activated c n) = ⊤
-SaysNoText (ActivatedReference c n v) = ⊤
-SaysNoText (ActivatedFeature c n f) = ⊤
-SaysNoText (ActivatedName c n d) = ⊤
-SaysNoText (Used place n) = ⊤
-SaysNoText (Available c text) = ⊥
-SaysNoText (Compiled u) = ⊤
-SaysNoText (Needed place from u) = ⊤
-SaysNoText (ScriptRun c at) = ⊤
-SaysNoText (ScriptCompiled c n) = ⊤
-SaysNoText (RunNeeded place from run) = ⊤
 
 -- ---- what is told
 

@@ -2,7 +2,8 @@
 ghost use Rattle.std.specs.Prelude.{◌≡◌, All, Contains, IfNone, IfOk, IfSome, IsTrue, length, map};
 ghost use Rattle.std.specs.List.Sorted.{IsStrictlySortedBy};
 ghost use Rattle.krates_build_facts.specs.FactModels.{FactModel, fact_view};
-ghost use Rattle.krates_grounding.specs.Grounding.{AreToldUpTo, SaysNoText};
+ghost use Rattle.krates_grounding.specs.Grounding.{AreToldUpTo};
+ghost use Rattle.krates_build_facts.specs.Mattering.{MayMatter};
 ghost use Rattle.krates_build_facts.specs.Meanings.{Follows};
 ghost use Rattle.krates_build_facts.specs.FactOrder.{fact_cmp};
 ghost use Rattle.krates_build_facts.specs.Steps.{AreStepsTo, step_view};
@@ -79,15 +80,15 @@ impl<'a> Derived<'a> {
         &self.tables
     }
 
-    /// Whether a fact follows. That a text is available is told only of texts that a target requires which may be compiled; of others
-    /// the answer is no. Time O(log n) in the facts that may follow.
+    /// Whether a fact follows. That a text is available is told only of texts that a target requires, since any may be asked for; of others
+    /// the answer may be no. Time O(log n) in the facts that may follow.
     ///
     /// ```text
     /// let is_met = derived.holds(&BuildFact::Met(0, Meeting::Root));
     /// ```
     pub fn holds(&self, fact: &BuildFact<'a>) -> bool
         ensures sound { IsTrue result → Follows self.now (fact_view fact.now) }
-        ensures complete { SaysNoText (fact_view fact.now)
+        ensures complete { MayMatter self.now (fact_view fact.now)
             → Follows self.now (fact_view fact.now) → IsTrue result }
     {
         match self.numbers.get(fact) {
@@ -96,8 +97,8 @@ impl<'a> Derived<'a> {
         }
     }
 
-    /// All facts that follow, in ascending order, each once. That a text is available is told as `holds` tells it. The only error is
-    /// running out of memory. Time O(n log n) in the facts that may follow.
+    /// All facts that follow, in ascending order, each once. That a text is available is told as `holds` tells it. `check_built_closed` of
+    /// `krates_build_checkers` accepts this list. The only error is running out of memory. Time O(n log n) in the facts that may follow.
     ///
     /// ```text
     /// for fact in derived.facts(alloc)? {
@@ -106,7 +107,7 @@ impl<'a> Derived<'a> {
     /// ```
     pub fn facts(&self, alloc: Global) -> Result<Vec<BuildFact<'a>>, AllocError>
         ensures sound { IfOk result (λ facts. All (Follows self.now) (map fact_view facts.items)) }
-        ensures complete { IfOk result (λ facts. (f : FactModel) → SaysNoText f → Follows self.now f
+        ensures complete { IfOk result (λ facts. (f : FactModel) → MayMatter self.now f → Follows self.now f
             → Contains (map fact_view facts.items) f) }
         ensures ordered { IfOk result (λ facts. IsStrictlySortedBy fact_cmp facts.items) }
     {
@@ -133,7 +134,7 @@ impl<'a> Derived<'a> {
         ensures steps { IfOk result (λ found. IfSome found (λ steps.
             AreStepsTo self.now (map step_view steps.items) (fact_view fact.now))) }
         ensures none { IfOk result (λ found. IfNone found
-            (SaysNoText (fact_view fact.now) → ¬ Follows self.now (fact_view fact.now))) }
+            (MayMatter self.now (fact_view fact.now) → ¬ Follows self.now (fact_view fact.now))) }
     {
         let Some(number) = self.numbers.get(fact) else {
             return Ok(None);

@@ -1,7 +1,7 @@
 //! Instances of rules, as clauses over the facts that they name.
 ghost use Rattle.std.specs.Prelude.{◌≡◌, ◌+◌, ◌^◌, ◌<◌, ◌∷◌, [], IfOk, IfSome, OnOk, map, option_map, slice_get};
 ghost use Rattle.krates_build_facts.specs.FactModels.{fact_view};
-ghost use Rattle.krates_grounding.specs.Grounding.{AreDistinct, AreNamed, HasNumbered, HasWritten, HaveNumbered};
+ghost use Rattle.krates_grounding.specs.Grounding.{AreDistinct, AreNamed, HasNumbered, HasWritten, HaveNumbered, HaveNumbers};
 ghost use Rattle.krates_build_facts.specs.Rows.{rule, rule_if};
 
 use krates_build_facts::BuildFact;
@@ -101,6 +101,14 @@ impl<'a> Ground<'a> {
             numbers.push(self.number_of(*fact)?)?;
         }
         Ok(numbers)
+    }
+
+    /// Gives numbers to facts that have none yet.
+    pub(crate) fn number(&mut self, facts: &[BuildFact<'a>]) -> Result<(), AllocError>
+        ensures { OnOk result (HaveNumbers self.old self.new (map fact_view facts.now)) }
+    {
+        drop(self.numbers_of(facts)?);
+        Ok(())
     }
 
     /// Writes an instance.

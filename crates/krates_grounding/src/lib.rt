@@ -6,6 +6,7 @@ mod ground;
 mod grounding;
 mod initial_rows;
 mod linking_rows;
+mod required_texts;
 mod rows;
 mod run_rows;
 mod side_rows;

@@ -62,8 +62,8 @@ pub record TakesAsRoot (r : Resolved) (s : BuildSettingModel) (i : Id) (v w : Re
 abbrev pub TakesSome : Resolved → BuildSettingModel → Reference → Id → Type 0
 TakesSome r s v i = (w : Reference) × TakesAsRoot r s i v w
 
--- The crate takes of the reference what it doesn't have. The package of the folder may, where it takes all; and so may a member
--- that has an optional dependency of the name, but no feature, since `dep:` hides it.
+-- The crate takes of the reference what it doesn't have. The package of the folder may, where it takes all; a member may that has an
+-- optional dependency of the name, but no feature, since `dep:` hides it; and so may each whose dependency lacks the feature.
 abbrev pub TakesLacking : Resolved → BuildSettingModel → Reference → Id → Type 0
 TakesLacking r s v i = (w : Reference) × TakesAsRoot r s i v w × ¬ HasNamed r i w
 

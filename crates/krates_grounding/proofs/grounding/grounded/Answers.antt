@@ -4,7 +4,7 @@ use Rattle.krates_grounding.proofs.GroundingSteps.{grounded_end, grounded_init, 
 use Rattle.krates_grounding.proofs.grounding.grounded.Goals as goal
 
 pub loop-fact-init : goal.loop-fact-init
-loop-fact-init c = grounded_init c.args.tables.now _ _ c.new-ground.ensures c.in_ok-write_initial.ensures
+loop-fact-init c = grounded_init c.args.tables.now _ _ _ c.new-ground.ensures c.in_ok-write_initial.ensures c.in_ok-number_required.ensures
 
 pub loop-fact-preserved : goal.loop-fact-preserved
 loop-fact-preserved c = grounded_step c.args.tables.now _ _ c.loop-fact.next _ c.loop-fact.invariant c.in-Some.ensures.fact c.in_ok-write_rows.ensures

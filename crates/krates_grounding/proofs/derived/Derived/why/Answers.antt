@@ -6,6 +6,7 @@ use Rattle.krates_closure.specs.Clauses.{NamesBelow}
 use Rattle.krates_closure.specs.Closure.{Derivable, IsDerivationOf}
 use Rattle.krates_closure.proofs.NeededLemmas.{step_within}
 use Rattle.krates_build_facts.specs.FactModels.{fact_view}
+use Rattle.krates_build_facts.specs.Mattering.{MayMatter}
 use Rattle.krates_build_facts.specs.Meanings.{Follows}
 use Rattle.krates_build_facts.specs.FactOrder.{fact_cmp}
 use Rattle.krates_build_facts.specs.Steps.{AreStepsTo, step_view}
@@ -14,15 +15,15 @@ use Rattle.krates_grounding.proofs.StepLemmas.{rows_derive}
 use Rattle.krates_grounding.proofs.derived.Derived.why.Goals as goal
 
 pub returns-in_default-clause-none : goal.returns-in_default-clause-none
-returns-in_default-clause-none c plain follows =
+returns-in_default-clause-none c matters follows =
     let own = c.self.inside in
     let q = c.args.fact.now in
     let is : get fact_cmp own.numbers q ≡ None = search rules in
     let there = subst (λ (t : Tables). Follows t (fact_view q)) (sym c.self.view_is) follows in
-    told_none own.tables _ own.numbers own.closure.clauses c.self.invariant q is plain there
+    told_none own.tables _ own.numbers own.closure.clauses c.self.invariant q is (subst (λ (t : Tables). MayMatter t (fact_view q)) (sym c.self.view_is) matters) there
 
 pub returns-in_default-2-clause-none : goal.returns-in_default-2-clause-none
-returns-in_default-2-clause-none c plain follows =
+returns-in_default-2-clause-none c matters follows =
     let own = c.self.inside in
     let q = c.args.fact.now in
     let is : get fact_cmp own.numbers q ≡ Some c.in-Some.number.now = search rules in
