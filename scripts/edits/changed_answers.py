@@ -1,6 +1,6 @@
 """Changes an answer of each table of worked examples, and reports what its test says.
 
-A table is a list of rows in a constant of a crate whose name ends in `_tests`, and the last part of a row is its
+A table is a list of rows in a static or a constant of a crate whose name ends in `_tests`, and the last part of a row is its
 answer. In a copy of the working tree each table gets a copy whose first row has another answer, and the test that
 walks it a copy that walks that one, with the functions between them. scripts/try_tests/crate.sh runs them without a proof,
 or `rt test` does, which proves them first. Libraries that are built here needn't be built again.
@@ -13,7 +13,7 @@ import subprocess
 
 from krates_sources import ROOT, copy_libraries, files
 
-TABLE = re.compile(r"^(?:pub(?:\(\w+\))? )?const (\w+): (&\[[^=]*\]) =\s*(?=&\[)", re.MULTILINE)
+TABLE = re.compile(r"^(?:pub(?:\(\w+\))? )?(?:const|static) (\w+): (&\[[^=]*\]) =\s*(?=&\[)", re.MULTILINE)
 FUNCTION = re.compile(r"^(?:pub(?:\(\w+\))? )?fn (\w+)", re.MULTILINE)
 TEST = re.compile(r"^#\[test\]\nfn (\w+)", re.MULTILINE)
 RAW = re.compile(r'b?r(#*)"')

@@ -35,7 +35,7 @@ impl Tell for OfSteps {
     }
 }
 
-const STEPS: &[Row] = &[
+static STEPS: &[Row] = &[
     (
         "",
         r#"{"kind":"derivation","setting":["--ignore","dev"],"steps":[]}"#,
@@ -57,7 +57,7 @@ impl Tell for OfFacts {
     }
 }
 
-const FACTS: &[Row] = &[
+static FACTS: &[Row] = &[
     ("", r#"{"facts":[],"kind":"closed","setting":[]}"#),
     (
         "a/w a>b/j",
@@ -110,7 +110,7 @@ impl Tell for Read {
     }
 }
 
-const TEXTS: &[Row] = &[
+static TEXTS: &[Row] = &[
     // other keys are skipped, and of a doubled key the last value counts
     (
         r#"{"by":"me","kind":"closed","kind":"derivation","setting":["-x"],"steps":[{"rule":255,"fact":{"fact":"crate","krate":"path+file:///w/a#0.1.0"},"uses":[]},{"rule":7,"fact":{"fact":"toggled","parent":"path+file:///w/a#0.1.0","child":"path+file:///w/b#0.1.0","name":"j"},"uses":[0,0,9]}]}"#,
@@ -193,7 +193,7 @@ impl Tell for Id {
     }
 }
 
-const IDS: &[Row] = &[
+static IDS: &[Row] = &[
     // most ids are written as they were
     ("path+file:///w/a#0.1.0", "path+file:///w/a#0.1.0"),
     (

@@ -9,7 +9,7 @@ use std::alloc::Global;
 use std::test::Fail;
 
 /// Clauses, and the facts that hold.
-const HOLD: &[Row] = &[
+static HOLD: &[Row] = &[
     ("", ""),
     // without premises
     ("3", "3"),
@@ -49,7 +49,7 @@ const HOLD: &[Row] = &[
 ];
 
 /// Clauses that derive each fact in one way and in one order, and the steps that derive them: each as its premises and its fact.
-const STEPS: &[Row] = &[
+static STEPS: &[Row] = &[
     ("", ""),
     ("7", ">7"),
     ("0>1; 1>2; 0", ">0; 0>1; 1>2"),
@@ -62,7 +62,7 @@ const STEPS: &[Row] = &[
 ];
 
 /// Clauses, and a fact; the steps that derive it, or `none`. What isn't needed for it isn't among them.
-const DERIVATIONS: &[Row] = &[
+static DERIVATIONS: &[Row] = &[
     ("7: 7", ">7"),
     ("7: 6", "none"),
     ("0>1; 1>2; 0: 1", ">0; 0>1"),
@@ -74,7 +74,7 @@ const DERIVATIONS: &[Row] = &[
 ];
 
 /// Numbers of facts, and whether clauses may name all of them.
-const NAMED: &[Row] = &[
+static NAMED: &[Row] = &[
     ("", "true"),
     ("0", "true"),
     ("9", "true"),
@@ -85,7 +85,7 @@ const NAMED: &[Row] = &[
 ];
 
 /// How long a chain is in which each fact follows from the one before it, and how many of its facts hold.
-const CHAINS: &[Row] = &[("1", "1"), ("2", "2"), ("100000", "100000")];
+static CHAINS: &[Row] = &[("1", "1"), ("2", "2"), ("100000", "100000")];
 
 /// The facts with these numbers, between each two of which is a blank.
 fn facts_in(alloc: Global, text: &str) -> Result<Vec<FactNumber>, Fail> {

@@ -21,7 +21,7 @@ const WHOLE: &str =
 
 /// The source of the package `p` of version 1.0.0 as JSON; after bars the versions that the index has of it, in order, each with its features as
 /// JSON, or that the index lacks it, or that the answer doesn't name it; and what the features of the package are then.
-const CORRECTED: &[Row] = &[
+static CORRECTED: &[Row] = &[
     (
         r#""registry+https://github.com/rust-lang/crates.io-index" | 1.0.0 {"default":["x"],"std":[]}"#,
         WHOLE,

@@ -25,7 +25,7 @@ impl Tell for Facts {
     }
 }
 
-const FACTS: &[Row] = &[
+static FACTS: &[Row] = &[
     ("+a", "crate path+file:///w/a#0.1.0\n"),
     ("a/w", "feature w of path+file:///w/a#0.1.0\n"),
     // a kept edge: of each kind, and for a target
@@ -72,7 +72,7 @@ impl Tell for Steps {
     }
 }
 
-const STEPS: &[Row] = &[
+static STEPS: &[Row] = &[
     // a step that uses nothing, one step, two, and three
     ("1 +a", "rule 1: crate path+file:///w/a#0.1.0\n"),
     ("5 +b 1", "rule 5: crate path+file:///w/b#0.1.0 from 1\n"),
@@ -97,7 +97,7 @@ impl Tell for Printed {
     }
 }
 
-const PRINTED: &[Row] = &[
+static PRINTED: &[Row] = &[
     ("", ""),
     // two steps
     (

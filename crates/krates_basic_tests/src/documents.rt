@@ -9,7 +9,7 @@ use std::alloc::AllocError;
 use std::test::Fail;
 
 /// Texts, and what is read of them.
-const READ: &[Row] = &[
+static READ: &[Row] = &[
     (
         DOCUMENT,
         r#"a needs [Dependency { name: "b", source: None, req: VersionReq { comparators: [] }, kind: Development, optional: false, uses_default_features: false, features: [], target: None, rename: None, registry: None, path: None }]; the other is path+file:///w/b#0.1.0; 2 nodes, root None"#,

@@ -10,7 +10,7 @@ use std::test::Fail;
 
 /// Where an expression is asked, a target by its triple and after a plus sign the one feature that is enabled there; the
 /// expression, and its value. Of the target `x` nothing is known.
-const VALUES: &[Row] = &[
+static VALUES: &[Row] = &[
     (
         r#"x86_64-unknown-linux-gnu cfg(all(unix, not(target_os = "linux"),))"#,
         "false",
@@ -98,7 +98,7 @@ const SYNTAX: &str = "bad cfg expression";
 const TOO_DEEP: &str = "cfg expression too deep";
 
 /// An expression, and how many words and pairs it has, or why the text isn't one.
-const COUNTS: &[Row] = &[
+static COUNTS: &[Row] = &[
     (r#"cfg(all(unix, true, target_os = "linux"))"#, "2"),
     ("cfg( unix ) ", "1"),
     ("cfg(\tall\n(\r ) )\n", "0"),
@@ -130,13 +130,13 @@ const COUNTS: &[Row] = &[
 ];
 
 /// How many forms are nested, what is in the innermost, and what is counted.
-const NESTED: &[Row] = &[("127 a", "1"), ("128 ", TOO_DEEP), ("100000 ", TOO_DEEP)];
+static NESTED: &[Row] = &[("127 a", "1"), ("128 ", TOO_DEEP), ("100000 ", TOO_DEEP)];
 
 /// How many forms are opened, of which none is closed.
-const OPENED: &[Row] = &[("100000", TOO_DEEP)];
+static OPENED: &[Row] = &[("100000", TOO_DEEP)];
 
 /// Each error, and what it prints.
-const ERRORS: &[Row] = &[
+static ERRORS: &[Row] = &[
     ("Syntax", SYNTAX),
     ("TooDeep", TOO_DEEP),
     ("Memory", "out of memory"),

@@ -9,14 +9,14 @@ use std::test::Fail;
 
 /// Two edges that join the same nodes, one back, one from a node to itself and one from a third node; of each the ends
 /// and the weight.
-const JOINED: &[(u32, u32, u8)] = &[(0, 1, 10), (1, 0, 11), (0, 1, 12), (1, 1, 13), (2, 1, 14)];
+static JOINED: &[(u32, u32, u8)] = &[(0, 1, 10), (1, 0, 11), (0, 1, 12), (1, 1, 13), (2, 1, 14)];
 
 /// The joined nodes.
-const JOINED_NODES: &[char] = &['a', 'b', 'c'];
+static JOINED_NODES: &[char] = &['a', 'b', 'c'];
 
 /// A node of a graph and the direction of its edges, and what is known of these: their numbers, and each edge with its ends and its
 /// weight.
-const EDGES: &[Row] = &[
+static EDGES: &[Row] = &[
     (
         "joined 0 out",
         "[EdgeId(0), EdgeId(2)] (0, 0, 1, 10) (2, 0, 1, 12)",
@@ -48,7 +48,7 @@ const EDGES: &[Row] = &[
 ];
 
 /// Crates 0 and 1, the feature 4 of 1 that 0 turns on, and two features in between; the weight is 1 where a feature is an end.
-const BETWEEN_FEATURES: &[(u32, u32, u8)] = &[
+static BETWEEN_FEATURES: &[(u32, u32, u8)] = &[
     (0, 1, 0),
     (0, 4, 1),
     (2, 0, 1),
@@ -59,7 +59,7 @@ const BETWEEN_FEATURES: &[(u32, u32, u8)] = &[
 ];
 
 /// The nodes of that graph.
-const CRATES_AND_FEATURES: &[char] = &['a', 'b', 'b', 'w', 'j'];
+static CRATES_AND_FEATURES: &[char] = &['a', 'b', 'b', 'w', 'j'];
 
 /// Adds these nodes.
 fn add_nodes(graph: &mut Graph<char, u8>, nodes: &[char]) -> Result<(), GraphError<char>> {
@@ -160,7 +160,7 @@ fn limits_refuse_one_more(rt: HostRuntime) -> Result<(), Fail> {
 }
 
 /// Refusals, and their texts.
-const TEXTS: &[Row] = &[
+static TEXTS: &[Row] = &[
     ("Full", "too many nodes or edges"),
     ("Memory", "out of memory"),
 ];

@@ -15,7 +15,7 @@ use std::hash::{DefaultHasher, Hash, Hasher};
 use std::test::Fail;
 
 /// Ids of the stable form and others, and the name, version and source of each.
-const READ: &[Row] = &[
+static READ: &[Row] = &[
     (
         "registry+https://github.com/rust-lang/crates.io-index#ab_glyph@0.2.22",
         "stable, as written: ab_glyph | 0.2.22 | registry+https://github.com/rust-lang/crates.io-index",
@@ -177,7 +177,7 @@ const EQUAL: &str = "Equal, Some(Equal), equal with equal hashes";
 const LESS: &str = "Less, Some(Less), less";
 
 /// Two ids, and how they compare.
-const COMPARED: &[Row] = &[
+static COMPARED: &[Row] = &[
     // with equal parts: of one package at two commits, which don't count, and in the stable form
     (
         "fuser 0.4.1 (git+https://github.com/cberner/fuser?branch=master#b2e7622942e52a28ffa85cdaf48e28e982bb6923) | fuser 0.4.1 (git+https://github.com/cberner/fuser?branch=master#0d3c4d1f9a3b5e6c7d8e9f0a1b2c3d4e5f607182)",
@@ -224,7 +224,7 @@ const COMPARED: &[Row] = &[
 ];
 
 /// Ids that are looked up in a map that has the first under 7.
-const KEYS: &[Row] = &[
+static KEYS: &[Row] = &[
     ("a 0.1.0 (git+https://x.org/a#1)", "Some(7)"),
     ("git+https://x.org/a#0.1.0", "Some(7)"),
     ("git+https://x.org/a#0.2.0", "None"),
@@ -330,7 +330,7 @@ impl Tell for Key {
 
 /// Ids, and what each prints; and the copy of each: how it is described as an id of that text, and how it compares with the id. The empty text is
 /// for the empty id.
-const COPIED: &[Row] = &[
+static COPIED: &[Row] = &[
     (
         "git+https://x.org/y?branch=c%2fd#n@1.0.0",
         "git+https://x.org/y?branch=c/d#n@1.0.0; stable, decoded: n | 1.0.0 | git+https://x.org/y?branch=c/d; Equal, equal with equal hashes",

@@ -9,7 +9,7 @@ use std::alloc::{AllocError, Global};
 use std::test::Fail;
 
 /// Texts, and the value of each; or that it isn't read.
-const TEXTS: &[Row] = &[
+static TEXTS: &[Row] = &[
     ("null", "null"),
     (" true ", "true"),
     (r#""a\u0041\n""#, r#""aA\n""#),
@@ -37,7 +37,7 @@ const TEXTS: &[Row] = &[
 ];
 
 /// How deep arrays nest, and whether they are read.
-const DEPTHS: &[Row] = &[("1", "read"), ("127", "read"), ("128", "not read")];
+static DEPTHS: &[Row] = &[("1", "read"), ("127", "read"), ("128", "not read")];
 
 /// What a text is.
 struct InPlace;

@@ -13,20 +13,20 @@ use std::alloc::Global;
 use std::test::Fail;
 
 /// What `rustc --print cfg --target TRIPLE` of Rust 1.95 prints: the triple, and after each `;` a line.
-const LINUX: &str =
+static LINUX: &str =
     r#"x86_64-unknown-linux-gnu;debug_assertions;panic="unwind";target_abi="";target_arch="x86_64";target_endian="little";target_env="gnu";target_family="unix";target_feature="fxsr";target_feature="sse";target_feature="sse2";target_has_atomic="16";target_has_atomic="32";target_has_atomic="64";target_has_atomic="8";target_has_atomic="ptr";target_os="linux";target_pointer_width="64";target_vendor="unknown";unix"#;
 
-const WINDOWS: &str =
+static WINDOWS: &str =
     r#"x86_64-pc-windows-msvc;debug_assertions;panic="unwind";target_abi="";target_arch="x86_64";target_endian="little";target_env="msvc";target_family="windows";target_feature="cmpxchg16b";target_feature="fxsr";target_feature="sse";target_feature="sse2";target_feature="sse3";target_has_atomic="128";target_has_atomic="16";target_has_atomic="32";target_has_atomic="64";target_has_atomic="8";target_has_atomic="ptr";target_os="windows";target_pointer_width="64";target_vendor="pc";windows"#;
 
-const DARWIN: &str =
+static DARWIN: &str =
     r#"x86_64-apple-darwin;debug_assertions;panic="unwind";target_abi="";target_arch="x86_64";target_endian="little";target_env="";target_family="unix";target_feature="cmpxchg16b";target_feature="fxsr";target_feature="sse";target_feature="sse2";target_feature="sse3";target_feature="sse4.1";target_feature="ssse3";target_has_atomic="128";target_has_atomic="16";target_has_atomic="32";target_has_atomic="64";target_has_atomic="8";target_has_atomic="ptr";target_os="macos";target_pointer_width="64";target_vendor="apple";unix"#;
 
-const WASM: &str =
+static WASM: &str =
     r#"wasm32-unknown-unknown;debug_assertions;panic="abort";target_abi="";target_arch="wasm32";target_endian="little";target_env="";target_family="wasm";target_feature="bulk-memory";target_feature="multivalue";target_feature="mutable-globals";target_feature="nontrapping-fptoint";target_feature="reference-types";target_feature="sign-ext";target_has_atomic="16";target_has_atomic="32";target_has_atomic="64";target_has_atomic="8";target_has_atomic="ptr";target_os="unknown";target_pointer_width="32";target_vendor="unknown""#;
 
 /// What rustc prints in the same way, and what is read of it or which line isn't.
-const PRINTED: &[Row] = &[
+static PRINTED: &[Row] = &[
     (
         r#"x86_64-pc-windows-msvc;debug_assertions;panic="unwind";target_abi="";target_arch="x86_64";target_endian="little";target_env="msvc";target_family="windows";target_feature="cmpxchg16b";target_feature="fxsr";target_feature="sse";target_feature="sse2";target_feature="sse3";target_has_atomic="128";target_has_atomic="16";target_has_atomic="32";target_has_atomic="64";target_has_atomic="8";target_has_atomic="ptr";target_os="windows";target_pointer_width="64";target_vendor="pc";windows"#,
         r#"Machine { triple: "x86_64-pc-windows-msvc", words: ["debug_assertions", "windows"], pairs: [("panic", "unwind"), ("target_abi", ""), ("target_arch", "x86_64"), ("target_endian", "little"), ("target_env", "msvc"), ("target_family", "windows"), ("target_feature", "cmpxchg16b"), ("target_feature", "fxsr"), ("target_feature", "sse"), ("target_feature", "sse2"), ("target_feature", "sse3"), ("target_has_atomic", "128"), ("target_has_atomic", "16"), ("target_has_atomic", "32"), ("target_has_atomic", "64"), ("target_has_atomic", "8"), ("target_has_atomic", "ptr"), ("target_os", "windows"), ("target_pointer_width", "64"), ("target_vendor", "pc")] }"#,
@@ -58,7 +58,7 @@ const PRINTED: &[Row] = &[
 
 /// A target text, and the triples of the machines above at which it holds: those of the Cargo Book's section "Platform specific
 /// dependencies" first.
-const HELD: &[Row] = &[
+static HELD: &[Row] = &[
     ("cfg(windows)", "x86_64-pc-windows-msvc "),
     ("cfg(unix)", "x86_64-unknown-linux-gnu x86_64-apple-darwin "),
     (r#"cfg(target_arch = "x86")"#, ""),
@@ -118,7 +118,7 @@ const HELD: &[Row] = &[
 ];
 
 /// Machines, and after a bar the target text of a dependency, if it has one; and whether it passes on some of them.
-const PASSED: &[Row] = &[
+static PASSED: &[Row] = &[
     ("linux windows|cfg(windows)", "true"),
     ("windows linux|cfg(windows)", "true"),
     ("linux darwin|cfg(windows)", "false"),
@@ -134,7 +134,7 @@ const PASSED: &[Row] = &[
 
 /// JSON of a target's kinds and of what else counts, and after a bar the flags; what the target is, and in which modes it is asked
 /// for, has dev dependencies and runs programs.
-const ASKED: &[Row] = &[
+static ASKED: &[Row] = &[
     // where no kind is asked for, libraries and programs are
     (
         r#""kind":["lib"]|"#,
@@ -249,7 +249,7 @@ const ASKED: &[Row] = &[
 ];
 
 /// Flags, and whether they ask for some kind of target, and for one that has dev dependencies.
-const FLAGS: &[Row] = &[
+static FLAGS: &[Row] = &[
     ("", ""),
     ("lib", "kinds "),
     ("bins", "kinds "),

@@ -9,7 +9,7 @@ use std::str::FromStr;
 use std::test::Fail;
 
 /// Texts, and the kind of a target that each names, with what is written for it; or why it names none.
-const KINDS: &[Row] = &[
+static KINDS: &[Row] = &[
     ("bench", r#"Bench "bench""#),
     ("bin", r#"Bin "bin""#),
     ("custom-build", r#"CustomBuild "custom-build""#),
@@ -27,7 +27,7 @@ const KINDS: &[Row] = &[
 ];
 
 /// The same of the type of a crate.
-const TYPES: &[Row] = &[
+static TYPES: &[Row] = &[
     ("bin", r#"Bin "bin""#),
     ("cdylib", r#"CDyLib "cdylib""#),
     ("dylib", r#"DyLib "dylib""#),
@@ -40,7 +40,7 @@ const TYPES: &[Row] = &[
 ];
 
 /// The same of an edition.
-const EDITIONS: &[Row] = &[
+static EDITIONS: &[Row] = &[
     ("2015", r#"E2015 "2015""#),
     ("2018", r#"E2018 "2018""#),
     ("2021", r#"E2021 "2021""#),

@@ -9,7 +9,7 @@ use std::test::Fail;
 
 /// Targets, each with the feature that is enabled there after a plus sign, and after a bar a target text, if there is one; and whether
 /// that passes there.
-const PASSING: &[Row] = &[
+static PASSING: &[Row] = &[
     // where there are no targets
     (" | cfg(unix)", "true"),
     (" | x86_64-unknown-linux-gnu", "true"),
@@ -86,7 +86,7 @@ const PASSING: &[Row] = &[
 ];
 
 /// Targets, and whether the beginning of an expression with too many forms passes there as a triple.
-const WITHOUT_END: &[Row] = &[
+static WITHOUT_END: &[Row] = &[
     ("", "true"),
     ("x86_64-pc-windows-msvc x86_64-unknown-linux-musl", "false"),
 ];

@@ -6,7 +6,7 @@ use krates_text::text::Text;
 use std::test::Fail;
 
 /// A path and its components, in order, each after a bar.
-const COMPONENTS: &[Row] = &[
+static COMPONENTS: &[Row] = &[
     ("/D:/a//krates/./tests/", "|/|D:|a|krates|tests"),
     ("./a/.././.b", "|.|a|..|.b"),
 ];
@@ -24,7 +24,7 @@ impl Tell for Components {
 }
 
 /// A path and its parent.
-const PARENTS: &[Row] = &[
+static PARENTS: &[Row] = &[
     ("/w/a/Cargo.toml", r#"Some("/w/a")"#),
     ("/w/./a//Cargo.toml/.", r#"Some("/w/./a")"#),
     ("/w", r#"Some("/")"#),
@@ -48,7 +48,7 @@ impl Tell for Parent {
 }
 
 /// A base, a bar, a path that is meant there, and the two joined.
-const JOINED: &[Row] = &[
+static JOINED: &[Row] = &[
     ("/w/a|LICENSE", "/w/a/LICENSE"),
     ("/w/a|../L", "/w/a/../L"),
     ("/w/a|/x", "/x"),
@@ -69,7 +69,7 @@ impl Tell for Joined {
 }
 
 /// Two paths with a bar between them, whether the first ends with the components of the second, and whether the two are the same.
-const COMPARED: &[Row] = &[
+static COMPARED: &[Row] = &[
     ("/w/./c//Cargo.toml|c/Cargo.toml", "(true, false)"),
     ("/w|", "(true, false)"),
     ("/w/MyCargo.toml|Cargo.toml", "(false, false)"),

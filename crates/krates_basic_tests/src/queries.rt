@@ -23,7 +23,7 @@ const DOCUMENT: (&str, &str) = (
 );
 
 /// The rest of a document, and its root, the packages of the workspace, the default ones, and the package `B`.
-const ANSWERS: &[Row] = &[
+static ANSWERS: &[Row] = &[
     (
         r#""workspace_root":"/w""#,
         r#"root None, members ["a"], default None, B is Some("b")"#,
@@ -61,7 +61,7 @@ const ANSWERS: &[Row] = &[
 ];
 
 /// Further keys of the document of two packages, of which `a` is the member; and the packages of the workspace and the default ones.
-const WORKSPACES: &[Row] = &[
+static WORKSPACES: &[Row] = &[
     ("", r#"members ["a"], default None"#),
     (
         r#","workspace_default_members":["path+file:///w/b#0.1.0"]"#,
@@ -70,7 +70,7 @@ const WORKSPACES: &[Row] = &[
 ];
 
 /// The manifest of a package with its licence file and its readme, and where these are.
-const FILES: &[Row] = &[
+static FILES: &[Row] = &[
     (
         r#""manifest_path":"/w/a/Cargo.toml","license_file":"LICENSE","readme":"R""#,
         r#"Some("/w/a/LICENSE"), Some("/w/a/R")"#,
@@ -100,7 +100,7 @@ const PACKAGE: (&str, &str) = (
 const TARGET: (&str, &str) = (r#"{"name":"t","src_path":"s","kind":["#, "]}");
 
 /// The kinds of a target, and which tests say yes.
-const KINDS: &[Row] = &[
+static KINDS: &[Row] = &[
     (r#""lib""#, "lib "),
     (r#""rlib","dylib","cdylib","staticlib""#, ""),
     (r#""bin""#, "bin "),
@@ -113,7 +113,7 @@ const KINDS: &[Row] = &[
 ];
 
 /// The source of a package as JSON, and of what kind it is, and whether the package is local.
-const SOURCES: &[Row] = &[
+static SOURCES: &[Row] = &[
     // as cargo writes a path dependency, and a member
     ("null", "None, local: true"),
     // as it writes crates.io, by either protocol
@@ -271,23 +271,23 @@ fn what_documents_packages_targets_and_sources_answer(rt: HostRuntime) -> Result
 }
 
 /// JSON of each type that is copied.
-const COPIED_ID: &str = r#""a 0.1.0""#;
+static COPIED_ID: &str = r#""a 0.1.0""#;
 
-const COPIED_INFO: &str = r#"{"kind":"dev","target":"t"}"#;
+static COPIED_INFO: &str = r#"{"kind":"dev","target":"t"}"#;
 
-const COPIED_DEPENDENCY: &str =
+static COPIED_DEPENDENCY: &str =
     r#"{"name":"b","source":"s","req":">=1.2, <3","kind":"build","optional":true,"uses_default_features":false,"features":["f","g"],"target":"t","rename":"r","registry":"g","path":"/b"}"#;
 
-const COPIED_TARGET: &str =
+static COPIED_TARGET: &str =
     r#"{"name":"t","kind":["custom-build"],"crate_types":["cdylib"],"required-features":["f"],"src_path":"s","edition":"2021","doctest":false,"test":true,"doc":false}"#;
 
-const COPIED_DOCUMENTED_TARGET: &str =
+static COPIED_DOCUMENTED_TARGET: &str =
     r#"{"name":"t","kind":["lib","rlib"],"src_path":"s","doctest":false,"test":false,"doc":true}"#;
 
-const COPIED_PACKAGE: &str =
+static COPIED_PACKAGE: &str =
     r#"{"name":"a","version":"1.2.3-rc+b","authors":["x"],"id":"i","source":"s","description":"d","dependencies":[{"name":"b","req":"*","optional":false,"uses_default_features":true,"features":[]}],"license":"MIT","license_file":"L","targets":[{"name":"t","kind":["bin"],"src_path":"s"}],"features":{"f":["g"]},"manifest_path":"m","categories":["c"],"keywords":["k"],"readme":"R","repository":"o","homepage":"h","documentation":"u","edition":"2024","metadata":{"k":[1,null]},"links":"l","publish":["p"],"default_run":"p","rust_version":"1.70.1"}"#;
 
-const COPIED_DOCUMENT: &str =
+static COPIED_DOCUMENT: &str =
     r#"{"packages":[{"name":"a","version":"0.1.0","id":"a","dependencies":[],"targets":[],"features":{},"manifest_path":"m"}],"workspace_members":["a"],"workspace_default_members":["b"],"workspace_root":"/w","target_directory":"/t","build_directory":"/b","metadata":{"k":[true]},"version":1,"resolve":{"nodes":[{"id":"a","deps":[{"name":"b","pkg":"c","dep_kinds":[{"kind":"build","target":"t"}]}],"dependencies":["c"],"features":["f"]}],"root":"a"}}"#;
 
 /// Fails where a copy of what is read of a text shows other fields.
@@ -353,7 +353,7 @@ fn ordered(alloc: Global) -> Result<String, AllocError> {
 }
 
 /// Sources, and whether each is crates.io.
-const CRATES_IO: &[Row] = &[
+static CRATES_IO: &[Row] = &[
     (
         "registry+https://github.com/rust-lang/crates.io-index",
         "true",

@@ -15,7 +15,7 @@ use std::fmt::Debug;
 use std::test::Fail;
 
 /// JSON that is read as an id, or why it isn't.
-const IDS: &[Row] = &[
+static IDS: &[Row] = &[
     (r#""a 0.1.0""#, r#"PackageId { repr: "a 0.1.0" }"#),
     ("null", "wrong type at key: "),
     ("1", "wrong type at key: "),
@@ -23,7 +23,7 @@ const IDS: &[Row] = &[
 ];
 
 /// The same of a source.
-const SOURCES: &[Row] = &[
+static SOURCES: &[Row] = &[
     (r#""a 0.1.0""#, r#"Source { repr: "a 0.1.0" }"#),
     ("null", "wrong type at key: "),
     ("1", "wrong type at key: "),
@@ -31,7 +31,7 @@ const SOURCES: &[Row] = &[
 ];
 
 /// The same of what a resolved dependency is needed for.
-const KINDS: &[Row] = &[
+static KINDS: &[Row] = &[
     ("{}", "DepKindInfo { kind: Normal, target: None }"),
     (
         r#"{"kind":null,"target":null}"#,
@@ -56,7 +56,7 @@ const KINDS: &[Row] = &[
 ];
 
 /// The same of a dependency of a node.
-const NODE_DEPENDENCIES: &[Row] = &[
+static NODE_DEPENDENCIES: &[Row] = &[
     (
         r#"{"name":"b","pkg":"c","dep_kinds":[{"kind":"dev"}]}"#,
         r#"NodeDep { name: "b", pkg: PackageId { repr: "c" }, dep_kinds: [DepKindInfo { kind: Development, target: None }] }"#,
@@ -74,7 +74,7 @@ const NODE_DEPENDENCIES: &[Row] = &[
 ];
 
 /// The same of a node.
-const NODES: &[Row] = &[
+static NODES: &[Row] = &[
     (
         r#"{"id":"a","deps":[],"dependencies":["c"],"features":["f","g"]}"#,
         r#"Node { id: PackageId { repr: "a" }, deps: [], dependencies: [PackageId { repr: "c" }], features: ["f", "g"] }"#,
@@ -96,7 +96,7 @@ const NODES: &[Row] = &[
 ];
 
 /// The same of a resolved graph.
-const GRAPHS: &[Row] = &[
+static GRAPHS: &[Row] = &[
     (
         r#"{"nodes":[],"root":null}"#,
         "Resolve { nodes: [], root: None }",
@@ -112,7 +112,7 @@ const GRAPHS: &[Row] = &[
 ];
 
 /// The same of a declared dependency.
-const DECLARED: &[Row] = &[
+static DECLARED: &[Row] = &[
     (
         r#"{"name":"b","source":"s","req":"*","kind":"build","rename":"c","optional":true,"uses_default_features":false,"features":["f"],"target":"t","registry":"r","path":"p"}"#,
         r#"Dependency { name: "b", source: Some("s"), req: VersionReq { comparators: [] }, kind: Build, optional: true, uses_default_features: false, features: ["f"], target: Some("t"), rename: Some("c"), registry: Some("r"), path: Some("p") }"#,
@@ -140,7 +140,7 @@ const DECLARED: &[Row] = &[
 ];
 
 /// The same of a target.
-const TARGETS: &[Row] = &[
+static TARGETS: &[Row] = &[
     (
         r#"{"name":"t","kind":["lib","proc-macro"],"crate_types":["rlib"],"required-features":["f"],"src_path":"s","edition":"2021","doctest":false,"test":true,"doc":false}"#,
         r#"Target { name: "t", kind: [Lib, ProcMacro], crate_types: [RLib], required_features: ["f"], src_path: "s", edition: E2021, doctest: false, test: true, doc: false }"#,
@@ -177,7 +177,7 @@ const TARGETS: &[Row] = &[
 ];
 
 /// A package that has every key, and what it is read as.
-const EVERY_KEY: &[Row] = &[(
+static EVERY_KEY: &[Row] = &[(
     r#"{"name":"a","version":"1.2.3-rc.1+b","id":"i","license":"MIT","license_file":"L",
         "description":"d","source":"s","dependencies":[],"targets":[],"features":{"y":[],"x":["dep:b","y"]},
         "manifest_path":"/w/a/Cargo.toml","metadata":{"k":[1]},"publish":["r"],"authors":["A"],
@@ -193,7 +193,7 @@ const PACKAGE: (&str, &str) = (
 );
 
 /// What is wrong with a package of one more key.
-const PACKAGES_REFUSED: &[Row] = &[
+static PACKAGES_REFUSED: &[Row] = &[
     (r#""version":"1.0""#, "bad version"),
     (r#""authors":null"#, "wrong type at key: authors"),
     (
@@ -217,7 +217,7 @@ const DOCUMENT: (&str, &str) = (
 );
 
 /// What is read of a document of further keys, or why it isn't.
-const DOCUMENTS: &[Row] = &[
+static DOCUMENTS: &[Row] = &[
     (
         r#""resolve":null,"build_directory":null"#,
         r#"Metadata { packages: [], workspace_members: [PackageId { repr: "a" }], workspace_default_members: WorkspaceDefaultMembers(None), resolve: None, workspace_root: "/w", target_directory: "/t", build_directory: None, workspace_metadata: Null, version: 0 }"#,

@@ -6,7 +6,7 @@ use krates_text::text::Text;
 use std::test::Fail;
 
 /// A text and the form that it has.
-const FORMS: &[Row] = &[
+static FORMS: &[Row] = &[
     ("a/b?/c", r#"Weak { krate: "a/b", feature: "c" }"#),
     (
         "reqwest?/json",

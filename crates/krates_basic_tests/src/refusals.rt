@@ -11,7 +11,7 @@ use std::test::Fail;
 use std::{io, str};
 
 /// Refusals of a build by their names, and what each prints.
-const OF_BUILDS: &[Row] = &[
+static OF_BUILDS: &[Row] = &[
     ("NoResolveGraph", "no resolution graph was provided"),
     ("Metadata", "features given twice"),
     ("NoRootKrates", "no root crates available"),
@@ -29,7 +29,7 @@ const OF_BUILDS: &[Row] = &[
 ];
 
 /// Refusals of metadata by their names, and what each prints.
-const OF_METADATA: &[Row] = &[
+static OF_METADATA: &[Row] = &[
     (
         "CargoMetadata",
         "`cargo metadata` exited with an error: no manifest",
@@ -44,7 +44,7 @@ const OF_METADATA: &[Row] = &[
 ];
 
 /// Those whose cause comes from the library, and how what each prints begins.
-const OF_CAUSES: &[Row] = &[
+static OF_CAUSES: &[Row] = &[
     ("Io", "failed to start `cargo metadata`: "),
     ("Utf8", "cannot convert the stdout of `cargo metadata`: "),
     ("ErrUtf8", "cannot convert the stderr of `cargo metadata`: "),

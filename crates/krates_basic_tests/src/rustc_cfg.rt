@@ -9,7 +9,7 @@ use std::test::Fail;
 
 /// The triples of the table of seven, each with the lines that rustc prints for it; and the description with each of its
 /// fields, and the target features.
-const IN_THE_TABLE: &[Row] = &[
+static IN_THE_TABLE: &[Row] = &[
     (
         r#"x86_64-unknown-linux-gnu;debug_assertions;panic="unwind";target_abi="";target_arch="x86_64";target_endian="little";target_env="gnu";target_family="unix";target_feature="fxsr";target_feature="sse";target_feature="sse2";target_has_atomic="16";target_has_atomic="32";target_has_atomic="64";target_has_atomic="8";target_has_atomic="ptr";target_os="linux";target_pointer_width="64";target_vendor="unknown";unix"#,
         r#"TargetInfo { triple: "x86_64-unknown-linux-gnu", arch: "x86_64", os: "linux", env: "gnu", abi: "", vendor: "unknown", pointer_width: "64", endian: "little", panic: "unwind", families: ["unix"], atomics: ["16", "32", "64", "8", "ptr"] } ["fxsr", "sse", "sse2"]"#,
@@ -41,7 +41,7 @@ const IN_THE_TABLE: &[Row] = &[
 ];
 
 /// Other triples, in the same way.
-const BESIDE_THE_TABLE: &[Row] = &[
+static BESIDE_THE_TABLE: &[Row] = &[
     (
         r#"aarch64-linux-android;debug_assertions;panic="unwind";target_abi="";target_arch="aarch64";target_endian="little";target_env="";target_family="unix";target_feature="neon";target_has_atomic="128";target_has_atomic="16";target_has_atomic="32";target_has_atomic="64";target_has_atomic="8";target_has_atomic="ptr";target_os="android";target_pointer_width="64";target_vendor="unknown";unix"#,
         r#"TargetInfo { triple: "aarch64-linux-android", arch: "aarch64", os: "android", env: "", abi: "", vendor: "unknown", pointer_width: "64", endian: "little", panic: "unwind", families: ["unix"], atomics: ["128", "16", "32", "64", "8", "ptr"] } ["neon"]"#,

@@ -6,7 +6,7 @@ use krates_text::text::Text;
 use std::test::Fail;
 
 /// A text and what is shown of it.
-const SHOWN: &[Row] = &[
+static SHOWN: &[Row] = &[
     ("", ""),
     ("serde v1.0.152 (/w/a b)", "serde v1.0.152 (/w/a b)"),
     ("\"'`<>&%$é漢🦀", "\"'`<>&%$é漢🦀"),

@@ -7,7 +7,7 @@ use krates_text::text::Text;
 use std::test::Fail;
 
 /// Texts, and the name, version and url of the specification that each is.
-const READ: &[Row] = &[
+static READ: &[Row] = &[
     ("", ", any version, any url"),
     ("bitflags", "bitflags, any version, any url"),
     ("bitflags:1.0.4", "bitflags, 1.0.4, any url"),
@@ -47,7 +47,7 @@ const READ: &[Row] = &[
 ];
 
 /// Texts, and how the specification that each is prints.
-const PRINTED: &[Row] = &[
+static PRINTED: &[Row] = &[
     ("", ""),
     ("bitflags", "bitflags"),
     ("bitflags@1.0.4", "bitflags@1.0.4"),
@@ -102,7 +102,7 @@ const NO_VERSION: &str = "package spec was invalid: failed to parse version";
 const ENDS_WITH_SLASH: &str = "package spec was invalid: url ends with /";
 
 /// Texts that aren't a specification, and why.
-const REFUSED: &[Row] = &[
+static REFUSED: &[Row] = &[
     ("https://crates.io#1.2.3", NO_PATH),
     ("https://crates.io", NO_PATH),
     ("https://crates.io#foo", NO_PATH),
@@ -127,7 +127,7 @@ const REFUSED: &[Row] = &[
 ];
 
 /// A specification, the version of the package `cargo` and its source as JSON, and whether the two match.
-const MATCHES: &[Row] = &[
+static MATCHES: &[Row] = &[
     (
         r#"https://github.com/rust-lang/cargo 0.1.0 "git+https://github.com/rust-lang/cargo?branch=x#abc""#,
         "true",

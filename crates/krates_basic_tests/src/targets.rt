@@ -8,7 +8,7 @@ use std::alloc::{AllocError, Global};
 use std::test::Fail;
 
 /// A triple and the description of its target, with each of its fields.
-const DESCRIBED: &[Row] = &[
+static DESCRIBED: &[Row] = &[
     (
         "x86_64-unknown-linux-gnu",
         r#"TargetInfo { triple: "x86_64-unknown-linux-gnu", arch: "x86_64", os: "linux", env: "gnu", abi: "", vendor: "unknown", pointer_width: "64", endian: "little", panic: "unwind", families: ["unix"], atomics: ["8", "16", "32", "64", "ptr"] }"#,
@@ -42,7 +42,7 @@ const DESCRIBED: &[Row] = &[
 
 /// Texts, and a copy of the target of each, with each of its fields; with `;` in the text that of the caller's own target, which rustc's lines
 /// after it describe.
-const COPIED: &[Row] = &[
+static COPIED: &[Row] = &[
     (
         "aarch64-apple-darwin",
         r#"Builtin(TargetInfo { triple: "aarch64-apple-darwin", arch: "aarch64", os: "macos", env: "", abi: "", vendor: "apple", pointer_width: "64", endian: "little", panic: "unwind", families: ["unix"], atomics: ["8", "16", "32", "64", "ptr"] })"#,
@@ -56,14 +56,14 @@ const COPIED: &[Row] = &[
 ];
 
 /// Texts that are printed as they are: a triple, and two about which nothing is known.
-const PRINTED: &[Row] = &[
+static PRINTED: &[Row] = &[
     ("wasm32-unknown-unknown", "wasm32-unknown-unknown"),
     ("x", "x"),
     ("", ""),
 ];
 
 /// Texts, and whether the target of each is described.
-const KNOWN: &[Row] = &[
+static KNOWN: &[Row] = &[
     ("x86_64-unknown-linux-gnu", "true"),
     ("wasm32-unknown-unknown", "true"),
     ("x86_64-pc-windows-gnu", "false"),

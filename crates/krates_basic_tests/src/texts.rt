@@ -8,7 +8,7 @@ use std::test::Fail;
 
 /// Words, and the text to which they are added one after another, each with a line break and a dash before it; a `?` is a value that can't be
 /// printed.
-const WRITTEN: &[Row] = &[
+static WRITTEN: &[Row] = &[
     ("a", "\n-a"),
     ("a bc", "\n-a\n-bc"),
     ("a ?", "not whole"),

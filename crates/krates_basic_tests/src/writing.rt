@@ -9,10 +9,10 @@ use std::fmt::Debug;
 use std::test::Fail;
 
 /// JSON that is read as an id, and what is written for it.
-const IDS: &[Row] = &[(r#""a 0.1.0""#, r#""a 0.1.0""#)];
+static IDS: &[Row] = &[(r#""a 0.1.0""#, r#""a 0.1.0""#)];
 
 /// The same of a declared dependency.
-const DECLARED: &[Row] = &[
+static DECLARED: &[Row] = &[
     (
         r#"{"name":"b","req":"*","kind":"dev","optional":false,"uses_default_features":false,"features":[]}"#,
         r#"{"features":[],"kind":"dev","name":"b","optional":false,"registry":null,"rename":null,"req":"*","source":null,"target":null,"uses_default_features":false}"#,
@@ -24,7 +24,7 @@ const DECLARED: &[Row] = &[
 ];
 
 /// The same of a target.
-const TARGETS: &[Row] = &[
+static TARGETS: &[Row] = &[
     (
         r#"{"name":"t","kind":["lib","proc-macro"],"src_path":"s"}"#,
         r#"{"crate_types":[],"doc":true,"doctest":true,"edition":"2015","kind":["lib","proc-macro"],"name":"t","src_path":"s","test":true}"#,
@@ -36,7 +36,7 @@ const TARGETS: &[Row] = &[
 ];
 
 /// The same of a package.
-const PACKAGES: &[Row] = &[
+static PACKAGES: &[Row] = &[
     (
         r#"{"name":"a","version":"0.1.0-rc.1+b","id":"i","dependencies":[],"targets":[],"features":{"g":["f"],"f":[]},"manifest_path":"m"}"#,
         r#"{"authors":[],"categories":[],"default_run":null,"dependencies":[],"description":null,"documentation":null,"edition":"2015","features":{"f":[],"g":["f"]},"homepage":null,"id":"i","keywords":[],"license":null,"license_file":null,"links":null,"manifest_path":"m","metadata":null,"name":"a","publish":null,"readme":null,"repository":null,"rust_version":null,"source":null,"targets":[],"version":"0.1.0-rc.1+b"}"#,
@@ -48,16 +48,16 @@ const PACKAGES: &[Row] = &[
 ];
 
 /// What surrounds the version of Rust that a package needs, as it is read and as it is written.
-const BEFORE: &str =
+static BEFORE: &str =
     r#"{"name":"a","version":"1.0.0","id":"i","dependencies":[],"targets":[],"features":{},"manifest_path":"m","rust_version":"#;
 
-const WRITTEN_BEFORE: &str =
+static WRITTEN_BEFORE: &str =
     r#"{"authors":[],"categories":[],"default_run":null,"dependencies":[],"description":null,"documentation":null,"edition":"2015","features":{},"homepage":null,"id":"i","keywords":[],"license":null,"license_file":null,"links":null,"manifest_path":"m","metadata":null,"name":"a","publish":null,"readme":null,"repository":null,"rust_version":"#;
 
-const WRITTEN_BEHIND: &str = r#","source":null,"targets":[],"version":"1.0.0"}"#;
+static WRITTEN_BEHIND: &str = r#","source":null,"targets":[],"version":"1.0.0"}"#;
 
 /// A version of Rust, and what is written for it.
-const RUST_VERSIONS: &[Row] = &[
+static RUST_VERSIONS: &[Row] = &[
     (r#""1.70""#, r#""1.70""#),
     (r#""1.70.0""#, r#""1.70""#),
     (r#""1.70.1""#, r#""1.70.1""#),
@@ -65,12 +65,12 @@ const RUST_VERSIONS: &[Row] = &[
 ];
 
 /// JSON that is read as a node or a resolved graph, and what is written for it.
-const NODES: &[Row] = &[(
+static NODES: &[Row] = &[(
     r#"{"id":"a","dependencies":["c"]}"#,
     r#"{"dependencies":["c"],"deps":[],"features":[],"id":"a"}"#,
 )];
 
-const GRAPHS: &[Row] = &[
+static GRAPHS: &[Row] = &[
     (r#"{"nodes":[],"root":"a"}"#, r#"{"nodes":[],"root":"a"}"#),
     (
         r#"{"nodes":[{"id":"a","deps":[{"name":"b","pkg":"c","dep_kinds":[{"kind":"build","target":"t"},{}]}],"dependencies":["c"],"features":["f"]}],"root":null}"#,
@@ -79,7 +79,7 @@ const GRAPHS: &[Row] = &[
 ];
 
 /// The same of a whole document.
-const DOCUMENTS: &[Row] = &[
+static DOCUMENTS: &[Row] = &[
     (
         r#"{"packages":[],"workspace_members":["a"],"workspace_root":"/w","target_directory":"/t"}"#,
         r#"{"metadata":null,"packages":[],"resolve":null,"target_directory":"/t","version":0,"workspace_members":["a"],"workspace_root":"/w"}"#,

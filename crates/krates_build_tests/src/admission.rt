@@ -29,7 +29,7 @@ impl Tell for Admitted {
 
 // In each of these documents the default members, and the `dependencies` of each node, have a text that isn't an id: nothing looks
 // at them.
-const DOCUMENTS: &[Row] = &[
+static DOCUMENTS: &[Row] = &[
     ("a|b / nodes a b / members a a", "2 packages"),
     (" / nodes / members", "0 packages"),
     // refused: without a graph, or with an id that isn't one

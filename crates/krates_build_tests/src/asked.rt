@@ -14,7 +14,7 @@ use std::test::Fail;
 
 /// Two members. The second declares a crate three times, last for its build, and its node lists that for the build and for
 /// tests; and it declares another for one target, which cargo writes `b_c` where the manifest has `b-c`.
-const MEMBERS: &str =
+static MEMBERS: &str =
     "m z&dev z? z&build b-c&on=cfg(windows)|n|z|b-c / nodes m z&build&dev b-c&as=b_c&on=cfg(windows)|n|z|b-c / members n m";
 
 /// A target text; none where it is empty.
@@ -196,7 +196,7 @@ impl Tell for Asked {
     }
 }
 
-const ASKED: &[Row] = &[
+static ASKED: &[Row] = &[
     // what a name means
     ("referent m z", "z"),
     ("referent m b-c", "b-c"),

@@ -77,7 +77,7 @@ impl Tell for Built {
     }
 }
 
-const BUILT: &[Row] = &[
+static BUILT: &[Row] = &[
     // what is needed is kept, and what isn't is reported
     ("a b|b", "+a+b"),
     ("a b|b|c", "+a+b-c"),
@@ -142,7 +142,7 @@ impl Told<Package> for Queried {
     }
 }
 
-const QUERIES: &[Row] = &[
+static QUERIES: &[Row] = &[
     (
         "c|b|a b / nodes a b|b|c",
         "2 of /w, a is 0, b is 1, c is none without features",

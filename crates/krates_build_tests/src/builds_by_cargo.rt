@@ -29,7 +29,7 @@ impl OnFilter for Count {
 
 /// The last word of a run of cargo, with `/ ignore dev` after it where the build ignores what is needed for tests, and the answer
 /// of that build, after how many packages the filter was handed. Where it is ignored, a build that isn't refused reports one.
-const BUILDS: &[Row] = &[
+static BUILDS: &[Row] = &[
     ("x", "0 reported, 2 kept"),
     ("x / ignore dev", "1 reported, 1 kept"),
     (

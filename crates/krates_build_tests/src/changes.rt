@@ -24,7 +24,7 @@ enum Change {
 }
 
 /// All changes.
-const CHANGES: &[Change] = &[
+static CHANGES: &[Change] = &[
     Change::Rule,
     Change::Crate,
     Change::Later,
@@ -104,7 +104,7 @@ impl Ask for EachChanged {
 }
 
 // A step with one use, or none, is the same with its uses swapped: four of its changes are refused, and five of one with two uses.
-const CHANGED: &[Row] = &[
+static CHANGED: &[Row] = &[
     // a crate that is needed for tests
     ("a b&dev|b / steps 1 +a; 5 a>b:dev 0; 5 +b 1", "yes 4 4 4"),
     // a weak reference over an edge that another feature keeps, and one that keeps none

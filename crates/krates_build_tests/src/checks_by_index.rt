@@ -35,7 +35,7 @@ impl<L: List> Ask for ByIndex<L> {
     }
 }
 
-const STEPS: &[Row] = &[
+static STEPS: &[Row] = &[
     // the index knows that the default feature of the crate names another
     (
         "a b!|b@1.0.0&crates.io / nodes a b@1.0.0&crates.io|b@1.0.0&crates.io;default std / index b@1.0.0 default=std / steps 1 +a; 5 a>b@1.0.0&crates.io 0; 6 b@1.0.0&crates.io/default 1; 3 b@1.0.0&crates.io/std 2",
@@ -57,7 +57,7 @@ const STEPS: &[Row] = &[
 ];
 
 // An index only adds features, so a list that is closed with it is closed without it.
-const FACTS: &[Row] = &[
+static FACTS: &[Row] = &[
     (
         "a b!|b@1.0.0&crates.io / nodes a b@1.0.0&crates.io|b@1.0.0&crates.io;default std / index b@1.0.0 default=std / facts +a a>b@1.0.0&crates.io +b@1.0.0&crates.io b@1.0.0&crates.io/default b@1.0.0&crates.io/std",
         "yes, without yes",

@@ -11,7 +11,7 @@ use krates_text::text::Text;
 use std::test::Fail;
 
 /// Facts that drag others, which aren't there: a feature of a crate, an edge to one, and a feature that is toggled.
-const DRAGGING: &[&str] = &["z/f", "a>z", "a>a/z"];
+static DRAGGING: &[&str] = &["z/f", "a>z", "a>a/z"];
 
 /// Adds what the check answers of the facts of the words without the one at this place; or, at the places after them, with a fact that
 /// drags others.
@@ -52,7 +52,7 @@ impl Ask for EachNeeded {
     }
 }
 
-const NEEDED: &[Row] = &[
+static NEEDED: &[Row] = &[
     (
         "a b&dev|b / facts +a a>b:dev +b",
         "yes open open open open open open",
@@ -131,7 +131,7 @@ const NEEDED: &[Row] = &[
     ),
 ];
 
-const ADDED: &[Row] = &[
+static ADDED: &[Row] = &[
     // a fact that drags others, which aren't there, or are
     (
         "a b?;b=dep:b w=b?/j|b;j= / nodes a b;w|b;j / facts +a a/w +b",

@@ -12,7 +12,7 @@ use std::test::Fail;
 
 /// Settings of a command, in order, and, after the refusals of its setters, its variables in the order of their names, its program, its
 /// directory and its words.
-const COMMANDS: &[Row] = &[
+static COMMANDS: &[Row] = &[
     ("", "cargo in none: metadata|--format-version|1"),
     (
         "no-deps selected=x,y all no-default manifest=p other=--z",
@@ -47,7 +47,7 @@ const COMMANDS: &[Row] = &[
 ];
 
 /// Settings of a tool's options, in order, and the command that they become: its program, its directory and its words.
-const BECOMES: &[Row] = &[
+static BECOMES: &[Row] = &[
     ("", "cargo in none: metadata|--format-version|1"),
     (
         "feature=b,a feature=b manifest=x/Other.toml",
@@ -72,7 +72,7 @@ const BECOMES: &[Row] = &[
 ];
 
 /// Texts, and their first line that begins with `{`.
-const JSON_LINES: &[Row] = &[
+static JSON_LINES: &[Row] = &[
     ("a\n {\n{}\r\n{", "{}"),
     ("{\n{}", "{"),
     ("x{\n\n {", "none"),
@@ -81,7 +81,7 @@ const JSON_LINES: &[Row] = &[
 
 /// Texts; or what cargo wrote, to standard output where it succeeded and else to standard error, where `\xff` is a byte that isn't UTF-8;
 /// and what is read of that, or the refusal.
-const READ: &[Row] = &[
+static READ: &[Row] = &[
     (DOCUMENT, "2 packages"),
     (
         "{",
@@ -206,7 +206,7 @@ impl Tell for OfCommand {
 }
 
 /// Settings of a command, after a bar and the program that is handed in, if there is one; and the program that it runs.
-const PROGRAMS: &[Row] = &[
+static PROGRAMS: &[Row] = &[
     ("|", "cargo"),
     ("q|", "q"),
     ("|cargo=p", "p"),

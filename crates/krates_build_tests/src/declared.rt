@@ -7,7 +7,7 @@ use krates_text::text::Text;
 use std::test::Fail;
 
 /// Paths, sources, and whether the source is that of the path.
-const PATHS: &[Row] = &[
+static PATHS: &[Row] = &[
     // a path of Windows, whose source has a slash before the drive
     (
         "D:\\a\\krates\\krates\\tests\\package-rename path+file:///D:/a/krates/krates/tests/package-rename",
@@ -38,7 +38,7 @@ impl Tell for IsPathOf {
     }
 }
 
-const DECLARED_TWICE: &[Row] = &[
+static DECLARED_TWICE: &[Row] = &[
     // the second has the path of the source, or neither has
     (
         "a d?&from=registry+https://x.org/i d&at=/w/d|d / nodes a d|d",
@@ -64,7 +64,7 @@ const DECLARED_TWICE: &[Row] = &[
     ),
 ];
 
-const SOURCES: &[Row] = &[
+static SOURCES: &[Row] = &[
     // of two that fit one has neither a source nor a path
     ("a d? d&at=/w/d|d / nodes a d|d", "+a+d"),
     (
@@ -88,7 +88,7 @@ const SOURCES: &[Row] = &[
     ("a x_y? x-y&at=/w/x_y|x_y / nodes a x_y|x_y", "+a+x_y"),
 ];
 
-const REQUIRED: &[Row] = &[
+static REQUIRED: &[Row] = &[
     // a requirement that the version fits, and one that it doesn't
     ("a b&req=^0.1|b", "+a+b"),
     ("a b&req=>=0.1,<0.2|b", "+a+b"),
@@ -131,7 +131,7 @@ const REQUIRED: &[Row] = &[
     ),
 ];
 
-const NAMED: &[Row] = &[
+static NAMED: &[Row] = &[
     // cargo's name for a dependency has an underscore where the manifest has a hyphen
     ("a real&as=x-y|real / nodes a real&as=x_y|real", "+a+real"),
     // never the other way round

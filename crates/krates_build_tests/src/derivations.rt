@@ -7,7 +7,7 @@ use krates_samples::table::{Row, Tell, hold};
 use krates_text::text::Text;
 use std::test::Fail;
 
-const STEPS: &[Row] = &[
+static STEPS: &[Row] = &[
     // a crate that the only member needs for its tests
     ("a b&dev|b / steps 1 +a; 5 a>b:dev 0; 5 +b 1", "yes"),
     // a later step is used, one is missing, the kind is ignored, there is none, the document has no graph
@@ -194,7 +194,7 @@ impl Tell for Refused {
     }
 }
 
-const REFUSED: &[Row] = &[
+static REFUSED: &[Row] = &[
     ("document", "bad document"),
     ("empty", "empty derivation"),
     ("0", "step 0 does not follow"),

@@ -82,7 +82,7 @@ impl Told<Package> for Graphed {
     }
 }
 
-const GRAPHS: &[Row] = &[
+static GRAPHS: &[Row] = &[
     // two nodes and an edge, and a cycle
     ("a b|b", "a[1] b | 0>1"),
     ("a b|b a", "a[1] b[0] | 0>1 1>0"),

@@ -55,7 +55,7 @@ impl Told<Package> for Direct {
     }
 }
 
-const DIRECT: &[Row] = &[
+static DIRECT: &[Row] = &[
     // `b` by its own edge; its feature `j` by the second; features have no dependencies, and nobody depends on `a`
     (
         "a b?;b=dep:b w=b?/j|b;j= / nodes a b;b w|b;j",
@@ -117,7 +117,7 @@ impl Told<Package> for Own {
     }
 }
 
-const OWN: &[Row] = &[
+static OWN: &[Row] = &[
     // a dependency that requires a feature twice, as the default one and by name, and the feature, which leads to its crate
     (
         "a b!&with=default|b;default= / nodes a b|b;default",
@@ -189,7 +189,7 @@ impl Told<Package> for Ends {
     }
 }
 
-const ENDS: &[Row] = &[
+static ENDS: &[Row] = &[
     (
         "a b?;b=dep:b w=b?/j|b;j= / nodes a b;b w|b;j",
         "| b> +j: =b -| a: b: - -| a: +j: - -| - - 0 1 into 0 3 6",
@@ -214,7 +214,7 @@ impl Told<Package> for Filtered {
     }
 }
 
-const FILTERED: &[Row] = &[
+static FILTERED: &[Row] = &[
     ("a b c&dev|b|c d|d / ask dev", "a b "),
     // a feature leads on where its crate's dependency doesn't
     ("a b&dev;x=b/y|b;y= / ask dev", "a b "),

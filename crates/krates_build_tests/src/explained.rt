@@ -75,7 +75,7 @@ impl Ask for Explained {
     }
 }
 
-const EXPLAINED: &[Row] = &[
+static EXPLAINED: &[Row] = &[
     // a weak reference over an edge that another feature keeps, and a strong one beside it
     ("a b?;b=dep:b w=b?/j|b;j=", "5 nodes true, 7 facts true"),
     (
@@ -152,7 +152,7 @@ impl Ask for Rechecked {
     }
 }
 
-const RECHECKED: &[Row] = &[
+static RECHECKED: &[Row] = &[
     // a crate that is needed for tests
     (
         "a b&dev|b / why 1",

@@ -67,7 +67,7 @@ impl Tell for AskedFor {
     }
 }
 
-const ASKED_FOR: &[Row] = &[
+static ASKED_FOR: &[Row] = &[
     // it is asked once
     ("a b|b", "+a+b, asked 1"),
     // even where a package is lost, or no crate is kept
@@ -164,7 +164,7 @@ impl Tell for Corrected {
     }
 }
 
-const CORRECTED: &[Row] = &[
+static CORRECTED: &[Row] = &[
     // a package of crates.io that isn't kept, whose manifest has one feature
     (
         "a|p@1.0.0&crates.io;default=std / nodes a / index p@1.0.0 std",

@@ -59,7 +59,7 @@ impl Tell for Drawn {
     }
 }
 
-const LIMITS: &[Row] = &[
+static LIMITS: &[Row] = &[
     // two crates and an edge: exactly as many as there may be, and one of either too many
     ("a b|b / within 2 1", "2 nodes, 1 edges"),
     ("a b|b / within 1 1", "too many nodes or edges"),

@@ -133,7 +133,7 @@ impl Told<Package> for LookedUp {
     }
 }
 
-const LOOKED_UP: &[Row] = &[
+static LOOKED_UP: &[Row] = &[
     // numbers and nodes of ids
     ("a b|b|c / ask number a", "0"),
     ("a b|b|c / ask number b", "1"),

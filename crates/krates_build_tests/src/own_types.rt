@@ -130,7 +130,7 @@ impl Tell for Own {
     }
 }
 
-const OWN: &[Row] = &[
+static OWN: &[Row] = &[
     ("a b|b|c|d / nodes a b|b|c|d", "ab>, closure cd"),
     ("a b;x=|b|c / nodes a b;x|b", "ab>:, closure c"),
     ("a b&dev|b|c", "ab>, closure c"),
@@ -211,7 +211,7 @@ impl Told<Named> for Called {
     }
 }
 
-const CALLED: &[Row] = &[
+static CALLED: &[Row] = &[
     // a crate is found by what its owner calls it, and not by the name of its package or of its id
     ("a b|b / ask /w/b/Cargo.toml", " 1=b"),
     ("a b|b / ask b", ""),

@@ -35,7 +35,7 @@ impl Question for Compared {
     }
 }
 
-const COMPARED: &[Row] = &[
+static COMPARED: &[Row] = &[
     // reordered by hand
     // a dependency for tests: the packages and the nodes the other way round
     (

@@ -51,7 +51,7 @@ impl Told<Named> for Printed {
     }
 }
 
-const PRINTED: &[Row] = &[
+static PRINTED: &[Row] = &[
     // a feature, and its edge
     ("a;f=", "crate a,feature f,|;| :"),
     // a dependency of each kind
@@ -99,7 +99,7 @@ impl Tell for Kinds {
     }
 }
 
-const KINDS: &[Row] = &[
+static KINDS: &[Row] = &[
     ("normal", "'' normal"),
     ("build", "'build' build"),
     ("dev", "'dev' dev"),

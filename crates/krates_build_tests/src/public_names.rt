@@ -124,7 +124,7 @@ impl Tell for Named {
     }
 }
 
-const NAMES: &[Row] = &[
+static NAMES: &[Row] = &[
     ("NodeId 3", "3"),
     ("EdgeId 4", "4"),
     ("graph::Graph", "2"),

@@ -127,7 +127,7 @@ impl Tell for Answers {
     }
 }
 
-const ANSWERS: &[Row] = &[
+static ANSWERS: &[Row] = &[
     (
         "a f",
         r#"root true, stands true, Available(NodePlace { index: 0 }), package a, node true, lists true ["b/g", "x"] of 2: b c"#,

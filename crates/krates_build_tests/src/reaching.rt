@@ -30,7 +30,7 @@ impl Told<Package> for AllDependents {
 }
 
 /// A crate is among its own. A number without a node has none.
-const ALL_DEPENDENTS: &[Row] = &[
+static ALL_DEPENDENTS: &[Row] = &[
     // a chain
     ("a b|b c|c", " 0<0a=a 1<0a=a 1<1b=b 2<0a=a 2<1b=b 2<2c=c"),
     // two ways to one crate: each is found once
@@ -76,7 +76,7 @@ impl Told<Package> for Reaching {
 }
 
 /// A node reaches itself. A number without a node reaches nothing, and nothing reaches it.
-const REACHING: &[Row] = &[
+static REACHING: &[Row] = &[
     ("a b|b c|c", " 0>0 0>1 0>2 1>1 1>2 2>2"),
     ("a b c|b d|c d|d", " 0>0 0>1 0>2 0>3 1>1 1>3 2>2 2>3 3>3"),
     ("a b|b a&dev / members a b", " 0>0 0>1 1>0 1>1"),

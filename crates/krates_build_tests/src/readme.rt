@@ -63,7 +63,7 @@ impl Ask for Example {
     }
 }
 
-const TOLD: &[Row] = &[
+static TOLD: &[Row] = &[
     (
         "a b&dev|b",
         "it is kept, since it is a root; something else follows",

@@ -7,7 +7,7 @@ use std::alloc::Global;
 use std::test::Fail;
 
 /// The real documents, by the name of the member of each.
-const REAL: &[(&str, &str)] = &[("weakling", WEAK), ("gitter", GIT)];
+static REAL: &[(&str, &str)] = &[("weakling", WEAK), ("gitter", GIT)];
 
 /// The text of the real document of the member that a line names.
 fn real_json(line: &str) -> Option<&'static str> {

@@ -71,7 +71,7 @@ impl Told<Package> for Beside {
     }
 }
 
-const BESIDE: &[Row] = &[
+static BESIDE: &[Row] = &[
     // what only a dev dependency brings is in neither
     ("a b&dev|b / ask dev", "+a beside +a"),
     ("a b&dev c|b c|c / ask dev", "+a+c beside +a+c"),

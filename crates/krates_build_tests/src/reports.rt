@@ -31,7 +31,7 @@ impl Told<Package> for Dependents {
     }
 }
 
-const DEPENDENTS: &[Row] = &[
+static DEPENDENTS: &[Row] = &[
     // by a normal edge, and by edges that say their kind and target
     ("a b|b / of b", "a, "),
     (
@@ -68,7 +68,7 @@ impl Told<Package> for ForTests {
     }
 }
 
-const FOR_TESTS: &[Row] = &[
+static FOR_TESTS: &[Row] = &[
     ("a b|b", ""),
     // what a test needs, and what that needs
     ("a b&dev|b c|c", "b, c, "),
@@ -110,7 +110,7 @@ impl Told<Package> for Shipped {
     }
 }
 
-const SHIPPED: &[Row] = &[
+static SHIPPED: &[Row] = &[
     // at a target that rustc describes
     (
         r#"a b&on=cfg(windows) c&dev|b d&crates.io|c|d&crates.io / ignore dev all / for x86_64-pc-windows-gnu;target_family="windows""#,

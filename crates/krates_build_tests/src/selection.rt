@@ -60,7 +60,7 @@ impl ToldOfSelection for Listed {
 /// What is selected of a document under the setting of its line, or the text of the refusal.
 type Selected = OfSelection<Listed>;
 
-const PLACES: &[Row] = &[
+static PLACES: &[Row] = &[
     // a crate that declares another three times, last for its build, and whose node lists that for the build, for tests and for
     // the build again, beside another crate that it needs and that comes first by its id
     (
@@ -70,7 +70,7 @@ const PLACES: &[Row] = &[
 ];
 
 /// Which features are enabled by the rules, which edges they keep, and which are lost.
-const ENABLED: &[Row] = &[
+static ENABLED: &[Row] = &[
     // a weak reference over an edge that another feature keeps, and over none
     (
         "a b?;b=dep:b w=b?/j|b;j=",
@@ -156,7 +156,7 @@ const ENABLED: &[Row] = &[
 ];
 
 /// Which dependency a feature reference means: the least by id or all, also by the name of its library, and over edges of any kind.
-const MEANT: &[Row] = &[
+static MEANT: &[Row] = &[
     // a member that needs a crate twice, optional as a normal dependency and not optional as one for development
     (
         "a b? b&dev;w=b?/j|b;j= / nodes a b&normal&dev;w|b;j",

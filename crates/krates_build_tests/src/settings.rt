@@ -9,7 +9,7 @@ use krates_samples::table::{Row, Tell, hold};
 use krates_text::text::Text;
 use std::test::Fail;
 
-const SETTINGS: &[Row] = &[
+static SETTINGS: &[Row] = &[
     // crates that are included
     ("a|c / members a c / include /w/c", "+c-a"),
     ("a|c / members a c / include /w/./c//Cargo.toml", "+c-a"),
@@ -163,7 +163,7 @@ impl Tell for Chained {
     }
 }
 
-const CHAINED: &[Row] = &[
+static CHAINED: &[Row] = &[
     ("a b&build|b|c|e / members a c e / root a", "+a+c-b-e"),
     // what a member needs for its tests, and what another crate needs
     ("a b d&dev|b f|d|f", "+a+b-d-f"),
@@ -182,7 +182,7 @@ impl Tell for Under {
     }
 }
 
-const UNDER: &[Row] = &[
+static UNDER: &[Row] = &[
     // of two crates that are included one is left out, and a third member isn't included; a kind is ignored, and a target set
     (
         "a b&on=cfg(unix) c&dev|b|c|d|e / members a d e / include /w/a /w/d / without d / ignore dev all / for x86_64-unknown-linux-gnu",

@@ -11,7 +11,7 @@ use std::io::Write;
 use std::test::Fail;
 
 /// The last word of a run, after `verbose` where that is set, and what is read from it; and a program that isn't there.
-const RUNS: &[Row] = &[
+static RUNS: &[Row] = &[
     ("x", "2 packages"),
     (
         "--fake=fail",

@@ -42,7 +42,7 @@ struct Build {
 }
 
 /// The build without an index, and the one with an index, which gives the package a feature.
-const BUILT: &[Build] = &[
+static BUILT: &[Build] = &[
     Build {
         line: FEATURES,
         is_indexed: false,

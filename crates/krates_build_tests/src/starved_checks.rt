@@ -27,7 +27,7 @@ enum Checker {
 }
 
 /// Both checkers. The index gives the package a third feature.
-const CHECKERS: &[Checker] = &[Checker::Steps, Checker::Facts];
+static CHECKERS: &[Checker] = &[Checker::Steps, Checker::Facts];
 
 impl Call for Checker {
     type Given = Checked;

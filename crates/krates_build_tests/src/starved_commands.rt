@@ -10,7 +10,7 @@ use std::mem::replace;
 use std::test::Fail;
 
 /// Names for which a list that has one has to grow.
-const MORE: &str = "b,c,d,e,f,g,h,i,j";
+static MORE: &str = "b,c,d,e,f,g,h,i,j";
 
 /// The texts between these characters.
 pub(crate) fn parts(alloc: Global, text: &str, between: char) -> Result<Vec<String>, AllocError> {
@@ -37,7 +37,7 @@ enum OfCommand {
 }
 
 /// All calls on the command.
-const OF_COMMAND: &[OfCommand] = &[OfCommand::Features, OfCommand::Env, OfCommand::Args];
+static OF_COMMAND: &[OfCommand] = &[OfCommand::Features, OfCommand::Env, OfCommand::Args];
 
 /// The words of the command.
 const WORDS: &str = "metadata|--format-version|1|--no-deps|--features|a|--manifest-path|p|--z";
@@ -117,14 +117,14 @@ enum OfOptions {
 }
 
 /// All calls on the options.
-const OF_OPTIONS: &[OfOptions] = &[
+static OF_OPTIONS: &[OfOptions] = &[
     OfOptions::Features,
     OfOptions::OtherOptions,
     OfOptions::IntoCommand,
 ];
 
 /// What is reported of the command that the options mean.
-const OPTIONS: &str =
+static OPTIONS: &str =
     "cargo in x: metadata|--format-version|1|--manifest-path|Cargo.toml|--all-features|--features|a|--a";
 
 /// A tool's options, and more names.

@@ -9,14 +9,14 @@ use std::alloc::{AllocError, Global};
 use std::test::Fail;
 
 /// Two members, of which the first has a feature and needs the second.
-const LINE: &str = "a b&dev;f=g|b|c / members b a";
+static LINE: &str = "a b&dev;f=g|b|c / members b a";
 
 /// Reads a document of two packages and a graph.
 #[derive(Debug)]
 struct Parse;
 
 /// The document is read.
-const PARSED: &[Parse] = &[Parse];
+static PARSED: &[Parse] = &[Parse];
 
 impl Call for Parse {
     type Given = String;
@@ -69,7 +69,7 @@ enum Asked {
 }
 
 /// All that it is asked.
-const ASKED: &[Asked] = &[Asked::Members, Asked::DefaultMembers];
+static ASKED: &[Asked] = &[Asked::Members, Asked::DefaultMembers];
 
 impl Call for Asked {
     type Given = Box<Metadata>;

@@ -14,7 +14,7 @@ enum Add {
 }
 
 /// All that may be added.
-const ADDED: &[Add] = &[Add::Node, Add::Edge, Add::Room];
+static ADDED: &[Add] = &[Add::Node, Add::Edge, Add::Room];
 
 impl Call for Add {
     type Given = Graph<u32, u32>;

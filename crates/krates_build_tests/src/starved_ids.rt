@@ -13,14 +13,14 @@ use std::mem::replace;
 use std::test::Fail;
 
 /// An id with an escape, which is read by decoding it.
-const ESCAPED: &str = "git+https://github.com/a/b?branch=c%2Fd#0.1.0";
+static ESCAPED: &str = "git+https://github.com/a/b?branch=c%2Fd#0.1.0";
 
 /// Reads that id.
 #[derive(Debug)]
 struct ReadId;
 
 /// The id is read.
-const READ: &[ReadId] = &[ReadId];
+static READ: &[ReadId] = &[ReadId];
 
 impl Call for ReadId {
     type Given = PackageId;
@@ -78,7 +78,7 @@ struct Indexed {
 struct Correct;
 
 /// The package is corrected.
-const CORRECTED: &[Correct] = &[Correct];
+static CORRECTED: &[Correct] = &[Correct];
 
 impl Call for Correct {
     type Given = Indexed;

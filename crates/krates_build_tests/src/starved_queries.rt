@@ -21,7 +21,7 @@ enum Asked {
 }
 
 /// All that it is asked.
-const ASKED: &[Asked] = &[
+static ASKED: &[Asked] = &[
     Asked::Dependencies,
     Asked::Dependents,
     Asked::AllDependents,

@@ -12,10 +12,10 @@ use std::mem::replace;
 use std::test::Fail;
 
 /// Two members, of which the first needs two crates, the second of these on Windows alone.
-const LINE: &str = "a b c&on=cfg(windows)|b|c|d / members a d";
+static LINE: &str = "a b c&on=cfg(windows)|b|c|d / members a d";
 
 /// The steps by which the edge from the first crate to another is kept, or another as a root.
-const STEPS: &[(&str, &str)] = &[
+static STEPS: &[(&str, &str)] = &[
     ("b", "1 +a; 5 a>b 0"),
     ("c", "1 +a; 5 a>c::cfg(windows) 0"),
     ("d", "1 +d"),
@@ -86,7 +86,7 @@ struct Set {
 }
 
 /// The builder's setters that append.
-const SETTERS: &[Set] = &[
+static SETTERS: &[Set] = &[
     Set {
         setter: Setter::Exclude,
         text: "c",

@@ -42,7 +42,7 @@ impl ToldOfSelection for Stepped {
     }
 }
 
-const STEPS: &[Row] = &[
+static STEPS: &[Row] = &[
     // the root, the edge that it needs, and the crate that this leads to
     ("a b|b", "1 crate 0; 5 edge 0.0.0 <0; 5 crate 1 <1; "),
     // the same, where the dependency is listed twice for the same

@@ -21,7 +21,7 @@ impl Told<Package> for Worked {
     }
 }
 
-const COUNTED: &[Row] = &[
+static COUNTED: &[Row] = &[
     // `b` is required, and `w` enables its feature `j`, which has no references
     ("a b?;b=dep:b w=b?/j|b;j=", "2, 3, 2"),
     // the reference of `w` is counted, though the edge that it waits for isn't kept

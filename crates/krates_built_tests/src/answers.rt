@@ -23,7 +23,7 @@ use std::test::Fail;
 
 /// A document and what is asked for, as in `builds`; and the crates that are built, each with what for, which of them need which, at which
 /// positions, and those that are built twice with different features.
-const BUILT: &[Row] = &[
+static BUILT: &[Row] = &[
     // what a build script needs is needed by what its crate is built for
     (
         "a b&build c|b|c;f= / targets a:bin,custom-build b:lib c:lib / build 2 target=windows features=c/f",
@@ -53,7 +53,7 @@ const BUILT: &[Row] = &[
 
 /// The same build as it is asked for, and what each crate is used for that it builds with all targets; and the crates that it doesn't build as it
 /// is asked for.
-const USES: &[Row] = &[
+static USES: &[Row] = &[
     (
         "a b&build c d&dev|b|c|d|e / targets a:bin,custom-build,test b:lib c:lib d:lib e:lib / build 2",
         "a shipped, b build, c shipped, d tests, | d, e, ",
@@ -71,7 +71,7 @@ const USES: &[Row] = &[
 
 /// A document and what is asked for, as in `builds`; and of each crate that is built, for which sides it is built, what this build alone says it
 /// is used for, and where its feature `f` is enabled and its dependencies `c` are turned on: `^` says that this is on the host's side.
-const SIDES: &[Row] = &[(
+static SIDES: &[Row] = &[(
     "a b m|m b&with=f|b c?&build;f=dep:c|c / targets a:bin m:proc-macro b:lib,custom-build c:lib / build 2",
     "a targets shipped, b targets host shipped f^ c^, c host build, m host build, ",
 )];

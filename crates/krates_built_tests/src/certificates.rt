@@ -42,7 +42,7 @@ impl Tell for Again {
     }
 }
 
-const TEXTS: &[Row] = &[
+static TEXTS: &[Row] = &[
     // what is written is read as it was
     (
         r#"{"machines":[],"setting":[],"steps":[]}"#,

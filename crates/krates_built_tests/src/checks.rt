@@ -13,7 +13,7 @@ use std::alloc::{AllocError, Global};
 use std::test::Fail;
 
 /// Steps about the one program: of each the facts that it follows from, and last the fact that it gives.
-const STEPS: &[Row] = &[
+static STEPS: &[Row] = &[
     ("met", "accepted"),
     ("met/met linked/linked other", "accepted"),
     // what is asked for, and what it needs
@@ -43,7 +43,7 @@ const STEPS: &[Row] = &[
 ];
 
 /// Lists of facts about it: all that follow are nine.
-const LISTS: &[Row] = &[
+static LISTS: &[Row] = &[
     (
         "met active unit linked other used below needed library",
         "closed",
@@ -94,7 +94,7 @@ const LISTS: &[Row] = &[
 ];
 
 /// A document and what is asked for: what is derived is closed, and each fact's own steps are accepted.
-const DERIVED: &[Row] = &[
+static DERIVED: &[Row] = &[
     (
         "a b?;x=dep:b|b / targets a:bin b:lib / build 2 features=x",
         "closed",

@@ -6,7 +6,7 @@ use std::test::Fail;
 
 /// A document and what is asked for, and what is compiled, as in `builds`: a feature that only a dev dependency asks for counts by the first
 /// resolver, and so a crate is built that it turns on.
-const FIRST_RESOLVER: &[Row] = &[
+static FIRST_RESOLVER: &[Row] = &[
     (
         "a b b&dev&with=f|b c?;f=dep:c|c / nodes a b&normal&dev|b c;f|c / targets a:bin b:lib c:lib / build 1",
         "b/f, a Bin@linux, b Lib@linux, c Lib@linux, ",
@@ -18,7 +18,7 @@ const FIRST_RESOLVER: &[Row] = &[
 ];
 
 /// The same: what the host alone needs isn't part of what is built for another machine.
-const OTHER_MACHINE: &[Row] = &[
+static OTHER_MACHINE: &[Row] = &[
     (
         "a b&build c&on=cfg(unix)|b|c / targets a:bin,custom-build b:lib c:lib / build 2 target=windows",
         "a Bin@windows, b Lib@host, a script, ",
@@ -30,7 +30,7 @@ const OTHER_MACHINE: &[Row] = &[
 ];
 
 /// The same: build dependencies are those of the host, whatever is built for.
-const BUILD_DEPENDENCIES: &[Row] = &[
+static BUILD_DEPENDENCIES: &[Row] = &[
     (
         "a b&build&on=cfg(unix) c&build&on=cfg(windows)|b|c / targets a:bin,custom-build b:lib c:lib / build 2 target=windows",
         "a Bin@windows, b Lib@host, a script, ",
@@ -42,14 +42,14 @@ const BUILD_DEPENDENCIES: &[Row] = &[
 ];
 
 /// The same: an optional dependency that a feature of it turns on gives the feature of its name.
-const FEATURE_OF_THE_NAME: &[Row] = &[(
+static FEATURE_OF_THE_NAME: &[Row] = &[(
     "a b?;std=b/std b=dep:b|b;std= / targets a:lib b:lib / build 2 features=std",
     "a/b, a/std, b/std, a Lib@linux, b Lib@linux, ",
 )];
 
 /// The same: in the folder of a member, and where it alone is asked for, it lacks the features that only other members turn on, though its
 /// node lists them.
-const MEMBER_ALONE: &[Row] = &[
+static MEMBER_ALONE: &[Row] = &[
     (
         "a c?;f=dep:c|b a&with=f|c / nodes a c;f|b a|c / members a b / root a / targets a:lib b:lib c:lib / build 1",
         "a Lib@linux, ",
@@ -66,7 +66,7 @@ const MEMBER_ALONE: &[Row] = &[
 
 /// The same, where a build that is asked for less isn't a part of one that is asked for more: if no member is asked for, each turns on features
 /// of its dependencies, and otherwise only those do that are asked for.
-const LESS_WITHOUT_MEMBERS: &[Row] = &[
+static LESS_WITHOUT_MEMBERS: &[Row] = &[
     (
         "a c|b c&with=f|c;f= / members a b / targets a:lib b:lib c:lib / build 2 package=c",
         "c/f, c Lib@linux, ",
@@ -79,7 +79,7 @@ const LESS_WITHOUT_MEMBERS: &[Row] = &[
 
 /// The same in the folder of `a` by the first resolver, for which `b/f` is a feature of the dependency `b` of `a`, unless the member `b` is asked
 /// for too: then it is one of that member. Both are built either way.
-const LESS_OF_THE_FOLDER: &[Row] = &[
+static LESS_OF_THE_FOLDER: &[Row] = &[
     (
         "a b?;y=dep:b|b;f= / members a b / root a / targets a:lib b:lib / build 1 features=b/f",
         "b/f, a Lib@linux, b Lib@linux, ",
@@ -91,7 +91,7 @@ const LESS_OF_THE_FOLDER: &[Row] = &[
 ];
 
 /// What units need in the same builds: only the one that is asked for less turns on the dependency, so that `a` needs `b` there.
-const NEEDED_OF_THE_FOLDER: &[Row] = &[
+static NEEDED_OF_THE_FOLDER: &[Row] = &[
     (
         "a b?;y=dep:b|b;f= / members a b / root a / targets a:lib b:lib / build 1 features=b/f",
         "a@linux>b@linux, ",

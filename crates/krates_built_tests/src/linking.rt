@@ -5,7 +5,7 @@ use krates_samples::table::{Row, hold};
 use std::test::Fail;
 
 /// A document and what is asked for, and what is compiled, as in `builds`.
-const LINKED: &[Row] = &[
+static LINKED: &[Row] = &[
     // what exists is met, and has dependencies in its turn (Cargo Book, "Dependency Resolution")
     (
         "a b|b c|c / targets a:bin b:lib c:lib / build 2",
@@ -108,7 +108,7 @@ const LINKED: &[Row] = &[
 ];
 
 /// The same where the document lacks edges, and what is lost by this.
-const LOST: &[Row] = &[
+static LOST: &[Row] = &[
     (
         "a b|b / nodes a|b / targets a:bin b:lib / build 2",
         "lost b of a, a Bin@linux, ",

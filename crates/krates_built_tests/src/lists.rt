@@ -9,7 +9,7 @@ use std::alloc::AllocError;
 use std::test::Fail;
 
 /// A document and what is asked for, as in `builds`; and each list in its order, or the refusal.
-const LISTS: &[Row] = &[
+static LISTS: &[Row] = &[
     (
         "a b&build c|b|c;f= / targets a:bin,custom-build b:lib c:lib / build 2 target=windows features=c/f",
         "c/f, | a Bin@windows, b Lib@host, c Lib@windows, | a script, | a@windows, | a@host>b@host, a@windows>c@windows, | ",

@@ -13,7 +13,7 @@ use std::alloc::{AllocError, Global};
 use std::test::Fail;
 
 /// A document, and what is asked for; and the words of each fact that follows, in the order of facts.
-const WRITTEN: &[Row] = &[(
+static WRITTEN: &[Row] = &[(
     PROGRAM,
     "met|path+file:///w/a#0.1.0|root\n\
         met|path+file:///w/b#0.1.0|dependency\n\
@@ -27,7 +27,7 @@ const WRITTEN: &[Row] = &[(
 )];
 
 /// Words, of which `A` and `B` are the ids of the crates; and the fact that they name, or the fault.
-const READ: &[Row] = &[
+static READ: &[Row] = &[
     ("met A root", "Met(0, Root)"),
     ("met B dependency and more", "Met(1, Dependency)"),
     ("activated B host", "Activated(1, Host)"),

@@ -6,7 +6,7 @@ use std::test::Fail;
 
 /// A document and what is asked for, and what is compiled with which features, as in `builds`: where each member that is asked for is asked
 /// alike, since the resolver is a later one, or the folder has no package (Cargo Book, "Features", "Command-line feature options").
-const ALIKE: &[Row] = &[
+static ALIKE: &[Row] = &[
     // only what is asked for is built
     (
         "a|b / members a b / targets a:lib b:lib / build 2",
@@ -50,7 +50,7 @@ const ALIKE: &[Row] = &[
 ];
 
 /// The same in the folder of `a` with the first resolver: this is a root, with all that isn't for another member.
-const OF_THE_FOLDER: &[Row] = &[
+static OF_THE_FOLDER: &[Row] = &[
     // even if another is asked for
     (
         "a c;x=c/f|b c|c;f= / members a b / root a / targets a:lib b:lib c:lib / build 1 package=b features=x",

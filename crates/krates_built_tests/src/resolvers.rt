@@ -9,7 +9,7 @@ use std::alloc::Global;
 use std::test::Fail;
 
 /// What is named in the manifest, whatever the edition of the package is.
-const NAMED: &[Row] = &[
+static NAMED: &[Row] = &[
     (
         "/w/a 2024 / [package]\nname = \"a\"\nresolver = \"1\"",
         "V1",
@@ -51,7 +51,7 @@ const NAMED: &[Row] = &[
 ];
 
 /// What is used where the manifest names none: by the edition of its package, as the document says it.
-const BY_EDITION: &[Row] = &[
+static BY_EDITION: &[Row] = &[
     ("/w/a 2015 / [package]", "V1"),
     ("/w/a 2018 / [package]", "V1"),
     ("/w/a 2021 / [package]", "V2"),
@@ -70,7 +70,7 @@ const BY_EDITION: &[Row] = &[
 ];
 
 /// A virtual manifest, whatever the editions of its members are.
-const VIRTUAL: &[Row] = &[
+static VIRTUAL: &[Row] = &[
     ("/w 2024 / [workspace]\nmembers = [\"a\", \"b\"]", "V1"),
     (
         "/w 2024 / [workspace]\n[workspace.package]\nedition = \"2024\"",
@@ -82,7 +82,7 @@ const VIRTUAL: &[Row] = &[
 ];
 
 /// What is refused, and how.
-const REFUSED: &[Row] = &[
+static REFUSED: &[Row] = &[
     (
         "/w/a 2021 / [package",
         "TOML parse error at line 1, column 9: unclosed table, expected `]`",

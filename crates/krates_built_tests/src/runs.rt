@@ -5,7 +5,7 @@ use krates_samples::table::{Row, hold};
 use std::test::Fail;
 
 /// A document and what is asked for, as in `builds`, and each run that another needs: the crates, each with what it is run for.
-const RUNS: &[Row] = &[
+static RUNS: &[Row] = &[
     (
         "a b|b / targets a:bin,custom-build b:lib,custom-build,links / build 2",
         "a@linux>b@linux, ",

@@ -5,7 +5,7 @@ use krates_samples::table::{Row, hold};
 use std::test::Fail;
 
 /// A document and what is asked for, and what is compiled with the features of each side, as in `builds`.
-const ENABLED: &[Row] = &[
+static ENABLED: &[Row] = &[
     // what takes part gives features to its dependencies, on each layer (Cargo Book, "Features")
     (
         "a b|b c&with=f|c;f= / targets a:bin b:lib c:lib / build 2",
@@ -37,7 +37,7 @@ const ENABLED: &[Row] = &[
 ];
 
 /// The same where the later resolvers tell features apart which the first one unites (Cargo Book, "Features", "Feature resolver version 2").
-const DEV_AND_MACHINES: &[Row] = &[
+static DEV_AND_MACHINES: &[Row] = &[
     // those of dev dependencies, unless something is asked for that has such
     (
         "a b b&dev&with=f|b;f= / nodes a b&normal&dev|b;f / targets a:bin b:lib / build 2",
@@ -80,7 +80,7 @@ const DEV_AND_MACHINES: &[Row] = &[
 ];
 
 /// The same, of features of what the build itself runs.
-const HOST: &[Row] = &[
+static HOST: &[Row] = &[
     // build dependencies, and what is below them
     (
         "a b b&build&with=f|b;f= / nodes a b&normal&build|b;f / targets a:bin,custom-build b:lib / build 2 target=windows",
@@ -142,7 +142,7 @@ const HOST: &[Row] = &[
 ];
 
 /// The same, of targets that require features (Cargo Book, "Cargo Targets", "The `required-features` field").
-const REQUIRED: &[Row] = &[
+static REQUIRED: &[Row] = &[
     ("a;x= / targets a:lib,bin=x / build 2", "a Lib@linux, "),
     (
         "a;x= / targets a:lib,bin=x / build 2 features=x",

@@ -12,7 +12,7 @@ use std::test::Fail;
 
 /// A reference, and a name; the feature of the dependency of that name that it names, and whether it turns that on (Cargo Book,
 /// "Features", "Dependency features").
-const REFERENCES: &[Row] = &[
+static REFERENCES: &[Row] = &[
     ("b/f b", "f, on"),
     ("b?/f b", "f"),
     ("dep:b b", ""),
@@ -45,7 +45,7 @@ fn references_are_read(rt: HostRuntime) -> Result<(), Fail> {
 }
 
 /// Two machines, and whether they are the same.
-const MACHINES: &[Row] = &[
+static MACHINES: &[Row] = &[
     ("linux linux", "true"),
     ("linux windows", "false"),
     ("windows windows", "true"),
@@ -70,7 +70,7 @@ fn machines_are_the_same(rt: HostRuntime) -> Result<(), Fail> {
 }
 
 /// A document, and its folder and root.
-const ROOTS: &[Row] = &[("a", "/w"), ("a|b / members a b / root b", "/w b")];
+static ROOTS: &[Row] = &[("a", "/w"), ("a|b / members a b / root b", "/w b")];
 
 /// What a document says of itself.
 struct Rooted;

@@ -12,12 +12,12 @@ use std::test::Fail;
 
 /// The packages of a workspace with three members. `a` has a dependency of each kind; the feature that an optional one brings by
 /// itself is one of `opt`, but not of `hidden`, which `dep:` hides.
-const WORKSPACE: &str =
+static WORKSPACE: &str =
     "a dep opt? hidden? devd&dev;x= opt=dep:opt hid=dep:hidden|b;default= y= hidden=|c|dep;f=|opt;f=|hidden;f=|devd;f= / members a b c / targets dep:lib opt:lib hidden:lib devd:lib";
 
 /// What is asked in the folder of `a` with the first resolver: `a` has to have each feature, selected or not, but for what is named of
 /// another member that is selected.
-const OF_THE_FOLDER: &[Row] = &[
+static OF_THE_FOLDER: &[Row] = &[
     ("root a / build 1", ""),
     ("root a / build 1 features=x", ""),
     ("root a / build 1 features=nosuch", "feature nosuch"),
@@ -63,7 +63,7 @@ const OF_THE_FOLDER: &[Row] = &[
 ];
 
 /// What is asked where the folder has no package, or with a later resolver: some member that is selected has to have each feature.
-const OF_MEMBERS: &[Row] = &[
+static OF_MEMBERS: &[Row] = &[
     ("build 1", ""),
     ("build 1 features=x,y,default", ""),
     ("build 1 features=x,nosuch", "feature nosuch"),
@@ -107,11 +107,11 @@ const OF_MEMBERS: &[Row] = &[
 /// A package with dependencies under another name, for a machine, and for building. One name leads to two packages, one on each kind of
 /// machine; the feature that an optional dependency brings by itself is one of `dep`, but `dep:` hides that of another. The document
 /// was asked for without features, so it has nothing of `gone`.
-const DEPENDENCIES: &str =
+static DEPENDENCIES: &str =
     "a ren&as=d win&on=cfg(windows) bld&build multi@1.0.0&crates.io&on=cfg(unix)&req=^1 multi@2.0.0&crates.io&on=cfg(windows)&req=^2 dep gone?;gone=dep:gone|ren;f=|win;f=|bld;f=|multi@1.0.0&crates.io;f= both=|multi@2.0.0&crates.io;g= both=|dep;f= o=dep:o hid=dep:h / root a / targets ren:lib win:lib bld:lib multi:lib dep:lib / nodes a ren&as=d win&on=cfg(windows) bld&build multi@1.0.0&crates.io&on=cfg(unix) multi@2.0.0&crates.io&on=cfg(windows) dep|ren|win|bld|multi@1.0.0&crates.io|multi@2.0.0&crates.io|dep";
 
 /// What is asked there of dependencies, whatever the resolver: each package that a name leads to has to have the feature.
-const OF_DEPENDENCIES: &[Row] = &[
+static OF_DEPENDENCIES: &[Row] = &[
     ("build 1 features=d/f,d?/f,win/f,bld/f", ""),
     ("build 2 features=d/f,d?/f,win/f,bld/f", ""),
     ("build 1 features=d/g", "feature d/g"),
@@ -141,7 +141,7 @@ const OF_DEPENDENCIES: &[Row] = &[
 ];
 
 /// Packages that are asked for.
-const PACKAGES: &[Row] = &[
+static PACKAGES: &[Row] = &[
     ("build 1 package=a", ""),
     ("build 1 package=dep", ""),
     ("build 1 package=a,nosuch,none", "package nosuch"),
@@ -151,7 +151,7 @@ const PACKAGES: &[Row] = &[
 ];
 
 /// What is asked of a workspace that has no default members, and of one that has no members.
-const UNSELECTED: &[Row] = &[
+static UNSELECTED: &[Row] = &[
     ("a;x= / build 2", "selection"),
     ("a;x= / build 2 features=x", "selection"),
     ("a;x= / build 2 workspace features=x", ""),

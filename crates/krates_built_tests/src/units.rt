@@ -5,7 +5,7 @@ use krates_samples::table::{Row, hold};
 use std::test::Fail;
 
 /// A document and what is asked for, and what is compiled, as in `builds`.
-const COMPILED: &[Row] = &[
+static COMPILED: &[Row] = &[
     // what a program needs is for the machine that it is for (Cargo Book, "cargo build")
     (
         "a b|b / targets a:bin b:lib / build 2",
@@ -51,7 +51,7 @@ const COMPILED: &[Row] = &[
 ];
 
 /// The same of what the build itself runs.
-const RUN_BY_THE_BUILD: &[Row] = &[
+static RUN_BY_THE_BUILD: &[Row] = &[
     // a build script and what it needs are the host's (Cargo Book, "Build Scripts")
     (
         "a b&build|b c|c / targets a:bin,custom-build b:lib c:lib / build 2 target=windows",
@@ -115,7 +115,7 @@ const RUN_BY_THE_BUILD: &[Row] = &[
 ];
 
 /// The same of the targets of one package (Cargo Book, "Cargo Targets", and "cargo build", "Target Selection").
-const BESIDE: &[Row] = &[
+static BESIDE: &[Row] = &[
     // what isn't a library needs that of its package, even if it isn't asked for
     (
         "a / targets a:lib,bin / build 2 bins",
@@ -178,7 +178,7 @@ const BESIDE: &[Row] = &[
 ];
 
 /// A document and what is asked for, and what units need over the dependencies of their crates, and for what.
-const NEEDED: &[Row] = &[
+static NEEDED: &[Row] = &[
     (
         "a b|b c|c / targets a:bin b:lib c:lib / build 2",
         "a@linux>b@linux, b@linux>c@linux, ",

@@ -11,7 +11,7 @@ use std::alloc::{AllocError, Global};
 use std::test::Fail;
 
 /// A document, and what is asked for; and how many steps derive each unit.
-const WHY: &[Row] = &[
+static WHY: &[Row] = &[
     // what is asked for needs no other
     ("a / targets a:bin / build 2", "1, "),
     // a is met, its dependency exists, a is compiled, it needs b, b is compiled

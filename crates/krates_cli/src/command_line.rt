@@ -22,10 +22,10 @@ use std::io;
 use std::io::{ErrorKind, Read, Write};
 use std::process::Processes;
 
-const USAGE_LINE: &str =
+static USAGE_LINE: &str =
     "usage: krates-list [--workspace] [--ignore-kind KIND] [--target TRIPLE] [--exclude SPEC] [--cargo PROGRAM] [--why ID] [--all-named]\n";
 
-const NO_MEMORY_LINE: &str = "refused: out of memory\n";
+static NO_MEMORY_LINE: &str = "refused: out of memory\n";
 
 const DONE: u8 = 0;
 
