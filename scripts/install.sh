@@ -57,11 +57,11 @@ compile_together() {
     for name in "${running[@]}"; do wait "$name"; done
 }
 
-# Compiles the programs. krates-list has least below it: it is done while the others are read, which keeps a second processor from waiting.
+# Compiles the programs. cargo-krates has most below it, and takes as long as the others together.
 compile_all() {
     step "compiling ${programs[*]} side by side, unproved, which takes three minutes"
-    begin compile_together cargo-krates krates_check
-    begin compile_together krates-list
+    begin compile_together cargo-krates
+    begin compile_together krates_check krates-list
     end 0
     end 1
 }

@@ -31,11 +31,11 @@ ROOMS = {
     ),
     "checkers": ("#fdeaea", ["krates_derive", "krates_checkers", "krates_certificate", "krates_verdict"]),
     "the graph": ("#e6f6f6", ["krates_drawing", "krates_queries", "krates"]),
-    "what cargo builds": ("#fdf3d8", ["krates_closure", "krates_units", "krates_manifest", "krates_build_tables", "krates_build_facts", "krates_build_checkers", "krates_build_naming", "krates_build_certificate", "krates_grounding", "krates_built", "krates_build_answers"]),
+    "what cargo builds": ("#fdf3d8", ["krates_closure", "krates_units", "krates_manifest", "krates_build_tables", "krates_build_facts", "krates_build_checkers", "krates_build_naming", "krates_build_certificate", "krates_build_verdict", "krates_grounding", "krates_built", "krates_build_answers"]),
     "programs": (
         "#eceff1",
         [
-            "krates_shown", "krates_cli", "krates_list", "krates_answers", "krates_words", "krates_report",
+            "krates_shown", "krates_cli", "krates_list", "krates_answers", "krates_words", "krates_report", "krates_build_report",
             "krates_host", "cargo_krates", "krates_check", "krates_foreign", "krates_c",
         ],
     ),

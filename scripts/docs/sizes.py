@@ -13,10 +13,12 @@ PAGE = ROOT / "docs" / "MEASURED.md"
 TOGETHER = {
     "`krates_cli`, `krates_list`": ("krates_cli", "krates_list"),
     "`krates_certificate`, `krates_verdict`": ("krates_certificate", "krates_verdict"),
+    "`krates_build_certificate`, `krates_build_verdict`": ("krates_build_certificate", "krates_build_verdict"),
     "`krates_foreign`, `krates_c`": ("krates_foreign", "krates_c"),
-    "`krates_words`, `krates_report`, `krates_host`, the programs": (
+    "`krates_words`, `krates_report`, `krates_build_report`, `krates_host`, the programs": (
         "krates_words",
         "krates_report",
+        "krates_build_report",
         "krates_host",
         "cargo_krates",
         "krates_check",
@@ -28,6 +30,7 @@ TOGETHER = {
         "krates_basic_tests",
         "krates_build_tests",
         "krates_built_tests",
+        "krates_build_report_tests",
         "krates_program_tests",
     ),
 }

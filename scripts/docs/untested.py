@@ -82,6 +82,10 @@ SHOWN_BY = {
     "why": ("Explanation::derivation_of", "step_of"),
     # what is read as a document is listed, and what is read as a certificate is judged
     "run": ("listing_of", "CertificateSubject::judge", "CertificateSubject::judge_bytes"),
+    # a certificate of a build is judged under the words of its setting, with the machines that these name
+    "judge_bytes": (
+        "BuildSubject::new BuildSubject::names BuildSubject::judge BuildSubject::line build_setting_words resolver_name"
+    ).split(),
     # a refusal is returned with its status
     "hand_over": ("CallRefusal::status",),
     # what a word of `cargo krates` answers is made of values, which its text and its JSON show
@@ -90,8 +94,13 @@ SHOWN_BY = {
         " DirectLinks::dependencies DirectLinks::of DirectLinks::leads DirectLinks::tree Builds::of"
         " Builds::all Builds::agree Builds::uses Packages::one Packages::any Bill::of"
         " Changed::between Difference::between Duplicates::of licences Tree::of ExplainedFeatures::of"
-        " Bill::text Lines::new Lines::end"
+        " Bill::text Lines::new Lines::end kept_crates list_json ids_json string JsonObject::new JsonObject::text"
+        " JsonObject::object Values::new Values::add Values::list"
     ).split(),
+    # what it answers by what cargo builds is made of the crates that are built, at positions
+    "BuildReporter::new": ("DirectLinks::of_pairs", "Build::of", "Build::crates"),
+    # by build, cargo is told other words than those of the command line
+    "asked_of": ("CargoWords::for_build",),
 }
 
 

@@ -15,6 +15,6 @@ for source in crates/*/src; do
 done
 if [ "${2:-}" = --marked ]; then
     words=crates/krates_words/src/command.rt
-    sed -i '/^pub(crate) const VERSION/s/";$/ (not proved on this machine)";/' "$target/$words"
+    sed -i '/^pub(crate) static VERSION/s/";$/ (not proved on this machine)";/' "$target/$words"
     ! cmp -s "$words" "$target/$words" || { echo "$words: the version that $0 marks isn't there" >&2 && exit 1; }
 fi

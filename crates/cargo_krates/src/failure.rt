@@ -1,5 +1,6 @@
 //! Why there is no answer.
 
+use krates_build_report::BuildReportError;
 use krates_report::ReportError;
 
 /// Why there is no answer.
@@ -11,4 +12,7 @@ pub(crate) enum AnswerFailure {
     /// The question has no answer.
     #[error("{0}")]
     Refused(#[from] ReportError),
+    /// The question has no answer by a build.
+    #[error("{0}")]
+    Build(#[from] BuildReportError),
 }

@@ -6,12 +6,14 @@
 mod failure;
 
 use crate::failure::AnswerFailure;
-use krates::Package;
+use krates::{Metadata, Package};
+use krates_build_report::BuildReporter;
+use krates_host::build::{AskedBuild, build_setting};
 use krates_host::program::{NO, print, refuse_asked, refuse_words, words_of};
-use krates_host::{Inputs, document, said, targets};
+use krates_host::{Inputs, configuration, document, said, targets};
 use krates_report::{Report, Reporter};
 use krates_shown::ShownValue;
-use krates_words::{Asked, Choice, asked_of};
+use krates_words::{Asked, BuildWords, Choice, Rules, Word, asked_of};
 use std::process::ExitCode;
 
 /// The answer to the question.
@@ -20,20 +22,91 @@ fn answer_of(rt: &HostRuntime, mut asked: Asked) -> Result<Report, AnswerFailure
         rt,
         max_bytes: asked.max_bytes,
     };
-    asked.choice.targets = targets::targets_of(&inputs, &asked.choice)?;
-    note_host(rt, &asked.choice);
+    prepare(&inputs, &mut asked.rules)?;
     let other = document::other(&inputs, &asked.word)?;
     let document = document::document(&inputs, &asked)?;
-    note_exclusions(rt, &asked.choice, &document.packages);
-    Ok(Reporter::new(rt.alloc(), &asked).answer(document, other)?)
+    match &asked.rules {
+        Rules::Krates(choice) => {
+            note_exclusions(rt, choice, &document.packages);
+            Ok(Reporter::new(rt.alloc(), &asked, choice).answer(document, other)?)
+        }
+        Rules::Build(words) => {
+            let answer = by_build(&inputs, &asked, words, (&document, other.as_ref()));
+            document.let_go();
+            drop(other);
+            answer
+        }
+    }
+}
+
+/// Looks up what the words don't describe, and says what they leave out.
+fn prepare(inputs: &Inputs<'_>, rules: &mut Rules) -> Result<(), AnswerFailure> {
+    match rules {
+        Rules::Krates(choice) => {
+            choice.targets = targets::targets_of(inputs, choice)?;
+            note_host(inputs.rt, choice);
+        }
+        Rules::Build(_) => configuration::note_files(inputs.rt)?,
+    }
+    Ok(())
+}
+
+/// The answer by the rules of a build, about a document, and about another one where two are compared.
+fn by_build(
+    inputs: &Inputs<'_>,
+    asked: &Asked,
+    words: &BuildWords,
+    documents: (&Metadata, Option<&Metadata>),
+) -> Result<Report, AnswerFailure> {
+    let build = build_setting(inputs, words, documents.0)?;
+    build.note_resolver(inputs.rt);
+    match &asked.word {
+        Word::Uses | Word::Sbom | Word::Diff { .. } => {
+            by_two(inputs, asked, words, documents, &build)
+        }
+        _ => {
+            let reporter = BuildReporter::new(
+                inputs.rt.alloc(),
+                asked,
+                &build.setting,
+                &build.setting,
+                &build.cfgs,
+            );
+            Ok(reporter.answer(documents.0)?)
+        }
+    }
+}
+
+/// The answer by this build and a second one: of the other document where there is one, or of the same with all targets.
+fn by_two(
+    inputs: &Inputs<'_>,
+    asked: &Asked,
+    words: &BuildWords,
+    documents: (&Metadata, Option<&Metadata>),
+    build: &AskedBuild,
+) -> Result<Report, AnswerFailure> {
+    let (document, other) = documents;
+    let mut second = build_setting(inputs, words, other.unwrap_or(document))?;
+    second.setting.kinds.all = second.setting.kinds.all || other.is_none();
+    let reporter = BuildReporter::new(
+        inputs.rt.alloc(),
+        asked,
+        &build.setting,
+        &second.setting,
+        &build.cfgs,
+    );
+    match other {
+        Some(other) => Ok(reporter.difference(document, other)?),
+        None => Ok(reporter.answer(document)?),
+    }
 }
 
 /// Says what targets alone leave out.
 fn note_host(rt: &HostRuntime, choice: &Choice) {
-    if !choice.triples.is_empty() && !choice.host {
+    if !choice.triples.is_empty() {
         said::note(
             rt,
-            "build scripts and proc-macros run on the host; --host adds what they need there",
+            "build scripts and proc-macros run on the host; a --target for it adds what they need there",
         );
     }
 }

@@ -21,6 +21,7 @@ pub mod NamingLemmas
 pub mod OneMoreGrouped
 pub mod OrderedParts
 pub mod PackageTextLemmas
+pub mod PairedNumbers
 pub mod PushedNumbers
 pub mod ReadingLemmas
 pub mod Reversed

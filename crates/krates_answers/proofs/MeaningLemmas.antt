@@ -4,11 +4,11 @@ use Rattle.krates_cm.specs.Document.{Text, package_view}
 use Rattle.krates_cm.specs.declared.package.Package.{Package}
 use Rattle.krates_ids.proofs.IdentityLemmas.{Reads-once}
 use Rattle.krates_ids.specs.Identity.{Identity, Reads}
-use Rattle.krates_queries.specs.KrateNodes.{Match, crates_of}
+use Rattle.krates_queries.specs.KrateNodes.{Match}
 use Rattle.krates_rules.proofs.Members.{Member, contains_of, member_left, member_map, member_of, member_right}
 use Rattle.krates_rules.specs.Facts.{Id}
 use Rattle.krates_rules.specs.Resolved.{id_of}
-use Rattle.krates_answers.specs.Meaning.{AreParted, DocumentPackage, HasId, IsIdOf, IsNoId, Means, by_id, by_specification, kept, other, package_in, packages_in}
+use Rattle.krates_answers.specs.Meaning.{AreParted, DocumentPackage, HasId, IsIdOf, IsNoId, Means, by_id, by_specification, kept, kept_in, other, others_in, package_in, packages_in}
 use Rattle.krates_answers.specs.Those.{AreThose}
 use Rattle.krates_answers.specs.WordSpecification.{AskedPackages, AsksFor, IsAskedFor}
 use Rattle.krates_answers.specs.declared.meaning.Packages.{Packages}
@@ -17,11 +17,11 @@ use Rattle.krates_answers.proofs.WordSpecificationLemmas.{asks_once}
 
 -- ---- the packages of a document
 
-pub kept_among : (p : Packages) (m : Match Package) → Member (crates_of p.krates.now) m → Member (packages_in p) (kept m)
-kept_among p m among = member_left (map kept (crates_of p.krates.now)) (map other p.others.now) (kept m) (member_map kept (crates_of p.krates.now) m among)
+pub kept_among : (p : Packages) (m : Match Package) → Member (kept_in p) m → Member (packages_in p) (kept m)
+kept_among p m among = member_left (map kept (kept_in p)) (map other (others_in p)) (kept m) (member_map kept (kept_in p) m among)
 
-pub other_among : (p : Packages) (pkg : Package) → Member p.others.now pkg → Member (packages_in p) (other pkg)
-other_among p pkg among = member_right (map kept (crates_of p.krates.now)) (map other p.others.now) (other pkg) (member_map other p.others.now pkg among)
+pub other_among : (p : Packages) (pkg : Package) → Member (others_in p) pkg → Member (packages_in p) (other pkg)
+other_among p pkg among = member_right (map kept (kept_in p)) (map other (others_in p)) (other pkg) (member_map other (others_in p) pkg among)
 
 -- a property that is the same of the packages of the document
 pub parted_alike : (P Q : DocumentPackage → Type 0) (p : Packages) (crates : List (Match Package)) (others : List Package)

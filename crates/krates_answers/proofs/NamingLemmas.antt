@@ -4,9 +4,9 @@ use Rattle.std.proofs.lemmas.List.{length-map}
 use Rattle.std.specs.List.{AllZip}
 use Rattle.krates_cm.specs.Document.{Text}
 use Rattle.krates_cm.specs.declared.package.Package.{Package}
-use Rattle.krates_queries.specs.KrateNodes.{Match, crates_of}
+use Rattle.krates_queries.specs.KrateNodes.{Match}
 use Rattle.krates_rules.proofs.Members.{Member, contains_of}
-use Rattle.krates_answers.specs.Meaning.{AreParted, DocumentPackage, IsNoId, Means, MeansKept, by_id, by_specification, kept, other, package_in, packages_in}
+use Rattle.krates_answers.specs.Meaning.{AreParted, DocumentPackage, IsNoId, Means, MeansKept, by_id, by_specification, kept, kept_in, other, package_in, packages_in}
 use Rattle.krates_answers.specs.Naming.{IsUnread, IsUnreadable, MeansNone, MeansNotOne, MeansNotOneKept, TellsNotKept, TellsSeveral, TellsUnknown, all_of}
 use Rattle.krates_answers.specs.PackageText.{IsTextAmong}
 use Rattle.krates_answers.specs.Those.{AreThose}
@@ -38,13 +38,13 @@ module _ (p : Packages) (word : Text) where
   none_meant errors.Memory told d among means = refl
 
   -- where one is meant, only memory can be lacking
-  pub none_only_memory_kept : (e : NamingError) → MeansNone p word e → (m : Match Package) → AreThose (MeansKept p word) (crates_of p.krates.now) (m ∷ []) → e ≡ errors.Memory
+  pub none_only_memory_kept : (e : NamingError) → MeansNone p word e → (m : Match Package) → AreThose (MeansKept p word) (kept_in p) (m ∷ []) → e ≡ errors.Memory
   none_only_memory_kept e told m one = none_meant e told (kept m) (kept_among p m (AreThose-among one m (inl refl))) (AreThose-holds one m (inl refl))
 
   pub none_only_memory : (e : NamingError) → MeansNone p word e → (d : DocumentPackage) → AreThose (Means p word) (packages_in p) (d ∷ []) → e ≡ errors.Memory
   none_only_memory e told d one = none_meant e told d (AreThose-among one d (inl refl)) (AreThose-holds one d (inl refl))
 
-  pub only_memory_kept : (e : NamingError) → MeansNotOneKept p word e → (m : Match Package) → AreThose (MeansKept p word) (crates_of p.krates.now) (m ∷ []) → e ≡ errors.Memory
+  pub only_memory_kept : (e : NamingError) → MeansNotOneKept p word e → (m : Match Package) → AreThose (MeansKept p word) (kept_in p) (m ∷ []) → e ≡ errors.Memory
   only_memory_kept (errors.NotKept said packages) told m one = absurd (not_empty m (AreThose-once told.1.none_kept one))
   only_memory_kept (errors.Several said specs) told m one = absurd (not_several m told.1.crates told.1.several (AreThose-once told.1.meant one))
   only_memory_kept (errors.Unread said what) told m one = none_meant (errors.Unread said what) told (kept m) (kept_among p m (AreThose-among one m (inl refl))) (AreThose-holds one m (inl refl))

@@ -18,6 +18,21 @@ taken_takes {P = P} now xs i x old new lt is before has added =
 pub taken_leaves : {A : Type 0} {P : A → Type 0} (xs : List A) (i : ℕ) (x : A) (those : List A) → i < length xs → x ≡ get_or xs i x → AreThose P (take i xs) those → (P x → ⊥) → AreThose P (take (i + 1) xs) those
 taken_leaves {P = P} xs i x those lt is before lacks = subst (λ all. AreThose P all those) (sym (one_taken xs i x lt is)) (AreThose-snoc_leaves before lacks)
 
+-- ---- those of a front, as it is seen
+
+pub seen_front : {A C : Type 0} (f : A → C) (xs : List A) (i : ℕ) (x : A) → i < length xs → x ≡ get_or xs i x → map f (take (i + 1) xs) ≡ map f (take i xs) ++ f x ∷ []
+seen_front f xs i x lt is = ap (map f) (one_taken xs i x lt is) ∙ map-append f (take i xs) (x ∷ [])
+
+pub seen_takes : {A B C : Type 0} {P : C → Type 0} (f : A → C) (g : B → C) (xs : List A) (i : ℕ) (x : A) (y : B) (old new : List B) → i < length xs → x ≡ get_or xs i x
+    → AreThose P (map f (take i xs)) (map g old) → P (f x) → g y ≡ f x → new ≡ old ++ y ∷ [] → AreThose P (map f (take (i + 1) xs)) (map g new)
+seen_takes {P = P} f g xs i x y old new lt is before has same added =
+    subst (λ all. AreThose P all (map g new)) (sym (seen_front f xs i x lt is))
+    (subst (AreThose P (map f (take i xs) ++ f x ∷ [])) (sym (ap (map g) added ∙ map-append g old (y ∷ []) ∙ ap (λ z. map g old ++ z ∷ []) same)) (AreThose-snoc_takes before has))
+
+pub seen_leaves : {A C : Type 0} {P : C → Type 0} (f : A → C) (xs : List A) (i : ℕ) (x : A) (those : List C) → i < length xs → x ≡ get_or xs i x
+    → AreThose P (map f (take i xs)) those → (P (f x) → ⊥) → AreThose P (map f (take (i + 1) xs)) those
+seen_leaves {P = P} f xs i x those lt is before lacks = subst (λ all. AreThose P all those) (sym (seen_front f xs i x lt is)) (AreThose-snoc_leaves before lacks)
+
 -- ---- how many those are
 
 abbrev pub Counted : {A : Type 0} → (A → Type 0) → List A → ℕ → Type 0

@@ -41,6 +41,25 @@ pub record AreStored (lists : List (List ℕ)) : Type 0 where
   pub ascending : All IsStrictlyIncreasing lists
   pub numbered : length lists < 2 ^ 32
 
+-- ---- pairs
+
+-- the pair leads from the number to n, which is below the count
+pub record IsPairOf (count number n : ℕ) (pair : ℕ × ℕ) : Type 0 where
+  pub from : pair.0 ≡ number
+  pub to : pair.1 ≡ n
+  pub below : n < count
+
+-- one of the pairs leads from a to b, which is below the count
+pub record IsPairedWith (count : ℕ) (pairs : List (ℕ × ℕ)) (a b : ℕ) : Type 0 where
+  pub pair : ℕ × ℕ
+  pub among : Contains pairs pair
+  pub is : IsPairOf count a b pair
+
+-- and a is below it too
+pub record IsPaired (count : ℕ) (pairs : List (ℕ × ℕ)) (a b : ℕ) : Type 0 where
+  pub below : a < count
+  pub leads : IsPairedWith count pairs a b
+
 -- ---- steps
 
 -- what each vector holds

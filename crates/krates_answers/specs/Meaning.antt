@@ -5,7 +5,7 @@ use Rattle.krates_cm.specs.declared.package.Package.{Package}
 use Rattle.krates_ids.specs.Identity.{Identity, Reads}
 use Rattle.krates_ids.specs.declared.id_error.IdError.{IdError}
 use Rattle.krates_ids.specs.declared.id_error.IdError.TheVariants as id_errors
-use Rattle.krates_queries.specs.KrateNodes.{Match, crates_of, match_view}
+use Rattle.krates_queries.specs.KrateNodes.{Match, match_view}
 use Rattle.krates_rules.specs.Facts.{Id}
 use Rattle.krates_rules.specs.Resolved.{ReadsAs, id_of}
 use Rattle.krates_answers.specs.Those.{AreThose}
@@ -28,9 +28,16 @@ abbrev pub package_in : DocumentPackage → Package
 package_in (kept m) = m.krate
 package_in (other pkg) = pkg
 
+-- those that are kept, and the others, as clauses see them
+abbrev pub kept_in : Packages → List (Match Package)
+kept_in p = map match_view p.kept.now
+
+abbrev pub others_in : Packages → List Package
+others_in p = map (λ pkg. pkg.now) p.others.now
+
 -- those of a document, first the kept ones
 abbrev pub packages_in : Packages → List DocumentPackage
-packages_in p = map kept (crates_of p.krates.now) ++ map other p.others.now
+packages_in p = map kept (kept_in p) ++ map other (others_in p)
 
 -- the package has this id
 abbrev pub HasId : Id → DocumentPackage → Type 0
@@ -91,5 +98,5 @@ IsFaulty e = ⊤
 
 -- of the packages of the document exactly these kept crates and these others have the property
 pub record AreParted (P : DocumentPackage → Type 0) (p : Packages) (crates : List (Match Package)) (rest : List Package) : Type 0 where
-  pub kept_ones : AreThose (λ m. P (kept m)) (crates_of p.krates.now) crates
-  pub others : AreThose (λ pkg. P (other pkg)) p.others.now rest
+  pub kept_ones : AreThose (λ m. P (kept m)) (kept_in p) crates
+  pub others : AreThose (λ pkg. P (other pkg)) (others_in p) rest

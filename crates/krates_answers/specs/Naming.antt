@@ -3,9 +3,8 @@ use Rattle.std.specs.List.{AllZip}
 use Rattle.std.specs.Prelude.{◌≡◌, ◌≤◌, ◌++◌, [], List, All, Contains, ⊤, length, map, string_bytes}
 use Rattle.krates_cm.specs.Document.{Text}
 use Rattle.krates_cm.specs.declared.package.Package.{Package}
-use Rattle.krates_queries.specs.Kept.{values_of}
-use Rattle.krates_queries.specs.KrateNodes.{Match, crates_of}
-use Rattle.krates_answers.specs.Meaning.{DocumentPackage, IsNoId, Means, MeansKept, MeansOther, package_in, packages_in}
+use Rattle.krates_queries.specs.KrateNodes.{Match}
+use Rattle.krates_answers.specs.Meaning.{DocumentPackage, IsNoId, Means, MeansKept, MeansOther, kept_in, others_in, package_in, packages_in}
 use Rattle.krates_answers.specs.PackageText.{IsTextAmong, named}
 use Rattle.krates_answers.specs.Those.{AreThose}
 use Rattle.krates_answers.specs.WordSpecification.{AskedPackages, AsksFor, AsksForNothing}
@@ -15,7 +14,7 @@ use Rattle.krates_answers.specs.declared.naming.NamingError.TheVariants as error
 
 -- all packages of the document, those of the kept crates first
 abbrev pub all_of : Packages → List Package
-all_of p = values_of p.krates.now ++ p.others.now
+all_of p = map (λ m. m.krate) (kept_in p) ++ others_in p
 
 -- ---- why a word doesn't mean one package
 
@@ -35,15 +34,15 @@ pub record IsUnknown (p : Packages) (word : Text) (texts : List Text) : Type 0 w
 pub record AreNotKept (p : Packages) (word : Text) (texts : List Text) : Type 0 where
   pub others : List Package
   pub some : 1 ≤ length others
-  pub none_kept : AreThose (MeansKept p word) (crates_of p.krates.now) []
-  pub meant : AreThose (MeansOther p word) p.others.now others
+  pub none_kept : AreThose (MeansKept p word) (kept_in p) []
+  pub meant : AreThose (MeansOther p word) (others_in p) others
   pub told : AllZip (IsTextAmong (all_of p)) others texts
 
 -- the word means exactly these kept crates, which are several
 pub record AreSeveralKept (p : Packages) (word : Text) (texts : List Text) : Type 0 where
   pub crates : List (Match Package)
   pub several : 2 ≤ length crates
-  pub meant : AreThose (MeansKept p word) (crates_of p.krates.now) crates
+  pub meant : AreThose (MeansKept p word) (kept_in p) crates
   pub told : AllZip (IsTextAmong (all_of p)) (map (λ m. m.krate) crates) texts
 
 -- the word means exactly these packages, which are several

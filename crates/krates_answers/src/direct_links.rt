@@ -1,10 +1,10 @@
 //! Which kept crates depend directly on which, as lists of numbers.
 
-ghost use Rattle.std.specs.Prelude.{◌≡◌, ◌↔◌, ◌<◌, ◌^◌, [], All, IfOk, IfSome, IsTrue, OnOk, length, option_map, replicate, slice_get};
+ghost use Rattle.std.specs.Prelude.{◌≡◌, ◌↔◌, ◌<◌, ◌^◌, ◌⊎◌, ℕ, [], All, Contains, IfOk, IfSome, IsTrue, OnOk, length, option_map, replicate, slice_get};
 ghost use Rattle.std.specs.List.Sorted.{IsStrictlyIncreasing};
 ghost use Rattle.krates_queries.specs.Direct.{IsDependent};
 ghost use Rattle.krates_queries.specs.Kept.{ids_of};
-ghost use Rattle.krates_answers.specs.DirectLinks.{AreExactly, AreInside, AreLinks, ArePushed, IsListed, IsNeededBy, Needs, items_of};
+ghost use Rattle.krates_answers.specs.DirectLinks.{AreExactly, AreInside, AreLinks, ArePushed, IsListed, IsNeededBy, IsPaired, IsPairedWith, IsPairOf, Needs, items_of};
 
 use krates::{Krates, NodeId};
 use std::alloc::{AllocError, Global};
@@ -50,6 +50,22 @@ impl DirectLinks {
         ensures { IfOk result (AreLinks (length (ids_of krates.now)) (Needs krates.now)) }
     {
         DirectLinks::dependents(alloc, krates)?.reversed(alloc)
+    }
+
+    /// For each number below the count, the numbers below it to which one of these pairs leads from it. Pairs with other numbers are left
+    /// out. The only refusal is running out of memory. Time: O(n e) for n numbers and e pairs.
+    pub fn of_pairs(
+        alloc: Global,
+        count: u32,
+        pairs: &[(usize, usize)],
+    ) -> Result<DirectLinks, AllocError>
+        ensures { IfOk result (AreLinks count (IsPaired count pairs.now)) }
+    {
+        let mut lists = Vec::new(alloc);
+        for number in 0..count {
+            lists.push(paired_with(alloc, count, pairs, number)?)?;
+        }
+        Ok(DirectLinks { lists })
     }
 
     /// How many crates there are: at most 4,294,967,295. Time O(1).
@@ -117,6 +133,56 @@ fn dependents_of<N, E>(
         .iter()
         .map(|dependent| dependent.node_id)
         .collect(alloc)
+}
+
+/// The numbers below the count to which one of these pairs leads from the number.
+fn paired_with(
+    alloc: Global,
+    count: u32,
+    pairs: &[(usize, usize)],
+    number: u32,
+) -> Result<Vec<NodeId>, AllocError>
+    ensures { IfOk result (λ numbers. AreExactly (IsPairedWith count pairs.now number) numbers.items) }
+{
+    let mut numbers = Vec::new(alloc);
+    for pair in pairs {
+        push_if_paired(pair, count, number, &mut numbers)?;
+    }
+    let all = each_once(numbers)?;
+    Ok(all)
+}
+
+/// Adds the number to which the pair leads, if it leads from the number to one below the count.
+fn push_if_paired(
+    pair: &(usize, usize),
+    count: u32,
+    number: u32,
+    numbers: &mut Vec<NodeId>,
+) -> Result<(), AllocError>
+    ensures { OnOk result ((n : ℕ) → Contains numbers.new.items n
+        ↔ (Contains numbers.old.items n ⊎ IsPairOf count number n pair.now)) }
+{
+    if is_pair_of(pair, count, number) {
+        numbers.push(NodeId::new(pair.1 as u32))?;
+    }
+    Ok(())
+}
+
+/// Whether the pair leads from the number to one below the count.
+fn is_pair_of(pair: &(usize, usize), count: u32, number: u32) -> bool
+    ensures { IsTrue result ↔ IsPairOf count number pair.now.1 pair.now }
+{
+    pair.0 == number as usize && pair.1 < count as usize
+}
+
+/// The numbers ascending, each once.
+fn each_once(mut numbers: Vec<NodeId>) -> Result<Vec<NodeId>, AllocError>
+    ensures ascending { IfOk result (λ all. IsStrictlyIncreasing all.items) }
+    ensures same { IfOk result (λ all. (n : ℕ) → Contains all.items n ↔ Contains numbers.items n) }
+{
+    numbers.sort()?;
+    numbers.dedup();
+    Ok(numbers)
 }
 
 /// This many lists without an item.

@@ -9,6 +9,7 @@ pub mod difference;
 pub mod direct_links;
 pub mod duplicates;
 mod grouped;
+pub mod kept;
 mod labelled;
 pub mod licences;
 pub mod materials;

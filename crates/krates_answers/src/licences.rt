@@ -1,14 +1,14 @@
-//! The kept crates by what they say about their licence.
+//! Crates by what they say about their licence.
 
 ghost use Rattle.std.specs.Prelude.{◌≡◌, IfOk, map};
-ghost use Rattle.krates_queries.specs.KrateNodes.{crates_of};
+ghost use Rattle.krates_queries.specs.KrateNodes.{match_view};
 ghost use Rattle.krates_answers.specs.Grouped.{AreGroups};
 ghost use Rattle.krates_answers.specs.Labelled.{with_label};
 ghost use Rattle.krates_answers.specs.Licences.{licence_view, stated_licence};
 
 use crate::labelled::{Label, labelled};
 use crate::pushing::push;
-use krates::{KrateMatch, Krates, Package};
+use krates::{KrateMatch, Package};
 use std::alloc::{AllocError, Global};
 
 /// Crates with one licence.
@@ -17,7 +17,7 @@ pub struct Licence<'a> {
     /// What their manifests say: an SPDX expression (Cargo Book, "The license and license-file fields"), the path of a
     /// licence file where there is no expression, or nothing where there is neither.
     pub text: &'a str,
-    /// The crates, by number.
+    /// The crates, in their order.
     pub krates: Vec<KrateMatch<'a, Package>>,
 }
 
@@ -43,13 +43,16 @@ impl Label for Stated {
     }
 }
 
-/// The licences of the kept crates, in the order of their bytes, each with its crates by number. The only refusal is running out of
-/// memory. Time O(n log n) for n nodes.
-pub fn licences<'a>(alloc: Global, krates: &'a Krates) -> Result<Vec<Licence<'a>>, AllocError>
-    ensures { IfOk result (λ found. AreGroups (map (with_label stated_licence) (crates_of krates.now))
+/// The licences of these crates, in the order of their bytes, each with its crates in their order. The only refusal is running out of
+/// memory. Time O(n log n) for n crates.
+pub fn licences<'a>(
+    alloc: Global,
+    crates: &[KrateMatch<'a, Package>],
+) -> Result<Vec<Licence<'a>>, AllocError>
+    ensures { IfOk result (λ found. AreGroups (map (with_label stated_licence) (map match_view crates.now))
         (map licence_view found.items)) }
 {
-    let by_licence = labelled::<Stated>(alloc, krates)?;
+    let by_licence = labelled::<Stated>(alloc, crates)?;
     let mut licences = Vec::new(alloc);
     for (text, krates) in by_licence {
         push(&mut licences, Licence { text, krates })?;

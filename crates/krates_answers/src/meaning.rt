@@ -2,23 +2,23 @@
 
 ghost use Rattle.std.specs.Prelude.{◌≡◌, ◌≤◌, ◌+◌, ◌↔◌, ◌++◌, None, IfOk, IsTrue, length, map};
 ghost use Rattle.krates_cm.specs.Document.{id_view};
-ghost use Rattle.krates_queries.specs.KrateNodes.{crates_of, match_view};
+ghost use Rattle.krates_queries.specs.KrateNodes.{match_view};
 ghost use Rattle.krates_rules.specs.Resolved.{ReadsAs, id_of};
-ghost use Rattle.krates_answers.specs.Meaning.{AreParted, IsFaulty, IsMeantBy, ReadsIfAny, kept, other};
+ghost use Rattle.krates_answers.specs.Meaning.{AreParted, IsFaulty, IsMeantBy, ReadsIfAny, kept, kept_in, other, others_in};
 ghost use Rattle.krates_answers.specs.Those.{AreThose};
 
-use crate::pushing::push;
+use crate::pushing::{again, push};
 use crate::word_specification::WordSpecification;
-use krates::{IdError, Kid, KrateMatch, Krates, Package, PackageId};
+use krates::{IdError, Kid, KrateMatch, Package, PackageId};
 use std::alloc::{AllocError, Global};
 
 /// The packages of a document: those that are kept, and the others.
 #[derive(Clone, Copy)]
-pub struct Packages<'a> {
-    /// The graph of those that are kept.
-    pub krates: &'a Krates,
+pub struct Packages<'p, 'a> {
+    /// Those that are kept, each with its number.
+    pub kept: &'p [KrateMatch<'a, Package>],
     /// The others.
-    pub others: &'a [Package],
+    pub others: &'p [&'a Package],
 }
 
 /// A package that a word means.
@@ -130,7 +130,7 @@ impl<'a> MeantPackages<'a> {
         ensures { IfOk result (λ packages. map (λ pkg. pkg.now) packages.items
             ≡ map (λ m. m.krate) (map match_view self.now.kept.items)) }
     {
-        self.kept.iter().map(|found| found.krate).collect(alloc)
+        packages_of(alloc, &self.kept)
     }
 
     /// All of them, first those that are kept.
@@ -138,15 +138,11 @@ impl<'a> MeantPackages<'a> {
         ensures { IfOk result (λ packages. map (λ pkg. pkg.now) packages.items
             ≡ map (λ m. m.krate) (map match_view self.now.kept.items) ++ map (λ pkg. pkg.now) self.now.others.items) }
     {
-        let mut packages = self.kept_packages(alloc)?;
-        for pkg in &self.others {
-            packages.push(*pkg)?;
-        }
-        Ok(packages)
+        packages_of_all(alloc, &self.kept, &self.others)
     }
 }
 
-impl<'a> Packages<'a> {
+impl<'a> Packages<'_, 'a> {
     /// The packages that are meant by this.
     pub(crate) fn meant_by(
         &self,
@@ -168,12 +164,12 @@ impl<'a> Packages<'a> {
         reading: &Reading<'_>,
     ) -> Result<Vec<KrateMatch<'a, Package>>, AllocError>
         ensures { IfOk result (λ found. AreThose (λ m. IsMeantBy reading.now (kept m))
-            (crates_of self.now.krates.now) (map match_view found.items)) }
+            (kept_in self.now) (map match_view found.items)) }
     {
         let mut meant = Vec::new(alloc);
-        for found in self.krates.krate_nodes() {
-            if reading.means_kept(&found) {
-                push(&mut meant, found)?;
+        for found in self.kept {
+            if reading.means_kept(found) {
+                push(&mut meant, again(found))?;
             }
         }
         Ok(meant)
@@ -186,14 +182,41 @@ impl<'a> Packages<'a> {
         reading: &Reading<'_>,
     ) -> Result<Vec<&'a Package>, AllocError>
         ensures { IfOk result (λ found. AreThose (λ pkg. IsMeantBy reading.now (other pkg))
-            self.now.others.now (map (λ pkg. pkg.now) found.items)) }
+            (others_in self.now) (map (λ pkg. pkg.now) found.items)) }
     {
         let mut meant = Vec::new(alloc);
         for pkg in self.others {
             if reading.means_other(pkg)? {
-                meant.push(pkg)?;
+                meant.push(*pkg)?;
             }
         }
         Ok(meant)
     }
+}
+
+/// The packages of these crates.
+fn packages_of<'a>(
+    alloc: Global,
+    crates: &[KrateMatch<'a, Package>],
+) -> Result<Vec<&'a Package>, AllocError>
+    ensures { IfOk result (λ packages. map (λ pkg. pkg.now) packages.items
+        ≡ map (λ m. m.krate) (map match_view crates.now)) }
+{
+    crates.iter().map(|found| found.krate).collect(alloc)
+}
+
+/// The packages of these crates, and others behind them.
+pub(crate) fn packages_of_all<'a>(
+    alloc: Global,
+    crates: &[KrateMatch<'a, Package>],
+    others: &[&'a Package],
+) -> Result<Vec<&'a Package>, AllocError>
+    ensures { IfOk result (λ packages. map (λ pkg. pkg.now) packages.items
+        ≡ map (λ m. m.krate) (map match_view crates.now) ++ map (λ pkg. pkg.now) others.now) }
+{
+    let mut packages = packages_of(alloc, crates)?;
+    for pkg in others {
+        packages.push(*pkg)?;
+    }
+    Ok(packages)
 }

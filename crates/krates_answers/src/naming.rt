@@ -2,13 +2,13 @@
 
 ghost use Rattle.std.specs.Prelude.{◌≡◌, ◌≤◌, ◌+◌, ◌∷◌, [], IfErr, IfOk, length, map};
 ghost use Rattle.krates_cm.specs.declared.package.Package.{Package};
-ghost use Rattle.krates_queries.specs.KrateNodes.{Match, crates_of, match_view};
-ghost use Rattle.krates_answers.specs.Meaning.{AreParted, DocumentPackage, IsNoId, Means, MeansKept, meant_view, packages_in};
+ghost use Rattle.krates_queries.specs.KrateNodes.{Match, match_view};
+ghost use Rattle.krates_answers.specs.Meaning.{AreParted, DocumentPackage, IsNoId, Means, MeansKept, kept_in, meant_view, packages_in};
 ghost use Rattle.krates_answers.specs.Naming.{MeansNone, MeansNotOne, MeansNotOneKept, TellsNotKept, TellsSeveral, TellsUnknown, all_of};
 ghost use Rattle.krates_answers.specs.Those.{AreThose};
 ghost use Rattle.krates_answers.specs.declared.naming.NamingError.TheVariants.{Memory};
 
-use crate::meaning::{Meant, MeantPackages, Packages, Reading, id_in};
+use crate::meaning::{Meant, MeantPackages, Packages, Reading, id_in, packages_of_all};
 use crate::package_text::texts_among;
 use crate::similar::near;
 use crate::word_specification::WordSpecification;
@@ -112,7 +112,7 @@ impl fmt::Display for NamingError {
 }
 
 /// The packages that a word means.
-impl<'a> Packages<'a> {
+impl<'a> Packages<'_, 'a> {
     /// The one kept crate that a word means: by an id as cargo prints it, or else by a package specification as cargo's `--package`
     /// takes it (Cargo Book, "Package ID Specifications"), whose version may lack its last numbers, as in `rand@0.8`. It is refused as
     /// `Unread` where the word is neither, as `Unknown` where it means no package of the document, as `NotKept` where it means only
@@ -124,10 +124,10 @@ impl<'a> Packages<'a> {
     /// ```
     pub fn one(&self, alloc: Global, word: &str) -> Result<KrateMatch<'a, Package>, NamingError>
         ensures one { IfOk result (λ found. AreThose (MeansKept self.now word.now)
-            (crates_of self.now.krates.now) (match_view found ∷ [])) }
+            (kept_in self.now) (match_view found ∷ [])) }
         ensures refused { IfErr result (MeansNotOneKept self.now word.now) }
         ensures only_memory { (m : Match Package)
-            → AreThose (MeansKept self.now word.now) (crates_of self.now.krates.now) (m ∷ [])
+            → AreThose (MeansKept self.now word.now) (kept_in self.now) (m ∷ [])
             → IfErr result (λ error. error ≡ Memory) }
     {
         let mut found = self.meant(alloc, word)?;
@@ -204,7 +204,7 @@ impl<'a> Packages<'a> {
     fn all(&self, alloc: Global) -> Result<Vec<&'a Package>, AllocError>
         ensures { IfOk result (λ all. map (λ pkg. pkg.now) all.items ≡ all_of self.now) }
     {
-        self.krates.krates().chain(self.others).collect(alloc)
+        packages_of_all(alloc, self.kept, self.others)
     }
 
     /// The refusal that a word asks for packages of this name, and means none of the document.

@@ -1,5 +1,6 @@
 //! Why there is no yes.
 
+use krates_build_verdict::BuildRefusal;
 use krates_verdict::Refusal;
 use std::alloc::AllocError;
 
@@ -12,6 +13,9 @@ pub(crate) enum CheckFailure {
     /// The certificate doesn't hold, or isn't read.
     #[error("{0}")]
     Refused(#[from] Refusal),
+    /// The certificate doesn't hold of the build, or isn't read.
+    #[error("{0}")]
+    Build(#[from] BuildRefusal),
     /// Memory ran out.
     #[error("out of memory")]
     Memory,

@@ -1,5 +1,5 @@
 //! `krates_check --metadata FILE [OPTIONS]`: checks the certificate in standard input against a document, without the search that found
-//! what it says and without a graph. `krates_check --help` lists the options.
+//! what it says and without a graph. With `--by build` the certificate is one of what cargo builds. `krates_check --help` lists the options.
 //!
 //! The status is 0 where the certificate holds, which is printed with what it says; 1 where it doesn't, or where there is nothing to check;
 //! and 2 where the words are wrong.
@@ -8,30 +8,72 @@
 mod failure;
 
 use crate::failure::CheckFailure;
-use krates_host::program::{NO, refuse_asked, refuse_words, words_of};
+use krates_build_verdict::judge_bytes;
+use krates_cm::Metadata;
+use krates_host::build::build_setting;
+use krates_host::program::{NO, print, refuse_asked, refuse_words, words_of};
 use krates_host::{Inputs, document, said, targets};
 use krates_verdict::run_under;
-use krates_words::{CheckWords, check_words_of};
+use krates_words::{BuildWords, CheckWords, Choice, Rules, check_words_of};
 use std::process::ExitCode;
 
-/// Checks the certificate in standard input, and prints what it says where it holds.
-fn check(rt: &HostRuntime, mut asked: CheckWords) -> Result<(), CheckFailure> {
+/// Checks the certificate in standard input, and prints what it says where it holds; returns the status.
+fn check(rt: &HostRuntime, asked: CheckWords) -> Result<ExitCode, CheckFailure> {
     let inputs = Inputs {
         rt,
         max_bytes: asked.max_bytes,
     };
-    asked.choice.targets = targets::targets_of(&inputs, &asked.choice)?;
+    let CheckWords {
+        document,
+        rules,
+        ..
+    } = asked;
+    match rules {
+        Rules::Krates(choice) => by_krates(&inputs, choice, document.as_str()),
+        Rules::Build(words) => by_build(&inputs, &words, document.as_str()),
+    }
+}
+
+/// Checks a certificate about the graph of krates against the document in a file.
+fn by_krates(
+    inputs: &Inputs<'_>,
+    mut choice: Choice,
+    file: &str,
+) -> Result<ExitCode, CheckFailure> {
+    choice.targets = targets::targets_of(inputs, &choice)?;
     let certificate = inputs.bytes_in_standard_input("a certificate")?;
-    let metadata = document::in_file(&inputs, asked.document.as_str())?;
+    let metadata = document::in_file(inputs, file)?;
     let told = run_under(
-        rt.alloc(),
-        &asked.choice,
+        inputs.rt.alloc(),
+        &choice,
         &metadata,
         &mut certificate.as_slice(),
-        &mut rt.stdout(),
+        &mut inputs.rt.stdout(),
     );
     metadata.let_go();
-    Ok(told?)
+    told?;
+    Ok(ExitCode::SUCCESS)
+}
+
+/// Checks a certificate about a build against the document in a file.
+fn by_build(inputs: &Inputs<'_>, words: &BuildWords, file: &str) -> Result<ExitCode, CheckFailure> {
+    let certificate = inputs.bytes_in_standard_input("a certificate")?;
+    let metadata = document::in_file(inputs, file)?;
+    let told = judged(inputs, words, &metadata, &certificate);
+    metadata.let_go();
+    Ok(print(inputs.rt, told?.as_str(), true))
+}
+
+/// The line of the verdict about a build of a document.
+fn judged(
+    inputs: &Inputs<'_>,
+    words: &BuildWords,
+    metadata: &Metadata,
+    certificate: &[u8],
+) -> Result<String, CheckFailure> {
+    let build = build_setting(inputs, words, metadata)?;
+    build.note_resolver(inputs.rt);
+    Ok(judge_bytes(inputs.rt.alloc(), metadata, &build.setting, certificate)?)
 }
 
 /// Does what the words say.
@@ -41,7 +83,7 @@ fn answer(rt: &HostRuntime, words: &[String]) -> ExitCode {
         Err(error) => return refuse_asked(rt, &error),
     };
     match check(rt, asked) {
-        Ok(()) => ExitCode::SUCCESS,
+        Ok(status) => status,
         Err(failure) => {
             said::error(rt, failure);
             ExitCode::from(NO)

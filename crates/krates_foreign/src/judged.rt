@@ -57,7 +57,6 @@ fn choice_of(alloc: Global, options: &Options) -> Result<Choice, AllocError>
         packages: Vec::new(alloc),
         triples: Vec::new(alloc),
         cfgs: Vec::new(alloc),
-        host: false,
         targets,
     })
 }

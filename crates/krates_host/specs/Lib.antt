@@ -1,3 +1,5 @@
+pub mod AskedBuild
+pub mod Flags
 pub mod Reading
 pub mod Running
 pub mod Status

@@ -8,7 +8,7 @@ use krates_words::{Asked, CargoWords, Input, Word};
 use std::alloc::Global;
 use std::process::Output;
 
-const WITHOUT_CARGO: &str = "; install Rust, or read a document by --metadata FILE";
+static WITHOUT_CARGO: &str = "; install Rust, or read a document by --metadata FILE";
 
 /// The document that is asked about: that of cargo, of a file, or of standard input. It is refused where there is no document. Time: that
 /// of cargo, and O(n) in the length of the text.

@@ -1,12 +1,14 @@
-//! Why there is no document, target or text.
+//! Why there is no document, target, build or text.
 
 use krates_cm::Error;
+use krates_manifest::ManifestError;
 use krates_shown::{Shown, ShownValue};
+use krates_units::MachineError;
 use std::alloc::{AllocError, AllocFailed, Global};
 use std::process::{ExitStatus, Output};
 use std::{fmt, io};
 
-/// Why there is no document, target or text. What comes from outside is printed as `Shown` shows it.
+/// Why there is no document, target, build or text. What comes from outside is printed as `Shown` shows it.
 #[derive(Debug, Drop, thiserror::Error)]
 pub enum Failure {
     /// A file can't be read.
@@ -87,6 +89,22 @@ pub enum Failure {
         /// The triple of the target.
         triple: String,
     },
+    /// What describes a machine has a line that is no cfg.
+    #[error("{}: {cause}", Shown(.file.as_str()))]
+    NoMachine {
+        /// The path of the file, or what printed it.
+        file: String,
+        /// Which line.
+        cause: MachineError,
+    },
+    /// The manifest of a workspace, which would say which resolver the workspace has, can't be read.
+    #[error("{}: {cause}; say by --resolver 1, 2 or 3 which resolver the workspace has", Shown(.file.as_str()))]
+    NoResolver {
+        /// The path of the manifest.
+        file: String,
+        /// Why it isn't read.
+        cause: NoManifest,
+    },
     /// Rustc doesn't say what its host is.
     #[error("`{} -vV` prints no line that begins with `host: `", Shown(.program.as_str()))]
     NoHost {
@@ -125,6 +143,26 @@ impl Failure {
             reason: Reason(String::from_str(alloc, text)?),
         })
     }
+}
+
+/// Why the manifest of a workspace doesn't say which resolver the workspace has.
+#[derive(Debug, Drop, thiserror::Error)]
+pub enum NoManifest {
+    /// It can't be read.
+    #[error("{0}")]
+    Unread(io::Error),
+    /// It is longer than the limit.
+    #[error("this is longer than {0} bytes, the limit that --max-bytes sets")]
+    TooLong(u64),
+    /// It isn't UTF-8.
+    #[error("this isn't UTF-8")]
+    NoText,
+    /// It begins with a byte order mark.
+    #[error("this begins with a byte order mark")]
+    Marked,
+    /// It says nothing of it, or what is wrong.
+    #[error("{0}")]
+    Refused(ManifestError),
 }
 
 /// What a program said when it failed, which may be nothing.

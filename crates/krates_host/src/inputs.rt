@@ -15,7 +15,7 @@ use std::io::{self, IsTerminal};
 use std::process::{Command, Output};
 
 /// What standard input is called.
-pub(crate) const STANDARD_INPUT: &str = "standard input";
+pub(crate) static STANDARD_INPUT: &str = "standard input";
 
 /// Where a run reads, and how much.
 #[derive(Clone, Copy)]
@@ -140,8 +140,18 @@ pub(crate) fn text_of(alloc: Global, name: &str, bytes: Vec<u8>) -> Result<Strin
 
 /// The value of a variable, where it is set and not empty.
 pub(crate) fn variable(rt: &HostRuntime, name: &'static str) -> Result<Option<String>, Failure> {
+    match set_variable(rt, name)? {
+        Some(value) if value.is_empty() => Ok(None),
+        value => Ok(value),
+    }
+}
+
+/// The value of a variable, where it is set.
+pub(crate) fn set_variable(
+    rt: &HostRuntime,
+    name: &'static str,
+) -> Result<Option<String>, Failure> {
     match env::var(rt, name) {
-        Ok(value) if value.is_empty() => Ok(None),
         Ok(value) => Ok(Some(value)),
         Err(VarError::NotPresent) => Ok(None),
         Err(VarError::NotUnicode) => Err(Failure::Variable(name)),

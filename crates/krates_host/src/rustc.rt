@@ -1,6 +1,6 @@
 //! What rustc says of targets.
 
-ghost use Rattle.std.specs.Prelude.{◌≡◌, ◌∷◌, ◌++◌, [], IfOk, None, codes};
+ghost use Rattle.std.specs.Prelude.{◌≡◌, ◌∷◌, ◌++◌, [], IfOk, None, OnOk, codes, map, string_bytes};
 ghost use Rattle.std.specs.Process.{command_args, command_dir, command_program};
 
 use crate::failure::Failure;
@@ -8,13 +8,17 @@ use crate::inputs::{Inputs, text_of, variable};
 use std::alloc::{AllocError, Global};
 use std::process::{Command, Output};
 
-const WITHOUT_RUSTC: &str =
+static WITHOUT_RUSTC: &str =
     "; install Rust, set RUSTC to a rustc, or describe the target by --cfg FILE";
 
-/// What `rustc --print cfg` prints for a target. One that rustc doesn't know is refused with the reason that it gives.
-pub(crate) fn description(inputs: &Inputs<'_>, triple: &str) -> Result<String, Failure> {
+/// What `rustc --print cfg` prints for a target, under these flags. One that rustc doesn't know is refused with the reason that it gives.
+pub(crate) fn description(
+    inputs: &Inputs<'_>,
+    triple: &str,
+    flags: &[String],
+) -> Result<String, Failure> {
     let rustc = program(inputs.rt)?;
-    let mut command = description_command(inputs.alloc(), rustc.as_str(), triple)?;
+    let mut command = description_command(inputs.alloc(), rustc.as_str(), triple, flags)?;
     let output = inputs.printed_by(&mut command, WITHOUT_RUSTC)?;
     if output.status.success() {
         text_of(inputs.alloc(), rustc.as_str(), output.stdout)
@@ -46,12 +50,18 @@ fn program(rt: &HostRuntime) -> Result<String, Failure> {
     }
 }
 
-/// The question how rustc describes a target. The triple stands in one word with its option, so that rustc takes it for nothing else: a word
-/// that begins with `@` would be a file of words (rustc book, "Command-line Arguments", "@path").
-fn description_command(alloc: Global, program: &str, triple: &str) -> Result<Command, AllocError>
+/// The question how rustc describes a target under flags. The triple stands in one word with its option, so that rustc takes it for nothing
+/// else: a word that begins with `@` would be a file of words (rustc book, "Command-line Arguments", "@path"). The flags are passed as they
+/// are, as cargo passes them.
+fn description_command(
+    alloc: Global,
+    program: &str,
+    triple: &str,
+    flags: &[String],
+) -> Result<Command, AllocError>
     ensures program { IfOk result (λ c. command_program c ≡ program.now) }
-    ensures words { IfOk result (λ c. command_args c
-        ≡ codes "--print" ∷ codes "cfg" ∷ (codes "--target=" ++ triple.now) ∷ []) }
+    ensures words { IfOk result (λ c. command_args c ≡ codes "--print" ∷ codes "cfg"
+        ∷ (codes "--target=" ++ triple.now) ∷ map string_bytes flags.now) }
     ensures here { IfOk result (λ c. command_dir c ≡ None) }
 {
     let target = format!(in alloc; "--target={triple}")?;
@@ -59,7 +69,21 @@ fn description_command(alloc: Global, program: &str, triple: &str) -> Result<Com
     command.arg("--print")?;
     command.arg("cfg")?;
     command.arg(target.as_str())?;
+    add_flags(&mut command, flags)?;
     Ok(command)
+}
+
+/// Adds flags, each as a word of its own.
+fn add_flags(command: &mut Command, flags: &[String]) -> Result<(), AllocError>
+    ensures program { OnOk result (command_program command.new ≡ command_program command.old) }
+    ensures words { OnOk result
+        (command_args command.new ≡ command_args command.old ++ map string_bytes flags.now) }
+    ensures here { OnOk result (command_dir command.new ≡ command_dir command.old) }
+{
+    for flag in flags {
+        command.arg(flag.as_str())?;
+    }
+    Ok(())
 }
 
 /// The question which rustc it is.

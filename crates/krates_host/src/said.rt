@@ -5,9 +5,9 @@ use std::env::VarError;
 use std::fmt::Display;
 use std::io::IsTerminal;
 
-const RED: &str = "31";
+static RED: &str = "31";
 
-const YELLOW: &str = "33";
+static YELLOW: &str = "33";
 
 /// Says why there is no answer.
 pub fn error(rt: &HostRuntime, reason: impl Display + Drop) {

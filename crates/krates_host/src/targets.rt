@@ -7,8 +7,8 @@ use krates_text::target::{Target, TargetInfo, builtin};
 use krates_words::Choice;
 use std::alloc::{AllocError, Global};
 
-/// The targets that are chosen, in their order, and then the host where it is chosen too. One that is neither in the table nor described by
-/// a file is described by rustc; one that rustc doesn't know is refused by its name. Time: that of running rustc for each of these.
+/// The targets that are chosen, in their order. One that is neither in the table nor described by a file is described by rustc; one that rustc
+/// doesn't know is refused by its name. Time: that of running rustc for each of these.
 pub fn targets_of(
     inputs: &Inputs<'_>,
     choice: &Choice,
@@ -16,10 +16,6 @@ pub fn targets_of(
     let mut targets = Vec::new(inputs.alloc());
     for (place, triple) in choice.triples.iter().enumerate() {
         targets.push(target_of(inputs, triple, choice.cfgs.get(place))?)?;
-    }
-    if choice.host {
-        let triple = rustc::host(inputs)?;
-        targets.push(target_of(inputs, triple.as_str(), None)?)?;
     }
     Ok(targets)
 }
@@ -42,15 +38,25 @@ fn target_of(
 
 /// The target as rustc describes it.
 fn by_rustc(inputs: &Inputs<'_>, triple: &str) -> Result<(Target, Vec<String>), Failure> {
-    let text = rustc::description(inputs, triple)?;
-    let (info, features) = TargetInfo::from_rustc(inputs.alloc(), triple, text.as_str())?;
+    let text = rustc::description(inputs, triple, &[])?;
+    let (info, features) = printed(inputs.alloc(), triple, text.as_str())?;
+    Ok((Target::Builtin(info), features))
+}
+
+/// What rustc printed of a target, which it may not describe.
+pub(crate) fn printed(
+    alloc: Global,
+    triple: &str,
+    text: &str,
+) -> Result<(TargetInfo, Vec<String>), Failure> {
+    let (info, features) = TargetInfo::from_rustc(alloc, triple, text)?;
     if info.arch.is_empty() {
         return Err(Failure::UnknownTarget {
             triple: info.triple,
-            reason: String::from_str(inputs.alloc(), "rustc doesn't describe it")?,
+            reason: String::from_str(alloc, "rustc doesn't describe it")?,
         });
     }
-    Ok((Target::Builtin(info), features))
+    Ok((info, features))
 }
 
 /// The target as a file describes it.
@@ -60,14 +66,25 @@ fn in_file(
     file: &str,
 ) -> Result<(Target, Vec<String>), Failure> {
     let text = inputs.text_in(file)?;
-    let (info, features) = TargetInfo::from_rustc(inputs.alloc(), triple, text.as_str())?;
-    if !describes(inputs.alloc(), triple, &info)? {
+    let (info, features) = written(inputs.alloc(), triple, file, text.as_str())?;
+    Ok((Target::Builtin(info), features))
+}
+
+/// What a file with this text says of a target, which may be another one.
+pub(crate) fn written(
+    alloc: Global,
+    triple: &str,
+    file: &str,
+    text: &str,
+) -> Result<(TargetInfo, Vec<String>), Failure> {
+    let (info, features) = TargetInfo::from_rustc(alloc, triple, text)?;
+    if !describes(alloc, triple, &info)? {
         return Err(Failure::NoDescription {
-            file: String::from_str(inputs.alloc(), file)?,
+            file: String::from_str(alloc, file)?,
             triple: info.triple,
         });
     }
-    Ok((Target::Builtin(info), features))
+    Ok((info, features))
 }
 
 /// Whether this describes a target, and not another one where the table has that of the triple.

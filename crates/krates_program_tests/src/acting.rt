@@ -2,24 +2,25 @@
 //! variables, streams and a folder of its own. The words that follow the name of the test choose it.
 
 use krates::Metadata;
+use krates_host::build::build_setting;
 use krates_host::program::{print, words_of};
 use krates_host::{Failure, Inputs, document, said, targets};
 use krates_report::Reporter;
 use krates_samples::stand_in::DOCUMENT;
-use krates_words::{Asked, CheckWords, asked_of, check_words_of};
+use krates_words::{Asked, CheckWords, Rules, asked_of, check_words_of};
 use std::io::Write;
 use std::process::ExitCode;
 use std::test::Fail;
 use std::{fs, io};
 
 /// Files by which a folder names programs for whoever runs cargo in it (Cargo Book, "Configuration"; rustup book, "Overrides").
-const NAMING: [&str; 2] = [".cargo/config.toml", "rust-toolchain.toml"];
+static NAMING: [&str; 2] = [".cargo/config.toml", "rust-toolchain.toml"];
 
 /// Where the substitute for cargo notes that cargo would start such a program.
-pub(crate) const NOTE: &str = "started";
+pub(crate) static NOTE: &str = "started";
 
 /// In which manner a substitute is ended by a signal, and what it writes to standard error before.
-const KILLED: [(&str, &[u8]); 4] = [
+static KILLED: [(&str, &[u8]); 4] = [
     ("killed", b""),
     ("crash", b"error: no manifest\n"),
     ("hostile", b"error: no \x1b[2Kmanifest\nerror: no cargo\r\n"),
@@ -141,13 +142,37 @@ fn document_for(rt: &HostRuntime, asked: &mut Asked) -> Result<Metadata, Failure
         rt,
         max_bytes: asked.max_bytes,
     };
-    asked.choice.targets = targets::targets_of(&inputs, &asked.choice)?;
-    document::document(&inputs, asked)
+    if let Rules::Krates(choice) = &mut asked.rules {
+        choice.targets = targets::targets_of(&inputs, choice)?;
+    }
+    let document = document::document(&inputs, asked)?;
+    match described(&inputs, &asked.rules, &document) {
+        Ok(()) => Ok(document),
+        Err(failure) => {
+            document.let_go();
+            Err(failure)
+        }
+    }
+}
+
+/// Looks up what a build is asked for, if the answer is about one.
+fn described(inputs: &Inputs<'_>, rules: &Rules, document: &Metadata) -> Result<(), Failure> {
+    if let Rules::Build(words) = rules {
+        drop(build_setting(inputs, words, document)?);
+    }
+    Ok(())
 }
 
 /// Prints what is answered about a document.
 fn report(rt: &HostRuntime, asked: &Asked, document: Metadata) -> Result<(), Fail> {
-    let report = Reporter::new(rt.alloc(), asked).answer(document, None)?;
+    let choice = match &asked.rules {
+        Rules::Krates(choice) => choice,
+        Rules::Build(_) => {
+            document.let_go();
+            return Ok(print_answer(rt, "described\n", true)?);
+        }
+    };
+    let report = Reporter::new(rt.alloc(), asked, choice).answer(document, None)?;
     Ok(print_answer(rt, report.text.as_str(), report.is_yes)?)
 }
 

@@ -15,7 +15,7 @@ use krates::target::Target;
 use krates_report::{Report, ReportError, Reporter};
 use krates_samples::documents::metadata;
 use krates_samples::table::{Question, Row, hold};
-use krates_words::{Asked, Choice, asked_of};
+use krates_words::{Asked, Choice, Rules, asked_of};
 use std::alloc::{AllocError, Global};
 use std::test::Fail;
 
@@ -45,16 +45,30 @@ pub(crate) fn add_targets(alloc: Global, choice: &mut Choice) -> Result<(), Fail
     Ok(())
 }
 
+/// What the words say of the rules of krates, by which these examples are answered.
+pub(crate) fn choice_of(asked: &Asked) -> Result<&Choice, Fail> {
+    match &asked.rules {
+        Rules::Krates(choice) => Ok(choice),
+        Rules::Build(_) => Err(Fail::new("by build")),
+    }
+}
+
 /// What is printed of documents, with a mark where it is a no; or why there is nothing.
 fn printed_of(alloc: Global, asked: &mut Asked, documents: &str) -> Result<String, Fail> {
     let (first, second) = match documents.split_once(" // ") {
         Some((first, second)) => (first, Some(second)),
         None => (documents, None),
     };
-    add_targets(alloc, &mut asked.choice)?;
+    if let Rules::Krates(choice) = &mut asked.rules {
+        add_targets(alloc, choice)?;
+    }
+    let choice = choice_of(asked)?;
     let other = other_of(alloc, second)?;
     let document = document_of(alloc, first)?;
-    told_of(alloc, Reporter::new(alloc, asked).answer(document, other))
+    told_of(
+        alloc,
+        Reporter::new(alloc, asked, choice).answer(document, other),
+    )
 }
 
 /// The text of an answer, with a mark where it is a no; or why there is none.

@@ -8,7 +8,7 @@ use std::test::Fail;
 use std::{env, str};
 
 /// The words of a run of the program, where `SELF` is the substitute; then the status, what it reports and what it lists.
-const LISTINGS: &[Row] = &[
+static LISTINGS: &[Row] = &[
     (
         "--cargo SELF",
         "0 |+ path+file:///w/a#0.1.0\n+ path+file:///w/b#0.1.0\n",

@@ -40,7 +40,7 @@ impl Question for Read {
     }
 }
 
-const OPTIONS: &[Row] = &[
+static OPTIONS: &[Row] = &[
     ("", "false [] [] 0 None none"),
     (
         "--ignore-kind dev --target x --exclude b --workspace --exclude c@1.0.0 --target y --cargo p --cargo q",
@@ -77,7 +77,7 @@ impl Question for Kept {
     }
 }
 
-const SET: &[Row] = &[
+static SET: &[Row] = &[
     ("< a b&dev|b / members a b / root a", "2"),
     ("--ignore-kind dev < a b&dev|b / members a b / root a", "1"),
     ("--workspace < a|b / members a b / root a", "2"),

@@ -4,14 +4,14 @@ use crate::asked::{Answered, add_targets, answered_of, document_of};
 use crate::listing::words_of;
 use krates_samples::table::{Question, Row, hold};
 use krates_verdict::run_under;
-use krates_words::{CheckWords, check_words_of};
+use krates_words::{Choice, Rules, check_words_of};
 use std::alloc::Global;
 use std::io;
 use std::io::{ErrorKind, Read};
 use std::test::Fail;
 
 /// Certificates, as they are written.
-const CERTIFICATES: &[Row] = &[
+static CERTIFICATES: &[Row] = &[
     (
         "certify b < a b&dev|b",
         "{\n  \"kind\": \"derivation\",\n  \"setting\": [],\n  \"steps\": [\n    {\n      \"fact\": {\n        \"fact\": \"crate\",\n        \"krate\": \"path+file:///w/a#0.1.0\"\n      },\n      \"rule\": 1,\n      \"uses\": []\n    },\n    {\n      \"fact\": {\n        \"cfg\": null,\n        \"child\": \"path+file:///w/b#0.1.0\",\n        \"fact\": \"kept\",\n        \"kind\": \"dev\",\n        \"parent\": \"path+file:///w/a#0.1.0\"\n      },\n      \"rule\": 5,\n      \"uses\": [\n        0\n      ]\n    },\n    {\n      \"fact\": {\n        \"fact\": \"crate\",\n        \"krate\": \"path+file:///w/b#0.1.0\"\n      },\n      \"rule\": 5,\n      \"uses\": [\n        1\n      ]\n    }\n  ]\n}\n",
@@ -31,14 +31,14 @@ const CERTIFICATES: &[Row] = &[
 /// What is written where the certificate that comes in holds of what is asked and a document, or why it doesn't.
 fn written<R: Read + Drop>(
     alloc: Global,
-    asked: &mut CheckWords,
+    choice: &mut Choice,
     document: &str,
     mut input: R,
 ) -> Result<String, Fail> {
-    add_targets(alloc, &mut asked.choice)?;
+    add_targets(alloc, choice)?;
     let metadata = document_of(alloc, document)?;
     let mut output = Vec::new(alloc);
-    match run_under(alloc, &asked.choice, &metadata, &mut input, &mut output) {
+    match run_under(alloc, choice, &metadata, &mut input, &mut output) {
         Ok(()) => Ok(String::from_utf8(output)?),
         Err(refusal) => Ok(format!(in alloc; "refused: {refusal}")?),
     }
@@ -48,7 +48,10 @@ fn written<R: Read + Drop>(
 fn checked<R: Read + Drop>(alloc: Global, line: &str, input: R) -> Result<String, Fail> {
     let (words, document) = line.split_once(" < ").unwrap_or((line, ""));
     match check_words_of(alloc, &words_of(alloc, words)?) {
-        Ok(mut asked) => written(alloc, &mut asked, document, input),
+        Ok(mut asked) => match &mut asked.rules {
+            Rules::Krates(choice) => written(alloc, choice, document, input),
+            Rules::Build(_) => Err(Fail::new("by build")),
+        },
         Err(error) => Ok(format!(in alloc; "{error}")?),
     }
 }
@@ -66,7 +69,7 @@ impl Question for Certified {
 }
 
 /// Certificates that are written, as the program that checks them judges them.
-const CERTIFIED: &[Row] = &[
+static CERTIFIED: &[Row] = &[
     (
         "certify b < a b|b => --metadata m < a b|b",
         "holds: crate path+file:///w/b#0.1.0 is kept, 3 steps\n",
@@ -154,7 +157,7 @@ impl Question for ByHand {
 }
 
 /// Certificates that are written by hand, as they are judged.
-const BY_HAND: &[Row] = &[
+static BY_HAND: &[Row] = &[
     // what the last step says, whatever the others say
     (
         r#"{"kind":"derivation","setting":[],"steps":[{"fact":{"fact":"crate","krate":"path+file:///w/a#0.1.0"},"rule":1,"uses":[]},{"fact":{"fact":"kept","parent":"path+file:///w/a#0.1.0","child":"path+file:///w/b#0.1.0","kind":"normal","cfg":null},"rule":5,"uses":[0]}]}"#,
@@ -204,7 +207,7 @@ const BY_HAND: &[Row] = &[
 ];
 
 /// Certificates whose ids equal those of a document's packages and have other texts: the verdict has the document's.
-const NAMED: &[Row] = &[
+static NAMED: &[Row] = &[
     // what stands after the last `#` of an opaque id is no part of it, so it could be lines, or a commit that nobody checked
     (
         r#"{"kind":"derivation","setting":[],"steps":[{"fact":{"fact":"crate","krate":"a 0.1.0 (path+file:///w/a#)\nholds: nothing but these 2 crates can be reached\n(x)"},"rule":1,"uses":[]}]}"#,
@@ -275,7 +278,7 @@ impl Question for Unread {
     }
 }
 
-const UNREAD: &[Row] = &[
+static UNREAD: &[Row] = &[
     ("memory", "refused: out of memory"),
     (
         "permission",

@@ -9,10 +9,10 @@ use std::str;
 use std::test::Fail;
 
 /// What isn't UTF-8.
-const NO_TEXT: &[u8] = b"\xff";
+static NO_TEXT: &[u8] = b"\xff";
 
 /// JSON behind a byte order mark.
-const MARKED: &[u8] = b"\xef\xbb\xbf{}";
+static MARKED: &[u8] = b"\xef\xbb\xbf{}";
 
 /// What a line asks: the call, the length of the room, the words, and what comes after `<`.
 #[derive(Clone, Copy)]
@@ -157,7 +157,7 @@ const LISTED: &[Row] = &[
     ),
 ];
 
-const EXPLAINED: &[Row] = &[
+static EXPLAINED: &[Row] = &[
     (
         "why 165 < a b&dev|b / id path+file:///w/b#0.1.0",
         "0 162 0 rule 1: crate path+file:///w/a#0.1.0\n1 rule 5: kept path+file:///w/a#0.1.0 -> path+file:///w/b#0.1.0 (dev) from 0\n2 rule 5: crate path+file:///w/b#0.1.0 from 1\n...",
@@ -183,7 +183,7 @@ const EXPLAINED: &[Row] = &[
     ),
 ];
 
-const DRAWN: &[Row] = &[
+static DRAWN: &[Row] = &[
     (
         "graph 235 < a b&with=j&on=cfg(unix) c!&build|b;j=|c;default=",
         "0 233 crate 22:path+file:///w/a#0.1.0 1 2\ncrate 22:path+file:///w/b#0.1.0\ncrate 22:path+file:///w/c#0.1.0\nfeature 1 1:j\nfeature 2 7:default\nedge 0 3 depfeature normal 9:cfg(unix)\nedge 0 4 depfeature build\nedge 3 1 feature\nedge 4 2 feature\n..",
@@ -203,7 +203,7 @@ const DRAWN: &[Row] = &[
     ),
 ];
 
-const JUDGED: &[Row] = &[
+static JUDGED: &[Row] = &[
     (
         r#"check 50 --ignore-kind dev < a b&dev|b / certificate {"kind":"closed","setting":["--ignore-kind=dev"],"facts":[{"fact":"crate","krate":"path+file:///w/a#0.1.0"}]}"#,
         "0 47 holds: nothing but this 1 crate can be reached\n...",
@@ -247,7 +247,7 @@ const JUDGED: &[Row] = &[
 ];
 
 /// What comes from a document, an id or a certificate is shown in the text of a refusal.
-const SHOWN: &[Row] = &[
+static SHOWN: &[Row] = &[
     (
         r"list 52 < a b|b&id=b~0.1.0~(path+file:///w/b#\n\u001b[2K) / nodes a b&id=b~0.1.0~(path+file:///w/b#\n\u001b[2K)",
         r"5 52 lost node: b 0.1.0 (path+file:///w/b#\u{a}\u{1b}[2K)",
@@ -272,7 +272,7 @@ const SHOWN: &[Row] = &[
     ),
 ];
 
-const STATUSES: &[(Status, &str)] = &[
+static STATUSES: &[(Status, &str)] = &[
     (Status::Answered, "0"),
     (Status::Words, "1"),
     (Status::Id, "2"),

@@ -17,17 +17,17 @@ use std::test::Fail;
 use std::{env, fs, io, process, str};
 
 /// What each test prints behind its answer where it passes.
-const PASSED: &str = "\ntest result: ok\n";
+static PASSED: &str = "\ntest result: ok\n";
 
 /// What each test adds to what it says where it fails, as it is shown.
-const FAILED: &str = "\n    the test failed: its result gives status 1";
+static FAILED: &str = "\n    the test failed: its result gives status 1";
 
 /// What is listed of the document.
 const LISTED: &str = "a v0.1.0 (/w/a)\nb v0.1.0 (/w/b)\nstatus 0";
 
 /// A program and its words, where `ROOM` is a folder with files, and what it prints, with the status of an answer. Standard input is
 /// `empty.json`, of two bytes.
-const READ: &[Row] = &[
+static READ: &[Row] = &[
     ("krates list --metadata ROOM/document.json", LISTED),
     (
         "krates list --metadata ROOM/document.json --max-bytes 100",
@@ -61,7 +61,7 @@ const READ: &[Row] = &[
 ];
 
 /// The same for `krates_check`, whose certificate is standard input.
-const CHECKED: &[Row] = &[
+static CHECKED: &[Row] = &[
     (
         "krates_check --metadata ROOM/document.json",
         "read\nstatus 0",
@@ -81,7 +81,7 @@ const CHECKED: &[Row] = &[
 ];
 
 /// The same where cargo is run, in whose place is `SELF`.
-const BY_CARGO: &[Row] = &[
+static BY_CARGO: &[Row] = &[
     ("krates list", LISTED),
     ("krates list -F loud", LISTED),
     (
@@ -120,7 +120,7 @@ const BY_CARGO: &[Row] = &[
 ];
 
 /// The same where rustc is run, in whose place is a file beside which one stands.
-const BY_RUSTC: &[Row] = &[
+static BY_RUSTC: &[Row] = &[
     (
         "RUSTC=./killed krates list --target odd",
         "error: `./killed` failed (signal: 6 (SIGABRT))\n",
@@ -155,27 +155,27 @@ const BY_RUSTC: &[Row] = &[
         "RUSTC=./silent krates list --target odd --manifest-path ROOM/none/Cargo.toml",
         "error: unknown target `odd`: rustc doesn't describe it\n",
     ),
-    // the host that it names is a target that it has to describe
+    // by build, the host that it names is a machine that it has to describe
     (
-        "RUSTC=./rustc krates list --host",
+        "RUSTC=./rustc krates list --by build --resolver 2 --metadata ROOM/document.json",
         "error: unknown target `odd`: rustc doesn't describe it\n",
     ),
     (
-        "RUSTC=./silent krates list --host",
+        "RUSTC=./silent krates list --by build --resolver 2 --metadata ROOM/document.json",
         "error: `./silent -vV` prints no line that begins with `host: `\n",
     ),
     (
-        "RUSTC=./crash krates list --host",
+        "RUSTC=./crash krates list --by build --resolver 2 --metadata ROOM/document.json",
         "error: `./crash` failed (signal: 6 (SIGABRT)): no manifest\n",
     ),
     (
-        "RUSTC=./refuse krates list --host",
+        "RUSTC=./refuse krates list --by build --resolver 2 --metadata ROOM/document.json",
         "error: `./refuse` failed (exit status: 101): no manifest\n",
     ),
 ];
 
 /// The same where whoever reads the answer may have gone: a no stays a no, and nothing is said of it.
-const TO_NOBODY: &[Row] = &[
+static TO_NOBODY: &[Row] = &[
     (
         "krates unreachable b --metadata ROOM/document.json",
         "b v0.1.0 (/w/b) is kept; `why` says why\nstatus 1",
@@ -191,7 +191,7 @@ const TO_NOBODY: &[Row] = &[
 ];
 
 /// The files that are run as rustc: by its name each chooses what this program does in its place.
-const RUSTCS: [&str; 7] = [
+static RUSTCS: [&str; 7] = [
     "rustc", "killed", "crash", "refuse", "garbled", "silent", "endless",
 ];
 
@@ -409,7 +409,7 @@ fn starts(rt: &HostRuntime, place: &Place, rows: &[Row]) -> Result<bool, Fail> {
 }
 
 /// What is asked of a folder from outside, where a relative path means a cargo from where one stands.
-const FROM_OUTSIDE: &[Row] = &[("krates list --manifest-path ROOM/Cargo.toml", LISTED)];
+static FROM_OUTSIDE: &[Row] = &[("krates list --manifest-path ROOM/Cargo.toml", LISTED)];
 
 #[test]
 fn looks_from_outside(rt: HostRuntime) -> Result<(), Fail> {
@@ -419,7 +419,7 @@ fn looks_from_outside(rt: HostRuntime) -> Result<(), Fail> {
 }
 
 /// What is asked of the folder that one stands in.
-const FROM_INSIDE: &[Row] = &[("krates list", LISTED)];
+static FROM_INSIDE: &[Row] = &[("krates list", LISTED)];
 
 #[test]
 fn looks_from_inside(rt: HostRuntime) -> Result<(), Fail> {

@@ -72,7 +72,7 @@ const LISTED: &[Row] = &[
     ),
 ];
 
-const REFUSED: &[Row] = &[
+static REFUSED: &[Row] = &[
     (
         "< a b&dev|b|c / nodes",
         "1 refused: lost node: path+file:///w/a#0.1.0\n|",
@@ -178,7 +178,7 @@ impl Question for Unwritten {
     }
 }
 
-const UNWRITTEN: &[Row] = &[
+static UNWRITTEN: &[Row] = &[
     ("fails", "1 refused: write failed\n1"),
     ("takes nothing", "1 refused: write failed\n1"),
 ];
@@ -189,7 +189,7 @@ fn refuses_where_the_first_write_fails(rt: HostRuntime) -> Result<(), Fail> {
 }
 
 /// What is reported of words that aren't options.
-pub(crate) const USAGE: &str =
+pub(crate) static USAGE: &str =
     "usage: krates-list [--workspace] [--ignore-kind KIND] [--target TRIPLE] [--exclude SPEC] [--cargo PROGRAM] [--why ID] [--all-named]\n";
 
 #[test]

@@ -25,7 +25,7 @@ struct Run {
 }
 
 /// Runs that list the packages, and that write why the crate is kept that is needed for tests.
-const RUNS: &[Run] = &[
+static RUNS: &[Run] = &[
     Run {
         words: "--ignore-kind dev --target x86_64-unknown-linux-gnu --exclude c",
         lines: "+ path+file:///w/a#0.1.0\n- path+file:///w/b#0.1.0\n",
@@ -124,7 +124,7 @@ fn is_ample(alloc: Global) -> bool {
     Vec::<u8>::with_capacity(alloc, 1 << 20).is_ok()
 }
 
-const READINGS: &[Reading] = &[Reading {
+static READINGS: &[Reading] = &[Reading {
     document: "a b c d&dev|b|c|d",
 }];
 

@@ -12,7 +12,7 @@ const BOTH: &str = "0 |+ path+file:///w/a#0.1.0\n+ path+file:///w/b#0.1.0\n";
 const WITHOUT_B: &str = "0 |+ path+file:///w/a#0.1.0\n- path+file:///w/b#0.1.0\n";
 
 // The first package needs the second for its tests.
-const KINDS_AND_PACKAGES: &[Row] = &[
+static KINDS_AND_PACKAGES: &[Row] = &[
     ("< a b&dev|b", BOTH),
     ("--ignore-kind dev < a b&dev|b", WITHOUT_B),
     ("--ignore-kind build < a b&dev|b", BOTH),
@@ -26,7 +26,7 @@ const KINDS_AND_PACKAGES: &[Row] = &[
 ];
 
 // The first package needs the second on systems like Unix.
-const TARGETS: &[Row] = &[
+static TARGETS: &[Row] = &[
     ("< a b&on=cfg(unix)|b", BOTH),
     (
         "--target x86_64-pc-windows-msvc < a b&on=cfg(unix)|b",
@@ -45,7 +45,7 @@ const TARGETS: &[Row] = &[
 ];
 
 // Two members, of which the first is the root; neither needs the other.
-const EVERY_MEMBER: &[Row] = &[
+static EVERY_MEMBER: &[Row] = &[
     ("< a|b / members a b / root a", WITHOUT_B),
     ("--workspace < a|b / members a b / root a", BOTH),
     ("--workspace --workspace < a|b / members a b / root a", BOTH),
@@ -58,7 +58,7 @@ const ALL: &str =
     "0 |+ path+file:///w/a#0.1.0\n+ path+file:///w/d#d@0.10.0\n+ path+file:///w/d#d@0.9.0\n";
 
 // A feature of the only member enables a dependency by a name that two versions match.
-const NAMED: &[Row] = &[
+static NAMED: &[Row] = &[
     (
         "< a d?;x=dep:d|d@0.10.0|d@0.9.0 / nodes a d@0.10.0 d@0.9.0;x|d@0.10.0|d@0.9.0",
         LEAST,
@@ -108,7 +108,7 @@ impl Question for Unread {
     }
 }
 
-const NO_OPTIONS: &[Row] = &[
+static NO_OPTIONS: &[Row] = &[
     ("--nope", "2 usage, 2 left|"),
     ("--workspace nope", "2 usage, 2 left|"),
     ("--all-named nope", "2 usage, 2 left|"),
@@ -133,7 +133,7 @@ const NO_OPTIONS: &[Row] = &[
     ("--cargo x --nope", "2 usage, 2 left|"),
 ];
 
-const NO_PROGRAMS: &[Row] = &[
+static NO_PROGRAMS: &[Row] = &[
     (
         "--cargo x",
         "1 refused: failed to start `cargo metadata`, 2 left|",

@@ -12,7 +12,7 @@ use std::io::{ErrorKind, Read, Write};
 use std::test::Fail;
 
 /// What is written of the document.
-const LINES: &str = "+ path+file:///w/a#0.1.0\n+ path+file:///w/b#0.1.0\n";
+static LINES: &str = "+ path+file:///w/a#0.1.0\n+ path+file:///w/b#0.1.0\n";
 
 /// A call that goes wrong: which one, counted from 0, and with what error; without one it takes no byte.
 #[derive(Clone, Copy)]
@@ -173,7 +173,7 @@ impl Course for Explaining {
 }
 
 /// What is reported of bytes that aren't a text.
-const REFUSAL: &str = "refused: input is not UTF-8\n";
+static REFUSAL: &str = "refused: input is not UTF-8\n";
 
 /// Runs over bytes that aren't a text, whose writer of refusals goes at the pace. No document is read.
 struct Telling;
@@ -258,7 +258,7 @@ fn each_call<C: Course>(
 }
 
 // The buffer of a run has 16,384 bytes; the last call of each reader finds the end. A document without spaces has 777 bytes.
-const FAILED_READS: &[Row] = &[
+static FAILED_READS: &[Row] = &[
     (
         "0 1 fails",
         "778 calls: 1 refused: read failed, nothing written, 1 failed",
@@ -325,7 +325,7 @@ const FAILED_READS: &[Row] = &[
     ),
 ];
 
-const INTERRUPTED_READS: &[Row] = &[
+static INTERRUPTED_READS: &[Row] = &[
     ("0 1 is interrupted", "778 calls: 0, all written, 1 failed"),
     (
         "4095 65536 is interrupted",
@@ -398,7 +398,7 @@ fn refuses_where_any_read_fails_and_reads_again_where_it_is_interrupted(
 }
 
 // Fifty bytes are written.
-const WRITES: &[Row] = &[
+static WRITES: &[Row] = &[
     (
         "0 1 fails",
         "50 calls: 1 refused: write failed, a beginning written, 1 failed",
@@ -447,7 +447,7 @@ const WRITES: &[Row] = &[
 ];
 
 // 162 bytes are written.
-const EXPLAINED: &[Row] = &[
+static EXPLAINED: &[Row] = &[
     (
         "0 7 fails",
         "24 calls: 1 refused: write failed, a beginning written, 1 failed",
@@ -475,7 +475,7 @@ fn writes_all_lines_or_steps_or_a_beginning(rt: HostRuntime) -> Result<(), Fail>
 }
 
 // Twenty-eight bytes are written. The status is that of the refusal, whether it is reported or not.
-const TOLD: &[Row] = &[
+static TOLD: &[Row] = &[
     (
         "0 1 fails",
         "28 calls: 1 with 0 bytes, a beginning written, 1 failed",

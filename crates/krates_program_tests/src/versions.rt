@@ -1,7 +1,7 @@
 //! A document that cargo wrote of a small workspace, broken into lines between values, with other paths and with licences.
 
 /// The document: a member that needs three versions of one crate, another for its build script, and one for its tests.
-pub(crate) const VERSIONS: &str =
+pub(crate) static VERSIONS: &str =
     r#"{"packages":[{"name":"odd_lib","version":"0.5.0","id":"registry+https://github.com/rust-lang/crates.io-index#odd_lib@0.5.0","license":"MIT",
 "license_file":null,"description":null,"source":"registry+https://github.com/rust-lang/crates.io-index","dependencies":[],"targets":[{"kind":["lib"],
 "crate_types":["lib"],"name":"odd_lib","src_path":"/w/reg/odd_lib-0.5.0/src/lib.rs","edition":"2021","doc":true,"doctest":true,"test":true}],

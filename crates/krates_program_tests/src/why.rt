@@ -5,10 +5,10 @@ use krates_samples::table::{Row, compare, hold};
 use std::test::Fail;
 
 /// Why a crate that the only member needs for its tests is kept.
-pub(crate) const STEPS: &str =
+pub(crate) static STEPS: &str =
     "0 rule 1: crate path+file:///w/a#0.1.0\n1 rule 5: kept path+file:///w/a#0.1.0 -> path+file:///w/b#0.1.0 (dev) from 0\n2 rule 5: crate path+file:///w/b#0.1.0 from 1\n";
 
-const KEPT: &[Row] = &[
+static KEPT: &[Row] = &[
     // the first package needs the second for its tests
     (
         "--why path+file:///w/b#0.1.0 < a b&dev|b",
@@ -40,7 +40,7 @@ const KEPT: &[Row] = &[
     ),
 ];
 
-const NOT_KEPT: &[Row] = &[
+static NOT_KEPT: &[Row] = &[
     // a package that no crate needs, one that isn't there, and its id as it is asked about
     (
         "--why path+file:///w/c#0.1.0 < a b|b|c",
@@ -65,7 +65,7 @@ const NOT_KEPT: &[Row] = &[
     ),
 ];
 
-const UNDER_OPTIONS: &[Row] = &[
+static UNDER_OPTIONS: &[Row] = &[
     (
         "--ignore-kind dev --why path+file:///w/b#0.1.0 < a b&dev|b",
         "1 refused: not kept: path+file:///w/b#0.1.0\n|",
@@ -102,7 +102,7 @@ const UNDER_OPTIONS: &[Row] = &[
     ),
 ];
 
-const LAST_COUNTS: &[Row] = &[
+static LAST_COUNTS: &[Row] = &[
     (
         "--why path+file:///w/b#0.1.0 --why path+file:///w/a#0.1.0 < a b&dev|b",
         "0 |0 rule 1: crate path+file:///w/a#0.1.0\n",

@@ -3,10 +3,11 @@
 use crate::answer::pretty;
 use crate::crate_name::{directory_of, has_target, url_of};
 use crate::json::{JsonObject, Values, ids_json, string};
-use krates::Package;
 use krates::cm::{Source, SourceKind, TargetKind};
+use krates::{KrateMatch, Package};
 use krates_answers::builds::Builds;
 use krates_answers::crate_uses::Use;
+use krates_answers::kept::kept_crates;
 use krates_answers::materials::{Material, materials};
 use krates_shown::ShownJson;
 use krates_text::text::Text;
@@ -24,26 +25,59 @@ fn escaped() -> AsciiSet {
 }
 
 /// The source of crates.io, as cargo writes it.
-const CRATES_IO: &str = "registry+https://github.com/rust-lang/crates.io-index";
+static CRATES_IO: &str = "registry+https://github.com/rust-lang/crates.io-index";
 
 /// The same where its index is read by HTTP.
-const SPARSE_CRATES_IO: &str = "sparse+https://index.crates.io/";
+static SPARSE_CRATES_IO: &str = "sparse+https://index.crates.io/";
+
+/// For which sides of a build a crate is compiled.
+#[derive(Clone, Copy, Debug)]
+pub struct BuiltFor {
+    /// For a machine that the build is for.
+    pub targets: bool,
+    /// For the host.
+    pub host: bool,
+}
 
 /// The bill of materials of a document.
 #[derive(Drop)]
 pub struct Bill<'a> {
-    /// Its builds, from which it is known what is shipped.
-    pub builds: &'a Builds,
-    /// The kept crates with those on which they depend.
+    /// The crates, each at its number.
+    pub crates: Vec<KrateMatch<'a, Package>>,
+    /// What each of them is used for.
+    pub uses: Vec<Use>,
+    /// For which sides each of them is built; nothing where that isn't known.
+    pub sides: Vec<BuiltFor>,
+    /// Each of them with those on which it depends.
     pub materials: Vec<Material<'a>>,
 }
 
 impl<'a> Bill<'a> {
     /// The bill of these builds. The only refusal is running out of memory. Time: O(n log n + e log e) for n crates and e edges.
     pub fn of(alloc: Global, builds: &'a Builds) -> Result<Bill<'a>, AllocError> {
+        let crates = kept_crates(alloc, builds.all())?;
+        let uses = uses_of(alloc, builds, &crates)?;
         let materials = materials(alloc, builds.all())?;
-        Ok(Bill { builds, materials })
+        Ok(Bill {
+            crates,
+            uses,
+            sides: Vec::new(alloc),
+            materials,
+        })
     }
+}
+
+/// What each of these crates is used for in the builds.
+fn uses_of(
+    alloc: Global,
+    builds: &Builds,
+    crates: &[KrateMatch<'_, Package>],
+) -> Result<Vec<Use>, AllocError> {
+    let mut uses = Vec::new(alloc);
+    for found in crates {
+        uses.push(builds.use_of(found.kid))?;
+    }
+    Ok(uses)
 }
 
 /// Adds a qualifier of a package url: a key, and a text with its escapes.
@@ -125,11 +159,38 @@ fn with_licences(alloc: Global, krate: &Package, members: JsonObject) -> JsonObj
     members.put("licenses", licences.list())
 }
 
+/// These members with what a crate is built for, where that is known: a property for each side (CycloneDX, "Properties / Name-Value Store").
+fn with_sides(alloc: Global, built_for: Option<&BuiltFor>, members: JsonObject) -> JsonObject {
+    let Some(built_for) = built_for else {
+        return members;
+    };
+    let mut properties = Values::new(alloc);
+    if built_for.targets {
+        properties.add(side(alloc, "target"));
+    }
+    if built_for.host {
+        properties.add(side(alloc, "host"));
+    }
+    members.put("properties", properties.list())
+}
+
+/// The property of a side for which a crate is built.
+fn side(alloc: Global, name: &str) -> Result<Value, AllocError> {
+    JsonObject::new(alloc)
+        .text("name", "cargo-krates:built-for")
+        .text("value", name)
+        .object()
+}
+
 impl Bill<'_> {
-    /// What the bill says of a crate.
-    fn component(&self, alloc: Global, material: &Material<'_>) -> Result<Value, AllocError> {
-        let krate = material.krate.krate;
-        let usage = self.builds.use_of(material.krate.kid);
+    /// What the bill says of a crate that is used for this, and built for these sides.
+    fn component(
+        &self,
+        alloc: Global,
+        krate: &Package,
+        usage: Use,
+        built_for: Option<&BuiltFor>,
+    ) -> Result<Value, AllocError> {
         let members = JsonObject::new(alloc)
             .text("type", type_of(krate))
             .text("bom-ref", krate.id.repr.as_str())
@@ -137,14 +198,15 @@ impl Bill<'_> {
             .put("version", string(krate.version.to_string(alloc)))
             .text("scope", scope_of(usage))
             .put("purl", string(package_url(alloc, krate)));
-        with_licences(alloc, krate, members).object()
+        with_licences(alloc, krate, with_sides(alloc, built_for, members)).object()
     }
 
-    /// The kept crates.
+    /// The crates.
     fn components(&self, alloc: Global) -> Result<Value, AllocError> {
         let mut components = Values::new(alloc);
-        for material in &self.materials {
-            components.add(self.component(alloc, material));
+        let mut sides = self.sides.iter();
+        for (found, usage) in self.crates.iter().zip(&self.uses) {
+            components.add(self.component(alloc, found.krate, *usage, sides.next()));
         }
         components.list()
     }
@@ -154,7 +216,7 @@ impl Bill<'_> {
         let needed = &material.depends_on;
         JsonObject::new(alloc)
             .text("ref", material.krate.krate.id.repr.as_str())
-            .put("dependsOn", ids_json(alloc, self.builds.all(), needed))
+            .put("dependsOn", ids_json(alloc, &self.crates, needed))
             .object()
     }
 

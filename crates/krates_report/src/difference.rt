@@ -49,6 +49,21 @@ impl<'a> Difference<'a> {
     }
 }
 
+impl Difference<'_> {
+    /// What JSON says of it: `changed`, with `name` and the versions `from` and `to`; the crates `removed` and `added`; and
+    /// `removed_dependencies` and `added_dependencies`, each with the ids `from` and `to`.
+    pub fn members(&self, alloc: Global) -> JsonObject {
+        let lost = list_json(alloc, &self.removed_dependencies);
+        let won = list_json(alloc, &self.added_dependencies);
+        JsonObject::new(alloc)
+            .put("changed", list_json(alloc, &self.changed))
+            .put("removed", list_json(alloc, &self.removed))
+            .put("added", list_json(alloc, &self.added))
+            .put("removed_dependencies", lost)
+            .put("added_dependencies", won)
+    }
+}
+
 /// Adds versions, with a comma between each two.
 fn push_versions(versions: &[&Version], lines: &mut Lines) {
     for (place, version) in versions.iter().enumerate() {
@@ -118,17 +133,8 @@ impl Answer for Difference<'_> {
         Ok(())
     }
 
-    /// An object: `changed`, with `name` and the versions `from` and `to`; the crates `removed` and `added`; and `removed_dependencies`
-    /// and `added_dependencies`, each with the ids `from` and `to`.
+    /// The object of its members.
     fn json(&self, alloc: Global) -> Result<Value, AllocError> {
-        let lost = list_json(alloc, &self.removed_dependencies);
-        let won = list_json(alloc, &self.added_dependencies);
-        JsonObject::new(alloc)
-            .put("changed", list_json(alloc, &self.changed))
-            .put("removed", list_json(alloc, &self.removed))
-            .put("added", list_json(alloc, &self.added))
-            .put("removed_dependencies", lost)
-            .put("added_dependencies", won)
-            .object()
+        self.members(alloc).object()
     }
 }

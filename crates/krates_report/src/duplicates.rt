@@ -4,17 +4,17 @@ use crate::answer::Answer;
 use crate::crate_name::ShortName;
 use crate::json::{InJson, JsonObject, Values, ids_json};
 use crate::lines::Lines;
-use krates::{KrateMatch, Krates, NodeId, Package};
+use krates::{KrateMatch, NodeId, Package};
 use krates_answers::direct_links::DirectLinks;
 use krates_answers::duplicates::{Duplicate, duplicates};
 use serde_json::Value;
 use std::alloc::{AllocError, Global};
 
-/// The names that several kept crates have, and who needs each of these crates.
+/// The names that several crates have, and who needs each of these crates.
 #[derive(Drop)]
 pub struct Duplicates<'a> {
-    /// The graph.
-    pub krates: &'a Krates,
+    /// The crates, each at its number.
+    pub crates: Vec<KrateMatch<'a, Package>>,
     /// The names, in their order.
     pub names: Vec<Duplicate<'a>>,
     /// Who needs each crate directly.
@@ -22,12 +22,18 @@ pub struct Duplicates<'a> {
 }
 
 impl<'a> Duplicates<'a> {
-    /// Those of a graph. The only refusal is running out of memory. Time: O(n log n + e log e) for n nodes and e edges.
-    pub fn of(alloc: Global, krates: &'a Krates) -> Result<Duplicates<'a>, AllocError> {
+    /// Those of crates, each at its number, of which these links say who needs which. The only refusal is running out of memory.
+    /// Time: O(n log n) for n crates.
+    pub fn of(
+        alloc: Global,
+        crates: Vec<KrateMatch<'a, Package>>,
+        dependents: DirectLinks,
+    ) -> Result<Duplicates<'a>, AllocError> {
+        let names = duplicates(alloc, &crates)?;
         Ok(Duplicates {
-            krates,
-            names: duplicates(alloc, krates)?,
-            dependents: DirectLinks::dependents(alloc, krates)?,
+            crates,
+            names,
+            dependents,
         })
     }
 
@@ -41,8 +47,8 @@ impl<'a> Duplicates<'a> {
         write!(lines, "{}", ShortName(krate.krate));
         lines.end();
         for number in self.dependents_of(krate) {
-            if number.index() < self.krates.len() {
-                write!(lines, "    {}", ShortName(&self.krates[*number]));
+            if let Some(found) = self.crates.get(number.index()) {
+                write!(lines, "    {}", ShortName(found.krate));
                 lines.end();
             }
         }
@@ -64,7 +70,7 @@ impl<'a> Duplicates<'a> {
         let dependents = self.dependents_of(krate);
         JsonObject::new(alloc)
             .put("crate", krate.json(alloc))
-            .put("dependents", ids_json(alloc, self.krates, dependents))
+            .put("dependents", ids_json(alloc, &self.crates, dependents))
             .object()
     }
 

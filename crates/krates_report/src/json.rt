@@ -4,18 +4,18 @@
 //! without an exit for each key.
 
 use krates::semver::Version;
-use krates::{KrateMatch, Krates, NodeId, Package};
+use krates::{KrateMatch, NodeId, Package};
 use serde_json::{Map, Value, push, put};
 use std::alloc::{AllocError, Global};
 
 /// A part of an answer that JSON shows as one value. The only error is running out of memory.
-pub(crate) trait InJson {
+pub trait InJson {
     /// The value.
     fn json(&self, alloc: Global) -> Result<Value, AllocError>;
 }
 
 /// The list of the values of these.
-pub(crate) fn list_json<T: InJson>(alloc: Global, items: &[T]) -> Result<Value, AllocError> {
+pub fn list_json<T: InJson>(alloc: Global, items: &[T]) -> Result<Value, AllocError> {
     let mut values = Values::new(alloc);
     for item in items {
         values.add(item.json(alloc));
@@ -57,16 +57,16 @@ impl InJson for usize {
     }
 }
 
-/// The ids of the crates with these numbers.
-pub(crate) fn ids_json(
+/// The ids of those of the crates that are at these numbers.
+pub fn ids_json(
     alloc: Global,
-    krates: &Krates,
+    crates: &[KrateMatch<'_, Package>],
     numbers: &[NodeId],
 ) -> Result<Value, AllocError> {
     let mut values = Values::new(alloc);
     for number in numbers {
-        if number.index() < krates.len() {
-            let id = krates[*number].id.repr.as_str();
+        if let Some(found) = crates.get(number.index()) {
+            let id = found.krate.id.repr.as_str();
             values.add(Value::try_from_str(alloc, id));
         }
     }
@@ -74,13 +74,13 @@ pub(crate) fn ids_json(
 }
 
 /// A text as a value.
-pub(crate) fn string(text: Result<String, AllocError>) -> Result<Value, AllocError> {
+pub fn string(text: Result<String, AllocError>) -> Result<Value, AllocError> {
     Ok(Value::String(text?))
 }
 
 /// The members of an object that is being made.
 #[derive(Drop)]
-pub(crate) struct JsonObject {
+pub struct JsonObject {
     alloc: Global,
     members: Map<String, Value>,
     /// Whether there was memory for all of them.
@@ -89,7 +89,7 @@ pub(crate) struct JsonObject {
 
 impl JsonObject {
     /// None.
-    pub(crate) fn new(alloc: Global) -> JsonObject {
+    pub fn new(alloc: Global) -> JsonObject {
         JsonObject {
             alloc,
             members: Map::new(alloc),
@@ -98,7 +98,7 @@ impl JsonObject {
     }
 
     /// These, and a value.
-    pub(crate) fn put(mut self, key: &'static str, value: Result<Value, AllocError>) -> JsonObject {
+    pub fn put(mut self, key: &'static str, value: Result<Value, AllocError>) -> JsonObject {
         let is_put = match value {
             Ok(value) => put(&mut self.members, self.alloc, key, value).is_ok(),
             Err(AllocError) => false,
@@ -108,13 +108,13 @@ impl JsonObject {
     }
 
     /// These, and a text.
-    pub(crate) fn text(self, key: &'static str, text: &str) -> JsonObject {
+    pub fn text(self, key: &'static str, text: &str) -> JsonObject {
         let value = Value::try_from_str(self.alloc, text);
         self.put(key, value)
     }
 
     /// The object of these members.
-    pub(crate) fn object(self) -> Result<Value, AllocError> {
+    pub fn object(self) -> Result<Value, AllocError> {
         if self.is_whole {
             Ok(Value::Object(self.members))
         } else {
@@ -125,7 +125,7 @@ impl JsonObject {
 
 /// The values of a list that is being made.
 #[derive(Drop)]
-pub(crate) struct Values {
+pub struct Values {
     values: Vec<Value>,
     /// Whether there was memory for all of them.
     is_whole: bool,
@@ -133,7 +133,7 @@ pub(crate) struct Values {
 
 impl Values {
     /// None.
-    pub(crate) fn new(alloc: Global) -> Values {
+    pub fn new(alloc: Global) -> Values {
         Values {
             values: Vec::new(alloc),
             is_whole: true,
@@ -141,7 +141,7 @@ impl Values {
     }
 
     /// Adds a value.
-    pub(crate) fn add(&mut self, value: Result<Value, AllocError>) {
+    pub fn add(&mut self, value: Result<Value, AllocError>) {
         let is_added = match value {
             Ok(value) => push(&mut self.values, value).is_ok(),
             Err(AllocError) => false,
@@ -150,7 +150,7 @@ impl Values {
     }
 
     /// The list of these values.
-    pub(crate) fn list(self) -> Result<Value, AllocError> {
+    pub fn list(self) -> Result<Value, AllocError> {
         if self.is_whole {
             Ok(Value::Array(self.values))
         } else {

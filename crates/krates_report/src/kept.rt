@@ -9,18 +9,18 @@ use crate::answer::Answer;
 use crate::crate_name::ShortName;
 use crate::json::{InJson, JsonObject, Values, list_json};
 use crate::lines::Lines;
-use krates::Krates;
+use krates::{KrateMatch, Package};
 use krates_answers::builds::Builds;
 use krates_answers::crate_uses::{Use, UsedKrate};
 use krates_answers::licences::Licence;
 use serde_json::Value;
 use std::alloc::{AllocError, Global};
 
-/// The kept crates, in the order of their ids: by name, then version, then source.
+/// Crates, in the order of their ids: by name, then version, then source.
 #[derive(Drop)]
 pub struct List<'a> {
-    /// The graph.
-    pub krates: &'a Krates,
+    /// The crates.
+    pub crates: &'a [KrateMatch<'a, Package>],
     /// Whether the text has their ids instead of their names.
     pub has_ids: bool,
 }
@@ -28,7 +28,8 @@ pub struct List<'a> {
 impl Answer for List<'_> {
     /// A line for each: its short name, or its id.
     fn push_lines(&self, lines: &mut Lines) -> Result<(), AllocError> {
-        for krate in self.krates.krates() {
+        for found in self.crates {
+            let krate = found.krate;
             if self.has_ids {
                 lines.push_str(krate.id.repr.as_str());
             } else {
@@ -41,11 +42,7 @@ impl Answer for List<'_> {
 
     /// A list of crates.
     fn json(&self, alloc: Global) -> Result<Value, AllocError> {
-        let mut values = Values::new(alloc);
-        for krate in self.krates.krates() {
-            values.add(krate.json(alloc));
-        }
-        values.list()
+        list_json(alloc, self.crates)
     }
 }
 

@@ -10,7 +10,7 @@ pub mod difference;
 mod dump;
 pub mod duplicates;
 pub mod error;
-mod json;
+pub mod json;
 pub mod kept;
 pub mod lines;
 pub mod reporter;

@@ -18,14 +18,18 @@ use crate::tree::Tree;
 use crate::why::{Certainty, ExplainedFeatures, Why};
 use krates::derive::{Derivation, Fact};
 use krates::resolve::Setting;
-use krates::{Builder, Kid, Krates, Metadata, Node, NodeId, OnFilter, Package, PackageId};
+use krates::{
+    Builder, Kid, KrateMatch, Krates, Metadata, Node, NodeId, OnFilter, Package, PackageId,
+};
 use krates_answers::builds::Builds;
 use krates_answers::direct_links::DirectLinks;
+use krates_answers::kept::kept_crates;
 use krates_answers::licences::licences;
 use krates_answers::meaning::{Meant, Packages};
+use krates_answers::naming::NamingError;
 use krates_answers::unreachable::is_unreachable;
 use krates_certificate::{Certificate, CertificatePart};
-use krates_words::{Asked, Word};
+use krates_words::{Asked, Choice, Word};
 use std::alloc::{AllocError, Global};
 
 /// What is printed, and whether it is a yes.
@@ -88,13 +92,36 @@ struct Divided {
 }
 
 impl Divided {
-    /// All packages.
-    fn packages(&self) -> Packages<'_> {
-        Packages {
-            krates: &self.krates,
-            others: &self.others,
-        }
+    /// The one kept crate that a word means.
+    fn one(&self, alloc: Global, word: &str) -> Result<KrateMatch<'_, Package>, NamingError> {
+        let kept = kept_crates(alloc, &self.krates)?;
+        let others = references(alloc, &self.others)?;
+        let packages = Packages {
+            kept: &kept,
+            others: &others,
+        };
+        packages.one(alloc, word)
     }
+
+    /// The one package that a word means, kept or not.
+    fn any(&self, alloc: Global, word: &str) -> Result<Meant<'_>, NamingError> {
+        let kept = kept_crates(alloc, &self.krates)?;
+        let others = references(alloc, &self.others)?;
+        let packages = Packages {
+            kept: &kept,
+            others: &others,
+        };
+        packages.any(alloc, word)
+    }
+}
+
+/// The packages, borrowed.
+fn references(alloc: Global, packages: &[Package]) -> Result<Vec<&Package>, AllocError> {
+    let mut references = Vec::new(alloc);
+    for package in packages {
+        references.push(package)?;
+    }
+    Ok(references)
 }
 
 /// The numbers of the kept members of the workspace.
@@ -119,17 +146,22 @@ fn ids_of(alloc: Global, packages: &[Package]) -> Result<Vec<PackageId>, AllocEr
     Ok(ids)
 }
 
-/// Answers what is asked, over the documents that it is given.
+/// Answers what is asked of the graph of krates, over the documents that it is given.
 #[derive(Clone, Copy)]
 pub struct Reporter<'a> {
     alloc: Global,
     asked: &'a Asked,
+    choice: &'a Choice,
 }
 
 impl<'a> Reporter<'a> {
-    /// A reporter for this question. Time O(1).
-    pub fn new(alloc: Global, asked: &'a Asked) -> Reporter<'a> {
-        Reporter { alloc, asked }
+    /// A reporter for this question, under this choice. Time O(1).
+    pub fn new(alloc: Global, asked: &'a Asked, choice: &'a Choice) -> Reporter<'a> {
+        Reporter {
+            alloc,
+            asked,
+            choice,
+        }
     }
 }
 
@@ -168,7 +200,7 @@ impl Reporter<'_> {
             | Word::Certify { .. } => self.of_divided(metadata),
             Word::Uses | Word::Sbom => self.of_builds(metadata),
             Word::Queries => self.queries(metadata),
-            Word::Unreachable { spec } => self.unreachable(metadata, spec.as_str()),
+            Word::Unreachable { spec, .. } => self.unreachable(metadata, spec.as_str()),
             Word::Diff { .. } => {
                 metadata.let_go();
                 Err(ReportError::NoOther)
@@ -190,7 +222,7 @@ impl Reporter<'_> {
 
     /// What is printed of the three graphs of a document.
     fn of_builds(&self, metadata: Metadata) -> Result<Report, ReportError> {
-        let builds = builds(self.alloc, &self.asked.choice, metadata)?;
+        let builds = builds(self.alloc, self.choice, metadata)?;
         self.in_builds(&builds)
     }
 
@@ -206,14 +238,14 @@ impl Reporter<'_> {
 
     /// The graph of a document.
     fn built(&self, metadata: Metadata) -> Result<Krates, ReportError>
-        ensures { IfOk result (IsBuildOf (metadata_view metadata) self.now.asked.now.choice []) }
+        ensures { IfOk result (IsBuildOf (metadata_view metadata) self.now.choice.now []) }
     {
-        built(self.alloc, &self.asked.choice, &[], metadata)
+        built(self.alloc, self.choice, &[], metadata)
     }
 
     /// The graph of a document and the packages that it doesn't keep.
     fn divided(&self, metadata: Metadata) -> Result<Divided, ReportError>
-        ensures { IfOk result (λ divided. IsDivisionOf metadata self.now.asked.now.choice
+        ensures { IfOk result (λ divided. IsDivisionOf metadata self.now.choice.now
             divided.krates divided.others.items) }
     {
         let Ok(setting) = self.setting() else {
@@ -231,9 +263,9 @@ impl Reporter<'_> {
 
     /// What is chosen.
     fn setting(&self) -> Result<Setting, AllocError>
-        ensures { IfOk result (IsSettingOf self.now.asked.now.choice []) }
+        ensures { IfOk result (IsSettingOf self.now.choice.now []) }
     {
-        self.asked.choice.setting(self.alloc, &[])
+        self.choice.setting(self.alloc, &[])
     }
 
     /// What the graph of each of two documents has alone.
@@ -290,15 +322,28 @@ impl Reporter<'_> {
     /// the drawn graph, number by number.
     fn in_graph(&self, krates: &Krates) -> Result<Report, ReportError> {
         match &self.asked.word {
-            Word::List { ids } => self.shown(Ok(List {
-                krates,
-                has_ids: *ids,
-            })),
-            Word::Duplicates => self.shown(Duplicates::of(self.alloc, krates)),
-            Word::Licences => self.shown(licences(self.alloc, krates)),
+            Word::List { ids, .. } => {
+                let crates = kept_crates(self.alloc, krates)?;
+                self.shown(Ok(List {
+                    crates: &crates,
+                    has_ids: *ids,
+                }))
+            }
+            Word::Duplicates => self.duplicates_in(krates),
+            Word::Licences => {
+                let crates = kept_crates(self.alloc, krates)?;
+                self.shown(licences(self.alloc, &crates))
+            }
             // the word `graph`
             _ => self.graph_lines(krates),
         }
+    }
+
+    /// The names that several kept crates have.
+    fn duplicates_in(&self, krates: &Krates) -> Result<Report, ReportError> {
+        let crates = kept_crates(self.alloc, krates)?;
+        let dependents = DirectLinks::dependents(self.alloc, krates)?;
+        self.shown(Duplicates::of(self.alloc, crates, dependents))
     }
 
     /// The drawn graph, number by number.
@@ -343,20 +388,22 @@ impl Reporter<'_> {
             Some(spec) => self.root(divided, spec.as_str())?,
             None => members_of(self.alloc, &divided.krates)?,
         };
+        let crates = kept_crates(self.alloc, &divided.krates)?;
         let links = DirectLinks::dependencies(self.alloc, &divided.krates);
-        self.shown(Tree::of(self.alloc, &divided.krates, links, &roots))
+        self.shown(Tree::of(self.alloc, crates, links, &roots))
     }
 
     /// The tree of those that need a crate.
     fn tree_above(&self, divided: &Divided, spec: &str) -> Result<Report, ReportError> {
         let roots = self.root(divided, spec)?;
+        let crates = kept_crates(self.alloc, &divided.krates)?;
         let links = DirectLinks::dependents(self.alloc, &divided.krates);
-        self.shown(Tree::of(self.alloc, &divided.krates, links, &roots))
+        self.shown(Tree::of(self.alloc, crates, links, &roots))
     }
 
     /// The number of the crate that a word means, as a list.
     fn root(&self, divided: &Divided, spec: &str) -> Result<Vec<NodeId>, ReportError> {
-        let found = divided.packages().one(self.alloc, spec)?;
+        let found = divided.one(self.alloc, spec)?;
         Ok(vec![in self.alloc; found.node_id]?)
     }
 
@@ -367,7 +414,7 @@ impl Reporter<'_> {
         spec: &str,
         has_steps: bool,
     ) -> Result<Report, ReportError> {
-        let found = divided.packages().one(self.alloc, spec)?;
+        let found = divided.one(self.alloc, spec)?;
         match divided.krates.why(found.node_id)? {
             Some(derivation) => self.shown(Ok(Why {
                 krate: found.krate,
@@ -380,7 +427,7 @@ impl Reporter<'_> {
 
     /// The enabled features of a crate.
     fn features_in(&self, divided: &Divided, spec: &str) -> Result<Report, ReportError> {
-        let found = divided.packages().one(self.alloc, spec)?;
+        let found = divided.one(self.alloc, spec)?;
         self.shown(ExplainedFeatures::of(self.alloc, &divided.krates, found))
     }
 
@@ -409,7 +456,7 @@ impl Reporter<'_> {
         divided: &Divided,
         spec: &str,
     ) -> Result<Report, ReportError> {
-        let package = match divided.packages().any(self.alloc, spec)? {
+        let package = match divided.any(self.alloc, spec)? {
             Meant::Kept(found) => found.krate,
             Meant::Other(package) => package,
         };
@@ -447,7 +494,7 @@ impl Reporter<'_> {
         divided: &Divided,
         spec: Option<&String>,
     ) -> Result<Certificate, ReportError> {
-        let setting = self.asked.choice.words(self.alloc)?;
+        let setting = self.choice.words(self.alloc)?;
         match self.derivation(divided, spec)? {
             Some(derivation) => Ok(Certificate::Derivation {
                 setting,
@@ -469,7 +516,7 @@ impl Reporter<'_> {
         let Some(spec) = spec else {
             return Ok(None);
         };
-        match divided.packages().any(self.alloc, spec.as_str())? {
+        match divided.any(self.alloc, spec.as_str())? {
             Meant::Kept(found) => Ok(divided.krates.why(found.node_id)?),
             Meant::Other(_) => Ok(None),
         }

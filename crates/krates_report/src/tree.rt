@@ -8,17 +8,17 @@ use crate::answer::Answer;
 use crate::crate_name::ShortName;
 use crate::json::{JsonObject, Values};
 use crate::lines::Lines;
-use krates::{Krates, NodeId};
+use krates::{KrateMatch, NodeId, Package};
 use krates_answers::direct_links::DirectLinks;
 use krates_answers::tree::TreeLine;
 use serde_json::Value;
 use std::alloc::{AllocError, Global};
 
-/// A tree of kept crates.
+/// A tree of crates.
 #[derive(Drop)]
 pub struct Tree<'a> {
-    /// The graph.
-    pub krates: &'a Krates,
+    /// The crates, each at its number.
+    pub crates: Vec<KrateMatch<'a, Package>>,
     /// Which crate leads to which.
     pub links: DirectLinks,
     /// The lines.
@@ -26,15 +26,15 @@ pub struct Tree<'a> {
 }
 
 impl<'a> Tree<'a> {
-    /// The tree of what these links of the graph lead to, below roots: what they need, or those that need them. The only refusal is running
+    /// The tree of what these links of the crates lead to, below roots: what they need, or those that need them. The only refusal is running
     /// out of memory, now or while the links were made. Time: that of `DirectLinks::tree`.
     pub fn of(
         alloc: Global,
-        krates: &'a Krates,
+        crates: Vec<KrateMatch<'a, Package>>,
         links: Result<DirectLinks, AllocError>,
         roots: &[NodeId],
     ) -> Result<Tree<'a>, AllocError>
-        ensures graph { IfOk result (λ tree. tree.krates.now ≡ krates.now) }
+        ensures crates { IfOk result (λ tree. tree.crates ≡ crates.entry) }
         ensures links { IfOk result (λ tree. links ≡ Ok tree.links) }
         ensures lines { IfOk result (λ tree. IsTree (IsListed tree.links) (roots_among tree.links roots.now)
             tree.lines.items) }
@@ -42,7 +42,7 @@ impl<'a> Tree<'a> {
         let links = links?;
         let lines = links.tree(alloc, roots)?;
         Ok(Tree {
-            krates,
+            crates,
             links,
             lines,
         })
@@ -68,9 +68,9 @@ impl<'a> Tree<'a> {
         fit(goes_on, line.depth)?;
         push_branches(goes_on, is_last, lines);
         goes_on.push(!is_last)?;
-        if line.krate.index() < self.krates.len() {
+        if let Some(found) = self.crates.get(line.krate.index()) {
             let mark = if self.is_repeated(line) { " (*)" } else { "" };
-            write!(lines, "{}{mark}", ShortName(&self.krates[line.krate]));
+            write!(lines, "{}{mark}", ShortName(found.krate));
             lines.end();
         }
         Ok(())
@@ -78,10 +78,9 @@ impl<'a> Tree<'a> {
 
     /// What JSON says of a line.
     fn line_json(&self, alloc: Global, line: &TreeLine) -> Result<Value, AllocError> {
-        let id = if line.krate.index() < self.krates.len() {
-            self.krates[line.krate].id.repr.as_str()
-        } else {
-            ""
+        let id = match self.crates.get(line.krate.index()) {
+            Some(found) => found.krate.id.repr.as_str(),
+            None => "",
         };
         JsonObject::new(alloc)
             .put("depth", Ok(Value::from(line.depth as u64)))

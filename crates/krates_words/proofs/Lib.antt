@@ -1,2 +1,4 @@
 pub mod IgnoresTooLemmas
 pub mod ManifestLemmas
+pub mod SelectionLemmas
+pub mod SplitLemmas

@@ -1,5 +1,5 @@
 -- The options that cargo is given.
-use Rattle.std.specs.Prelude.{◌≡◌, List, [], None, option_map}
+use Rattle.std.specs.Prelude.{◌≡◌, List, [], None, false, option_map, true}
 use Rattle.krates_cargo.specs.CargoOptions.{CargoOptionsModel, IsInOrder, options_with}
 use Rattle.krates_cargo.specs.Command.{CommandModel, plain_command}
 use Rattle.krates_cm.specs.Document.{Text, text_view, texts_view}
@@ -17,6 +17,11 @@ asked_of_cargo words = record {
   other_options = [];
   lock = record { frozen = words.frozen; locked = words.locked; offline = words.offline };
 }
+
+-- The options that cargo is given where these are those of a build: all features, and those that are named. The rest stays, but that
+-- the default features aren't left out.
+abbrev pub words_for_build : CargoWords → CargoWords
+words_for_build words = record words { all_features = true; no_default_features = false }
 
 -- The command has the path of the manifest as it is given, these options, and nothing else: no program and no directory.
 pub record IsTold (words : CargoWords) (c : CommandModel) : Type 0 where

@@ -1,6 +1,9 @@
+pub mod BuildSettingWords
+pub mod BuildWords
 pub mod CargoWords
 pub mod Choice
 pub mod Errors
+pub mod FeatureNames
 pub mod SettingWords
 pub mod Stated
 pub mod Triples

@@ -3,7 +3,7 @@
 ghost use Rattle.std.specs.Prelude.{◌≡◌, false, None, IfErr, IfOk};
 ghost use Rattle.krates_cargo.specs.CargoOptions.{IsCommandOf};
 ghost use Rattle.krates_cm.specs.declared.error.Error.TheVariants.{Memory};
-ghost use Rattle.krates_words.specs.CargoWords.{IsTold, asked_of_cargo};
+ghost use Rattle.krates_words.specs.CargoWords.{IsTold, asked_of_cargo, words_for_build};
 
 use krates_cargo::{Cmd, LockOptions, MetadataCommand};
 use krates_cm::Error;
@@ -29,6 +29,23 @@ pub struct CargoWords {
 }
 
 impl CargoWords {
+    /// The options that cargo is given where these are those of a build. Cargo writes no edge of a feature that isn't enabled, and which ones
+    /// are enabled isn't cargo's to say then: so it is asked for all features, and also for those that are named, since all features of the
+    /// workspace don't have those of a dependency. The default ones are never left out. Time O(1).
+    ///
+    /// ```text
+    /// let command = words.for_build().command(alloc)?;
+    /// ```
+    pub fn for_build(self) -> CargoWords
+        ensures { result ≡ words_for_build self }
+    {
+        CargoWords {
+            all_features: true,
+            no_default_features: false,
+            ..self
+        }
+    }
+
     /// The command `cargo metadata` with these options. Cargo runs where this process does, and is passed the manifest's path: so its
     /// configuration and its toolchain are those of this place, as they are for `cargo metadata` with the same options, and what the
     /// manifest's own folder names isn't run (Cargo Book, "Configuration", "Hierarchical structure"). The only error is `Memory`.

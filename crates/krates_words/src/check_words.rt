@@ -1,16 +1,16 @@
 //! What the words of the program that checks certificates mean.
 
-use crate::choice::Choice;
-use crate::command::{VERSION, push_choice, push_limit, with_args};
+use crate::command::{VERSION, push_groups};
 use crate::error::{WordsError, shown_words};
-use crate::found::{choice, max_bytes};
-use crate::known::DOCUMENT;
-use crate::together::check_choice;
+use crate::found::{max_bytes, rules};
+use crate::known_options::FOR_CERTIFICATES;
+use crate::rules::{By, Rules};
+use crate::together::check;
 use crate::values::required;
 use clap::{ArgMatches, Command};
 use std::alloc::{AllocError, Global};
 
-const EXPLANATION: &str = "\
+static EXPLANATION: &str = "\
 The certificate is read from standard input, as `cargo krates certify` writes it.
 The options have to be those under which it was made.";
 
@@ -19,8 +19,8 @@ The options have to be those under which it was made.";
 pub struct CheckWords {
     /// The file with the document: `--metadata`.
     pub document: String,
-    /// Which part of the document counts.
-    pub choice: Choice,
+    /// By which rules it is judged, and what the words say of them: `--by`.
+    pub rules: Rules,
     /// The most bytes that are read of one input: `--max-bytes`.
     pub max_bytes: u64,
 }
@@ -45,21 +45,21 @@ fn refusal(alloc: Global, words: &[String]) -> Result<WordsError, AllocError> {
 
 /// The command.
 fn command_line<'w>(alloc: Global) -> Result<Command<'w>, AllocError> {
-    let mut args = vec![in alloc; DOCUMENT.arg(alloc).required(true)]?;
-    push_choice(alloc, &mut args)?;
-    push_limit(alloc, &mut args)?;
-    let command = Command::new(alloc, "krates_check")
+    let mut args = Vec::new(alloc);
+    push_groups(alloc, &mut args, &FOR_CERTIFICATES)?;
+    Command::new(alloc, "krates_check")
         .version(VERSION)
-        .about("Checks a certificate of which crates a workspace needs")
+        .about("Checks a certificate of which crates a workspace needs, or of what cargo builds")
         .after_help(EXPLANATION)
         .no_binary_name(true)
-        .arg_required_else_help(true);
-    with_args(command, args)
+        .arg_required_else_help(true)
+        .args(args)
 }
 
 /// What is asked, from what `clap` found in the words.
 fn found_words(alloc: Global, found: &ArgMatches<'_>) -> Result<CheckWords, WordsError> {
-    check_choice(alloc, found)?;
+    let by = By::of(found);
+    check(alloc, by, found)?;
     let document = required(alloc, found, "metadata")?;
     if document.as_str() == "-" {
         return Err(WordsError::wrong(
@@ -67,10 +67,10 @@ fn found_words(alloc: Global, found: &ArgMatches<'_>) -> Result<CheckWords, Word
             "standard input is the certificate: '--metadata <FILE>' has to be a file",
         ));
     }
-    let choice = choice(alloc, found)?;
+    let rules = rules(alloc, by, found)?;
     Ok(CheckWords {
         document,
-        choice,
+        rules,
         max_bytes: max_bytes(found),
     })
 }

@@ -28,8 +28,6 @@ pub struct Choice {
     pub triples: Vec<String>,
     /// The files that describe the first of these targets, in their order: `--cfg`. There are at most as many as triples.
     pub cfgs: Vec<String>,
-    /// Whether the host is a target too: `--host`.
-    pub host: bool,
     /// The targets, each with its features. Words have only their triples; whoever runs rustc or reads its descriptions adds
     /// them. Where there are none, every target is meant.
     pub targets: Vec<(Target, Vec<String>)>,

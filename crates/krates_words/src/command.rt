@@ -1,23 +1,22 @@
 //! The command line, as `clap` reads it.
 
-use crate::known::{
-    JSON, KnownOption, KnownWord, MAX_BYTES, METADATA, Names, OF_CARGO, OF_CRATES, OF_TARGETS,
-    Takes, WORDS,
-};
+use crate::known::{KnownWord, WORDS};
+use crate::known_options::{BY_EITHER, BY_KRATES, CARGO_OPTIONS, Group, KnownOption, Takes};
+use crate::rules;
 use clap::builder::ValueParser;
 use clap::{Arg, ArgAction, Command};
 use std::alloc::{AllocError, Global};
 
-const EXPLANATION: &str = "\
+static EXPLANATION: &str = "\
 SPEC names a package as cargo's -p does: serde, serde@1.0.152, or its id.
 `cargo krates WORD --help` lists the options of a word.";
 
 /// What `--version` prints behind the name of each program. `scripts/install.sh` changes it in a copy, so that what was compiled without
 /// a proof says so.
-pub(crate) const VERSION: &str = "0.22.0";
+pub(crate) static VERSION: &str = "0.22.0";
 
 /// What `--ignore-kind` takes.
-const KINDS: [&str; 3] = ["normal", "build", "dev"];
+static KINDS: [&str; 3] = ["normal", "build", "dev"];
 
 /// What `--edges` takes.
 const EDGES: [&str; 7] = [
@@ -30,13 +29,25 @@ const EDGES: [&str; 7] = [
     "no-dev",
 ];
 
+/// What `--resolver` takes.
+static RESOLVERS: [&str; 3] = ["1", "2", "3"];
+
+/// What `--side` takes.
+static SIDES: [&str; 2] = ["host", "target"];
+
 /// The command, with its words.
 pub(crate) fn command_line<'w>(alloc: Global) -> Result<Command<'w>, AllocError> {
-    let mut command = program(alloc)?;
+    let words = subcommands(alloc)?;
+    program(alloc)?.subcommands(words)
+}
+
+/// The words, each a command of its own.
+fn subcommands<'w>(alloc: Global) -> Result<Vec<Command<'w>>, AllocError> {
+    let mut commands = Vec::new(alloc);
     for word in &WORDS {
-        command = command.subcommand(word.subcommand(alloc)?)?;
+        commands.push(word.subcommand(alloc)?)?;
     }
-    Ok(command)
+    Ok(commands)
 }
 
 /// The command without words.
@@ -59,122 +70,126 @@ impl KnownWord {
     /// The word as a command of its own.
     fn subcommand<'w>(&self, alloc: Global) -> Result<Command<'w>, AllocError> {
         let args = self.args(alloc)?;
-        let command = Command::new(alloc, self.name).about(self.about);
-        let command = match self.alias {
-            Some(alias) => command.visible_alias(alias)?,
-            None => command,
-        };
-        with_args(command, args)
+        self.command(alloc)?.args(args)
     }
 
-    /// What may follow the word, in the order of its help.
+    /// The same without what it takes.
+    fn command<'w>(&self, alloc: Global) -> Result<Command<'w>, AllocError> {
+        let command = Command::new(alloc, self.name).about(self.about);
+        match self.alias {
+            Some(alias) => command.visible_alias(alias),
+            None => Ok(command),
+        }
+    }
+
+    /// What it takes, in the order of its help.
     fn args<'w>(&self, alloc: Global) -> Result<Vec<Arg<'w>>, AllocError> {
         let mut args = Vec::new(alloc);
-        match self.names {
-            Names::Nothing => {}
-            Names::Krate => args.push(krate(alloc).required(true))?,
-            Names::MaybeKrate => args.push(krate(alloc))?,
-            Names::Document => args.push(document(alloc))?,
-        }
-        if let Some(own) = &self.own {
-            args.push(own.arg(alloc))?;
-        }
-        if self.has_json {
-            args.push(JSON.arg(alloc))?;
-        }
-        push_choice(alloc, &mut args)?;
-        push_options(alloc, &mut args, "What cargo is told", &OF_CARGO)?;
-        args.push(input(alloc)?)?;
-        push_limit(alloc, &mut args)?;
+        let own = Group {
+            heading: None,
+            options: self.own,
+        };
+        own.push_args(alloc, &mut args)?;
+        push_groups(alloc, &mut args, self.groups())?;
         Ok(args)
     }
-}
 
-/// A command with these arguments, in their order.
-pub(crate) fn with_args<'w>(
-    command: Command<'w>,
-    args: Vec<Arg<'w>>,
-) -> Result<Command<'w>, AllocError> {
-    let mut command = command;
-    for arg in args {
-        command = command.arg(arg)?;
+    /// What all words take that answer by the same rules.
+    fn groups(&self) -> &'static [Group] {
+        if self.has_rules {
+            &BY_EITHER
+        } else {
+            &BY_KRATES
+        }
     }
-    Ok(command)
 }
 
-/// A crate after a word.
-fn krate<'w>(alloc: Global) -> Arg<'w> {
-    Arg::new(alloc, "SPEC")
-        .help("The package: its name, NAME@VERSION, or its id")
-        .action(ArgAction::Set)
-}
-
-/// A document after a word.
-fn document<'w>(alloc: Global) -> Arg<'w> {
-    Arg::new(alloc, "FILE")
-        .help("The other document, as --metadata takes it")
-        .required(true)
-        .action(ArgAction::Set)
-}
-
-/// The document instead of cargo's, with which no option for cargo can be given.
-fn input<'w>(alloc: Global) -> Result<Arg<'w>, AllocError> {
-    METADATA
-        .arg(alloc)
-        .help_heading("In place of cargo")
-        .conflicts_with_all(&OF_CARGO.map(|option| option.name))
-}
-
-/// Adds the options that choose a part of the document.
-pub(crate) fn push_choice<'w>(alloc: Global, args: &mut Vec<Arg<'w>>) -> Result<(), AllocError> {
-    push_options(alloc, args, "Which crates", &OF_CRATES)?;
-    push_options(alloc, args, "Which targets", &OF_TARGETS)
-}
-
-/// Adds the option that limits what is read.
-pub(crate) fn push_limit<'w>(alloc: Global, args: &mut Vec<Arg<'w>>) -> Result<(), AllocError> {
-    push_options(alloc, args, "How much is read", &[MAX_BYTES])
-}
-
-/// Adds options under a heading of help.
-fn push_options<'w>(
+/// Adds the options of these groups, in their order.
+pub(crate) fn push_groups<'w>(
     alloc: Global,
     args: &mut Vec<Arg<'w>>,
-    heading: &'static str,
-    options: &[KnownOption],
+    groups: &[Group],
 ) -> Result<(), AllocError> {
-    for option in options {
-        args.push(option.arg(alloc).help_heading(heading))?;
+    for group in groups {
+        group.push_args(alloc, args)?;
     }
     Ok(())
 }
 
-impl KnownOption {
-    /// The option as an argument.
-    pub(crate) fn arg<'w>(&self, alloc: Global) -> Arg<'w> {
-        let arg = Arg::new(alloc, self.name).long(self.name).help(self.help);
-        let arg = match self.short {
-            Some(short) => arg.short(short),
+impl Group {
+    /// Adds its options, in their order.
+    fn push_args<'w>(&self, alloc: Global, args: &mut Vec<Arg<'w>>) -> Result<(), AllocError> {
+        for option in self.options {
+            args.push(self.under_heading(option.arg(alloc)?))?;
+        }
+        Ok(())
+    }
+
+    /// The argument under the heading.
+    fn under_heading<'w>(&self, arg: Arg<'w>) -> Arg<'w> {
+        match self.heading {
+            Some(heading) => arg.help_heading(heading),
             None => arg,
-        };
-        match self.takes {
-            Takes::Nothing => arg.action(ArgAction::SetTrue),
-            Takes::One(value) => arg.action(ArgAction::Set).value_name(value),
-            Takes::Each(value) => arg.action(ArgAction::Append).value_name(value),
-            Takes::Edges => among(arg, "KINDS", &EDGES).value_delimiter(','),
-            Takes::Kind => among(arg, "KIND", &KINDS),
-            Takes::Bytes => arg
-                .action(ArgAction::Set)
-                .value_name("BYTES")
-                .value_parser(ValueParser::Unsigned(0, u64::MAX)),
         }
     }
 }
 
+impl KnownOption {
+    /// The option as an argument.
+    fn arg<'w>(&self, alloc: Global) -> Result<Arg<'w>, AllocError> {
+        let arg = Arg::new(alloc, self.name).help(self.help);
+        match self.takes {
+            Takes::Argument { is_required } => {
+                Ok(arg.action(ArgAction::Set).required(is_required))
+            }
+            Takes::Document => self
+                .taking(arg)
+                .conflicts_with_all(&CARGO_OPTIONS.map(|option| option.name)),
+            _ => Ok(self.taking(arg)),
+        }
+    }
+
+    /// The argument, as an option that takes what it says.
+    fn taking<'w>(&self, arg: Arg<'w>) -> Arg<'w> {
+        let arg = self.named(arg);
+        match self.takes {
+            Takes::Nothing => arg.action(ArgAction::SetTrue),
+            Takes::One(value) => one(arg, value),
+            Takes::Each(value) => arg.action(ArgAction::Append).value_name(value),
+            Takes::Rules => one_of(arg, "RULES", &rules::NAMES).default_value(rules::DEFAULT),
+            Takes::Resolver => one_of(arg, "VERSION", &RESOLVERS),
+            Takes::Side => one_of(arg, "SIDE", &SIDES),
+            Takes::Edges => among(arg, "KINDS", &EDGES).value_delimiter(','),
+            Takes::Kind => among(arg, "KIND", &KINDS),
+            Takes::Bytes => { one(arg, "BYTES").value_parser(ValueParser::Unsigned(0, u64::MAX)) }
+            Takes::Certified => one(arg, "FILE").required(true),
+            Takes::Document | Takes::Argument { .. } => one(arg, "FILE"),
+        }
+    }
+
+    /// The argument, as an option of this name.
+    fn named<'w>(&self, arg: Arg<'w>) -> Arg<'w> {
+        let arg = arg.long(self.name);
+        match self.short {
+            Some(short) => arg.short(short),
+            None => arg,
+        }
+    }
+}
+
+/// The argument with one value.
+fn one<'w>(arg: Arg<'w>, name: &'static str) -> Arg<'w> {
+    arg.action(ArgAction::Set).value_name(name)
+}
+
 /// The argument with one of these values at each of its uses. Help names them in its own words.
 fn among<'w>(arg: Arg<'w>, name: &'static str, values: &'static [&'static str]) -> Arg<'w> {
-    arg.action(ArgAction::Append)
-        .value_name(name)
+    one_of(arg, name, values).action(ArgAction::Append)
+}
+
+/// The argument with one of these values.
+fn one_of<'w>(arg: Arg<'w>, name: &'static str, values: &'static [&'static str]) -> Arg<'w> {
+    one(arg, name)
         .value_parser(ValueParser::Names(values))
         .hide_possible_values(true)
 }

@@ -7,7 +7,7 @@ use crate::error::WordsError;
 use krates_rules::kind::DepKind;
 use std::alloc::{AllocError, Global};
 
-const KINDS: [DepKind; 3] = [DepKind::Normal, DepKind::Build, DepKind::Dev];
+static KINDS: [DepKind; 3] = [DepKind::Normal, DepKind::Build, DepKind::Dev];
 
 /// The kinds that aren't followed.
 pub(crate) fn ignored(

@@ -1,11 +1,12 @@
 //! What is asked, from what `clap` found in the words.
 
 use crate::error::WordsError;
+use crate::found_rules::{build_words, choice};
+use crate::rules::By;
 use crate::together::check;
-use crate::values::{required, text, texts, values};
-use crate::{Asked, CargoWords, Choice, Input, Word, edges};
+use crate::values::{required, text, texts};
+use crate::{Asked, BuildSide, CargoWords, Input, Rules, Word};
 use clap::ArgMatches;
-use krates_ids::{Error, PkgSpec};
 use std::alloc::{AllocError, Global};
 
 /// What is read of one input where no limit is set: 4 GiB.
@@ -16,16 +17,17 @@ pub(crate) fn asked(alloc: Global, found: &ArgMatches<'_>) -> Result<Asked, Word
     let Some((name, found)) = found.subcommand() else {
         return Err(WordsError::wrong(alloc, "a word is missing"));
     };
-    check(alloc, found)?;
-    let choice = choice(alloc, found)?;
-    let cargo = cargo(alloc, found)?;
+    let by = By::of(found);
+    check(alloc, by, found)?;
+    let rules = rules(alloc, by, found)?;
+    let cargo = cargo(alloc, by, found)?;
     let input = input(alloc, found)?;
     let word = word(alloc, name, found)?;
     Ok(Asked {
         word,
         input,
         cargo,
-        choice,
+        rules,
         is_json: found.get_flag("json"),
         max_bytes: max_bytes(found),
     })
@@ -36,6 +38,8 @@ fn word(alloc: Global, name: &str, found: &ArgMatches<'_>) -> Result<Word, Words
     match name {
         "list" => Ok(Word::List {
             ids: found.get_flag("ids"),
+            side: side(found),
+            units: found.get_flag("units"),
         }),
         "tree" => Ok(Word::Tree {
             spec: text(alloc, found, "SPEC")?,
@@ -73,8 +77,20 @@ fn word_of_crate(alloc: Global, name: &str, found: &ArgMatches<'_>) -> Result<Wo
             steps: found.get_flag("steps"),
         }),
         "features" => Ok(Word::Features { spec }),
-        "unreachable" => Ok(Word::Unreachable { spec }),
+        "unreachable" => Ok(Word::Unreachable {
+            spec,
+            side: side(found),
+        }),
         _ => Err(WordsError::wrong(alloc, format_args!("unrecognized word '{name}'"))),
+    }
+}
+
+/// The side that is asked for. `clap` lets no other word through.
+fn side(found: &ArgMatches<'_>) -> Option<BuildSide> {
+    match found.get_str("side") {
+        Some("host") => Some(BuildSide::Host),
+        Some("target") => Some(BuildSide::Target),
+        _ => None,
     }
 }
 
@@ -92,8 +108,25 @@ pub(crate) fn max_bytes(found: &ArgMatches<'_>) -> u64 {
     found.get_one("max-bytes").unwrap_or(MAX_BYTES)
 }
 
+/// The rules, and what the words say of them.
+pub(crate) fn rules(alloc: Global, by: By, found: &ArgMatches<'_>) -> Result<Rules, WordsError> {
+    match by {
+        By::Build => Ok(Rules::Build(build_words(alloc, found)?)),
+        By::Krates => Ok(Rules::Krates(choice(alloc, found)?)),
+    }
+}
+
 /// The options that cargo is given.
-fn cargo(alloc: Global, found: &ArgMatches<'_>) -> Result<CargoWords, AllocError> {
+fn cargo(alloc: Global, by: By, found: &ArgMatches<'_>) -> Result<CargoWords, AllocError> {
+    let words = words_for_cargo(alloc, found)?;
+    match by {
+        By::Build => Ok(words.for_build()),
+        By::Krates => Ok(words),
+    }
+}
+
+/// The options that are for cargo, as they are there.
+fn words_for_cargo(alloc: Global, found: &ArgMatches<'_>) -> Result<CargoWords, AllocError> {
     Ok(CargoWords {
         manifest_path: text(alloc, found, "manifest-path")?,
         features: texts(alloc, found, "features")?,
@@ -103,47 +136,4 @@ fn cargo(alloc: Global, found: &ArgMatches<'_>) -> Result<CargoWords, AllocError
         offline: found.get_flag("offline"),
         frozen: found.get_flag("frozen"),
     })
-}
-
-/// Which part of the document counts, without targets.
-pub(crate) fn choice(alloc: Global, found: &ArgMatches<'_>) -> Result<Choice, WordsError> {
-    let ignored = edges::ignored(alloc, values(found, "edges"), values(found, "ignore-kind"))?;
-    let exclusions = exclusions(alloc, values(found, "exclude"))?;
-    let packages = texts(alloc, found, "package")?;
-    let triples = texts(alloc, found, "target")?;
-    let cfgs = texts(alloc, found, "cfg")?;
-    Ok(Choice {
-        workspace: found.get_flag("workspace"),
-        all_named: found.get_flag("all-named"),
-        ignored,
-        exclusions,
-        packages,
-        triples,
-        cfgs,
-        host: found.get_flag("host"),
-        targets: Vec::new(alloc),
-    })
-}
-
-/// The package specifications that these texts are.
-fn exclusions(alloc: Global, texts: &[&str]) -> Result<Vec<PkgSpec>, WordsError> {
-    let mut specs = Vec::new(alloc);
-    for text in texts {
-        specs.push(exclusion(alloc, text)?)?;
-    }
-    Ok(specs)
-}
-
-/// The package specification that a text is.
-fn exclusion(alloc: Global, text: &str) -> Result<PkgSpec, WordsError> {
-    match PkgSpec::from_str(alloc, text) {
-        Ok(spec) => Ok(spec),
-        Err(Error::InvalidPkgSpec(reason)) => Err(WordsError::invalid(
-            alloc,
-            text,
-            "--exclude <SPEC>",
-            reason,
-        )),
-        Err(_) => Err(WordsError::Memory),
-    }
 }

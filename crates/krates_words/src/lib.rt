@@ -1,28 +1,37 @@
 //! What the words of the command lines `cargo krates` and `krates_check` mean. Only the words are read.
 #![tactic(auto)]
 
+mod build_words;
 mod cargo;
 mod check_words;
 mod choice;
 mod command;
 mod edges;
 mod error;
+mod feature_names;
 mod found;
+mod found_rules;
 mod known;
+mod known_options;
+mod rules;
 mod setting_words;
 mod stated;
 mod together;
 mod values;
+mod words_of_build;
 
 use crate::command::command_line;
 use crate::error::shown_words;
 use crate::found::asked;
+pub use build_words::BuildWords;
 pub use cargo::CargoWords;
 pub use check_words::{CheckWords, check_words_of};
 pub use choice::Choice;
 pub use error::WordsError;
+pub use rules::Rules;
 pub use stated::StatedSetting;
 use std::alloc::{AllocError, Global};
+pub use words_of_build::{build_setting_words, resolver_name};
 
 /// What a run is asked for.
 #[derive(Debug, Drop)]
@@ -33,8 +42,8 @@ pub struct Asked {
     pub input: Input,
     /// The options that cargo is given, where the document comes from it.
     pub cargo: CargoWords,
-    /// Which part of the document counts.
-    pub choice: Choice,
+    /// By which rules, and what the words say of them: `--by`.
+    pub rules: Rules,
     /// Whether the answer is JSON: `--json`.
     pub is_json: bool,
     /// The most bytes that are read of one input, which is a file, standard input, or what a program prints: `--max-bytes`.
@@ -46,8 +55,12 @@ pub struct Asked {
 pub enum Word {
     /// The kept crates.
     List {
+        /// Only those that are built for this, if it is there: `--side`.
+        side: Option<BuildSide>,
         /// Whether they are listed by their ids: `--ids`.
         ids: bool,
+        /// Whether their units are listed below them: `--units`.
+        units: bool,
     },
     /// What the workspace, or a crate, needs.
     Tree {
@@ -97,7 +110,18 @@ pub enum Word {
     Unreachable {
         /// The package specification or id of the crate.
         spec: String,
+        /// What it would be needed for, if only that is asked: `--side`.
+        side: Option<BuildSide>,
     },
+}
+
+/// What something is built for.
+#[derive(Clone, Copy, Debug, PartialEq, Eq)]
+pub enum BuildSide {
+    /// The host, where build scripts and procedural macros run.
+    Host,
+    /// A machine that the build is for.
+    Target,
 }
 
 /// Where the document comes from.

@@ -33,7 +33,7 @@ impl Choice {
 }
 
 /// An option without a value, where it is set.
-fn flag(alloc: Global, option: &str, is_set: bool) -> Result<Vec<String>, AllocError>
+pub(crate) fn flag(alloc: Global, option: &str, is_set: bool) -> Result<Vec<String>, AllocError>
     ensures { IfOk result (λ words. texts_view words ≡ flag_words option.now is_set) }
 {
     let mut words = Vec::new(alloc);

@@ -32,7 +32,7 @@ impl Choice {
     /// The setting that is chosen, with the words that mean it. The only error is running out of memory. Time O(length of what is chosen).
     ///
     /// ```text
-    /// let stated = asked.choice.stated(alloc)?;
+    /// let stated = choice.stated(alloc)?;
     /// ```
     pub fn stated(&self, alloc: Global) -> Result<StatedSetting, AllocError>
         ensures { IfOk result (IsStatedBy self.now) }

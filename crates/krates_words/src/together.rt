@@ -5,34 +5,92 @@ ghost use Rattle.krates_words.specs.Triples.{is_triple};
 
 use crate::edges;
 use crate::error::WordsError;
+use crate::known_options::{FEATURE_OPTIONS, KnownOption, OF_BUILDS, OF_KRATES, Takes};
+use crate::rules::By;
 use crate::values::values;
 use clap::ArgMatches;
 use krates_text::path::ends_with;
 use std::alloc::Global;
 
 /// Refuses what can't go together, and what no option can mean.
-pub(crate) fn check(alloc: Global, found: &ArgMatches<'_>) -> Result<(), WordsError> {
-    check_choice(alloc, found)?;
+pub(crate) fn check(alloc: Global, by: By, found: &ArgMatches<'_>) -> Result<(), WordsError> {
+    check_known(alloc, by, found)?;
+    match by {
+        By::Build => check_build(alloc, found)?,
+        By::Krates => {
+            check_choice(alloc, found)?;
+            check_features(alloc, found)?;
+        }
+    }
     check_manifest(alloc, found.get_str("manifest-path"))?;
     check_documents(alloc, found.get_str("metadata"), found.get_str("FILE"))
 }
 
-/// The same for the options that choose a part of the document.
-pub(crate) fn check_choice(alloc: Global, found: &ArgMatches<'_>) -> Result<(), WordsError> {
+/// Refuses options that only the other rules know.
+fn check_known(alloc: Global, by: By, found: &ArgMatches<'_>) -> Result<(), WordsError> {
+    let others = match by {
+        By::Build => OF_KRATES.as_slice(),
+        By::Krates => OF_BUILDS.as_slice(),
+    };
+    for other in others {
+        if is_given(found, &other.option) {
+            return Err(WordsError::wrong(alloc, other.refusal));
+        }
+    }
+    Ok(())
+}
+
+/// Whether an option is there.
+fn is_given(found: &ArgMatches<'_>, option: &KnownOption) -> bool {
+    match option.takes {
+        Takes::Nothing => found.get_flag(option.name),
+        _ => found.contains_id(option.name),
+    }
+}
+
+/// Refuses what no option of a build can mean.
+fn check_build(alloc: Global, found: &ArgMatches<'_>) -> Result<(), WordsError> {
+    check_targets(alloc, found)?;
+    check_triples(alloc, "--host <TRIPLE>", values(found, "host"))
+}
+
+/// Refuses what can't go together among the options that choose a part of the document, and what none of them can mean.
+fn check_choice(alloc: Global, found: &ArgMatches<'_>) -> Result<(), WordsError> {
     edges::check(alloc, values(found, "edges"))?;
-    let triples = values(found, "target");
-    check_triples(alloc, triples)?;
-    check_descriptions(alloc, triples.len(), values(found, "cfg").len())?;
+    check_targets(alloc, found)?;
     check_packages(alloc, values(found, "package"))
 }
 
+/// Refuses features for cargo where it isn't run.
+fn check_features(alloc: Global, found: &ArgMatches<'_>) -> Result<(), WordsError> {
+    for option in &FEATURE_OPTIONS {
+        if found.contains_id("metadata") && is_given(found, option) {
+            return Err(WordsError::wrong(
+                alloc,
+                format_args!(
+                    "'--{}' can't stand beside '--metadata <FILE>': by krates, it is for cargo",
+                    option.name
+                ),
+            ));
+        }
+    }
+    Ok(())
+}
+
+/// Refuses triples of targets that can't be any, and more descriptions than targets.
+fn check_targets(alloc: Global, found: &ArgMatches<'_>) -> Result<(), WordsError> {
+    let triples = values(found, "target");
+    check_triples(alloc, "--target <TRIPLE>", triples)?;
+    check_descriptions(alloc, triples.len(), values(found, "cfg").len())
+}
+
 /// Refuses triples that rustc could read as something else: a file of words, which it names by `@`, or an option.
-fn check_triples(alloc: Global, triples: &[&str]) -> Result<(), WordsError> {
+fn check_triples(alloc: Global, option: &'static str, triples: &[&str]) -> Result<(), WordsError> {
     match triples.iter().find(|triple| !is_triple(triple)) {
         Some(triple) => Err(WordsError::invalid(
             alloc,
             triple,
-            "--target <TRIPLE>",
+            option,
             "it can't begin with '@' or '-'",
         )),
         None => Ok(()),

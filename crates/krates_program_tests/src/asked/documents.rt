@@ -5,7 +5,7 @@ use krates_samples::table::{Row, hold};
 use std::test::Fail;
 
 /// What one document has and another lacks.
-const DIFFERENCES: &[Row] = &[
+static DIFFERENCES: &[Row] = &[
     ("diff OTHER < a b|b // a b|b", ""),
     (
         "diff OTHER < a b|b // a c|c",
@@ -28,7 +28,7 @@ const DIFFERENCES: &[Row] = &[
 ];
 
 /// The bill of materials.
-const BILLS: &[Row] = &[
+static BILLS: &[Row] = &[
     (
         "sbom < a b&dev&crates.io|b&crates.io",
         "{\n  \"$schema\": \"http://cyclonedx.org/schema/bom-1.5.schema.json\",\n  \"bomFormat\": \"CycloneDX\",\n  \"components\": [\n    {\n      \"bom-ref\": \"path+file:///w/a#0.1.0\",\n      \"name\": \"a\",\n      \"purl\": \"pkg:cargo/a@0.1.0?download_url=file%3A%2F%2F%2Fw%2Fa\",\n      \"scope\": \"required\",\n      \"type\": \"library\",\n      \"version\": \"0.1.0\"\n    },\n    {\n      \"bom-ref\": \"registry+https://github.com/rust-lang/crates.io-index#b@0.1.0\",\n      \"name\": \"b\",\n      \"purl\": \"pkg:cargo/b@0.1.0\",\n      \"scope\": \"excluded\",\n      \"type\": \"library\",\n      \"version\": \"0.1.0\"\n    }\n  ],\n  \"dependencies\": [\n    {\n      \"dependsOn\": [\n        \"registry+https://github.com/rust-lang/crates.io-index#b@0.1.0\"\n      ],\n      \"ref\": \"path+file:///w/a#0.1.0\"\n    },\n    {\n      \"dependsOn\": [],\n      \"ref\": \"registry+https://github.com/rust-lang/crates.io-index#b@0.1.0\"\n    }\n  ],\n  \"specVersion\": \"1.5\",\n  \"version\": 1\n}\n",
@@ -45,7 +45,7 @@ const BILLS: &[Row] = &[
 ];
 
 /// The drawn graph, and what its queries answer.
-const SCRIPTS: &[Row] = &[
+static SCRIPTS: &[Row] = &[
     (
         "graph < a b;f=b/y|b;y=",
         "node 0 crate path+file:///w/a#0.1.0\nnode 1 crate path+file:///w/b#0.1.0\nnode 2 feature path+file:///w/a#0.1.0/f\nnode 3 feature path+file:///w/b#0.1.0/y\nmap 0 0 1\nedge 0 0 1 dep normal -\nedge 1 0 3 feature\nedge 2 2 0 feature\nedge 3 2 3 feature\nedge 4 3 1 feature\n",

@@ -5,7 +5,7 @@ use krates_samples::table::{Row, hold};
 use std::test::Fail;
 
 /// The kept crates, and which part of a document counts.
-const LISTS: &[Row] = &[
+static LISTS: &[Row] = &[
     ("list < a b|b", "a v0.1.0 (/w/a)\nb v0.1.0 (/w/b)\n"),
     (
         "list --ids < a b|b",
@@ -73,7 +73,7 @@ const LISTS: &[Row] = &[
 ];
 
 /// The names of several kept crates.
-const DUPLICATES: &[Row] = &[
+static DUPLICATES: &[Row] = &[
     ("duplicates < a b|b", ""),
     (
         "duplicates < a b c|b d|c d@0.2.0|d|d@0.2.0",
@@ -98,7 +98,7 @@ const DUPLICATES: &[Row] = &[
 ];
 
 /// The licences of the kept crates.
-const LICENCES: &[Row] = &[
+static LICENCES: &[Row] = &[
     (
         "licences < a b|b",
         "no licence (2)\n    a v0.1.0 (/w/a)\n    b v0.1.0 (/w/b)\n",
@@ -114,7 +114,7 @@ const LICENCES: &[Row] = &[
 ];
 
 /// What the kept crates are used for.
-const USES: &[Row] = &[
+static USES: &[Row] = &[
     (
         "uses < a b c&build d&dev|b|c b|d c",
         "shipped (2)\n    a v0.1.0 (/w/a)\n    b v0.1.0 (/w/b)\nbuild only (1)\n    c v0.1.0 (/w/c)\ndev only (1)\n    d v0.1.0 (/w/d)\n",

@@ -5,7 +5,7 @@ use krates_samples::table::{Row, hold};
 use std::test::Fail;
 
 /// Which crate a word means.
-const NAMES: &[Row] = &[
+static NAMES: &[Row] = &[
     (
         "why b@0.1.0 < a b|b",
         "b v0.1.0 (/w/b) is kept:\n  a v0.1.0 is a root\n  a v0.1.0 needs b v0.1.0\n",
@@ -111,7 +111,7 @@ const NAMES: &[Row] = &[
 ];
 
 /// Words that can't be answered.
-const WORDS: &[Row] = &[
+static WORDS: &[Row] = &[
     (
         "",
         "Which crates a workspace needs, and why\n\nUsage: cargo krates <WORD>\n\nWords:\n  list         The crates that are kept, a line for each\n  tree         What the workspace or a crate needs, as a tree\n  dependents   Which crates need a crate, all the way up\n  why          Why a crate is kept, step by step from the workspace\n  features     Which features of a crate are enabled, each with a reason\n  duplicates   Which names are kept in several versions, and who needs each\n  licences     Under which licences the crates are, and which state none [alias: licenses]\n  uses         Which crates are shipped, and which are for building or development alone\n  diff         What another document keeps that this one doesn't, and the other way round\n  sbom         A bill of materials: CycloneDX 1.5, as JSON\n  graph        The graph that is drawn, number by number, to compare it by a script\n  queries      What each query of the graph answers, to compare it by a script\n  unreachable  Whether it is certain that nothing needs a crate\n  certify      A certificate, as JSON, that someone else can check against the document\n  help         Print this message or the help of the given subcommand(s)\n\nOptions:\n  -h, --help     Print help\n  -V, --version  Print version\n\nSPEC names a package as cargo's -p does: serde, serde@1.0.152, or its id.\n`cargo krates WORD --help` lists the options of a word.\n",
@@ -176,6 +176,19 @@ const WORDS: &[Row] = &[
         "list --locked --metadata F",
         "error: the argument '--locked' cannot be used with '--metadata <FILE>'\n\nUsage: cargo krates list --locked\n\nFor more information, try '--help'.\n",
     ),
+    // what only the other rules know
+    (
+        "list --lib",
+        "error: '--lib' is known by build alone: write '--by build' too\n\nFor more information, try '--help'.\n",
+    ),
+    (
+        "list --side host",
+        "error: '--side <SIDE>' is known by build alone: write '--by build' too\n\nFor more information, try '--help'.\n",
+    ),
+    (
+        "list -F x --metadata F",
+        "error: '--features' can't stand beside '--metadata <FILE>': by krates, it is for cargo\n\nFor more information, try '--help'.\n",
+    ),
     ("--version", "cargo-krates 0.22.0\n"),
     (
         "graph --json",
@@ -184,7 +197,7 @@ const WORDS: &[Row] = &[
 ];
 
 /// The words with which cargo is run.
-const CARGO: &[Row] = &[
+static CARGO: &[Row] = &[
     ("list", "metadata --format-version 1"),
     (
         "tree -F a,b --features c",
@@ -205,6 +218,15 @@ const CARGO: &[Row] = &[
     (
         "why b --manifest-path a/Cargo.toml --locked",
         "metadata --format-version 1 --manifest-path a/Cargo.toml --locked",
+    ),
+    // by build all features are needed, and those that are named
+    (
+        "list --by build",
+        "metadata --format-version 1 --all-features",
+    ),
+    (
+        "list --by build -F x --no-default-features --locked",
+        "metadata --format-version 1 --all-features --features x --locked",
     ),
 ];
 

@@ -5,7 +5,7 @@ use krates_samples::table::{Row, hold};
 use std::test::Fail;
 
 /// Why a crate is kept.
-const WHYS: &[Row] = &[
+static WHYS: &[Row] = &[
     (
         "why a < a",
         "a v0.1.0 (/w/a) is kept:\n  a v0.1.0 is a root\n",
@@ -49,7 +49,7 @@ const WHYS: &[Row] = &[
 ];
 
 /// Which features of a crate are enabled.
-const FEATURES: &[Row] = &[
+static FEATURES: &[Row] = &[
     (
         "features a < a;f=g g=",
         "a v0.1.0 (/w/a)\n  f: a v0.1.0 is a root, for which cargo lists it\n  g: a v0.1.0 is a root, for which cargo lists it\n",
@@ -82,7 +82,7 @@ const FEATURES: &[Row] = &[
 ];
 
 /// Whether it is certain that nothing leads to a package.
-const UNREACHABLE: &[Row] = &[
+static UNREACHABLE: &[Row] = &[
     (
         "unreachable c < a b|b|c",
         "c v0.1.0 (/w/c) can't be reached: it isn't among the facts (3), and these are closed under the rules\n",

@@ -1,7 +1,7 @@
 //! What `cargo krates` prints of texts that someone else wrote: names, ids, paths, licences, features and targets with characters in them that
 //! end a line, move the cursor or turn the direction, in each answer and each error.
 
-use crate::asked::{replaced, told_of};
+use crate::asked::{choice_of, replaced, told_of};
 use crate::listing::words_of;
 use krates::Metadata;
 use krates::cm::MetadataCommand;
@@ -13,20 +13,20 @@ use std::alloc::Global;
 use std::test::Fail;
 
 /// Such a text, for which a `¤` stands in lines: an escape, the ends of lines, a tab, DEL, a C1 character, one that turns the direction, and quotes.
-const HOSTILE: &str = "x\u{1b}[2K\r\n\t\u{7f}\u{9b}31m\u{202e}\"'";
+static HOSTILE: &str = "x\u{1b}[2K\r\n\t\u{7f}\u{9b}31m\u{202e}\"'";
 
 /// How it stands in the JSON of a document, and in that of a bill of materials.
 const ESCAPED: &str = r#"x\u001b[2K\r\n\t\u007f\u009b31m\u202e\"'"#;
 
 /// How it stands in other JSON that is printed.
-const IN_JSON: &str = "x\\u001b[2K\\r\\n\\t\u{7f}\u{9b}31m\u{202e}\\\"'";
+static IN_JSON: &str = "x\\u001b[2K\\r\\n\\t\u{7f}\u{9b}31m\u{202e}\\\"'";
 
 /// How it is shown.
-const SHOWN: &str = "x\\u{1b}[2K\\u{d}\\u{a}\\u{9}\\u{7f}\\u{9b}31m\\u{202e}\"'";
+static SHOWN: &str = "x\\u{1b}[2K\\u{d}\\u{a}\\u{9}\\u{7f}\\u{9b}31m\\u{202e}\"'";
 
 /// What a document of the samples has, and what stands there instead: the text also in the licence of each package, in the directory of the
 /// workspace, and in the source of a package that isn't from there.
-const PLACES: &[Row] = &[
+static PLACES: &[Row] = &[
     ("\"targets\":[]", "\"license\":\"¤\",\"targets\":[]"),
     ("\"workspace_root\":\"/w\"", "\"workspace_root\":\"/w/¤\""),
     (
@@ -54,11 +54,12 @@ fn hostile_words(alloc: Global, line: &str) -> Result<Vec<String>, Fail> {
 /// What is printed of documents.
 fn printed_of(alloc: Global, asked: &Asked, documents: &str) -> Result<String, Fail> {
     let (first, second) = documents.split_once(" // ").unwrap_or((documents, "a"));
+    let choice = choice_of(asked)?;
     let other = hostile_document(alloc, second)?;
     let document = hostile_document(alloc, first)?;
     told_of(
         alloc,
-        Reporter::new(alloc, asked).answer(document, Some(other)),
+        Reporter::new(alloc, asked, choice).answer(document, Some(other)),
     )
 }
 
@@ -84,7 +85,7 @@ impl Question for AsPrinted {
 }
 
 /// The lines of each word.
-const LINES: &[Row] = &[
+static LINES: &[Row] = &[
     ("list < a b¤|b¤", "a v0.1.0 (/w/a)\nb¤ v0.1.0 (/w/b¤)\n"),
     (
         "list --ids < a b¤|b¤",
@@ -150,7 +151,7 @@ const LINES: &[Row] = &[
 ];
 
 /// JSON keeps the texts as they are.
-const JSON: &[Row] = &[
+static JSON: &[Row] = &[
     (
         "list --json < a¤ / members a¤",
         "[\n  {\n    \"id\": \"path+file:///w/a¤json#0.1.0\",\n    \"name\": \"a¤json\",\n    \"source\": null,\n    \"version\": \"0.1.0\"\n  }\n]\n",
@@ -170,7 +171,7 @@ const JSON: &[Row] = &[
 ];
 
 /// Errors that quote a word, an id or a name.
-const ERRORS: &[Row] = &[
+static ERRORS: &[Row] = &[
     (
         "why ¤ < a",
         "refused: `¤` names no package: found an invalid character for the package name\nwrite NAME, NAME@VERSION, or an id as cargo prints it",

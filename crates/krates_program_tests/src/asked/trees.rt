@@ -5,7 +5,7 @@ use krates_samples::table::{Row, hold};
 use std::test::Fail;
 
 /// What a crate or the members need.
-const TREES: &[Row] = &[
+static TREES: &[Row] = &[
     ("tree < a", "a v0.1.0 (/w/a)\n"),
     (
         "tree < a b c|b c|c",
@@ -52,7 +52,7 @@ const TREES: &[Row] = &[
 ];
 
 /// Who needs a crate.
-const DEPENDENTS: &[Row] = &[
+static DEPENDENTS: &[Row] = &[
     (
         "dependents c < a b c|b c|c",
         "c v0.1.0 (/w/c)\n├── a v0.1.0 (/w/a)\n└── b v0.1.0 (/w/b)\n    └── a v0.1.0 (/w/a)\n",

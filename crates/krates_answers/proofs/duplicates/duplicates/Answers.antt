@@ -4,7 +4,7 @@ use Rattle.std.proofs.lemmas.Simd.{map-map}
 use Rattle.std.specs.Global.{Vec}
 use Rattle.krates_cm.specs.Document.{Text}
 use Rattle.krates_cm.specs.declared.package.Package.{Package}
-use Rattle.krates_queries.specs.KrateNodes.{crates_of, match_view}
+use Rattle.krates_queries.specs.KrateNodes.{match_view}
 use Rattle.krates_queries.specs.declared.queries.krate_nodes.KrateMatch.{KrateMatch}
 use Rattle.krates_answers.specs.Duplicates.{AreDuplicates, duplicate_view}
 use Rattle.krates_answers.specs.Grouped.{group_view, groups_in, seen_group}
@@ -24,7 +24,7 @@ returns c =
     let l = c.loop-name in
     let by_name = c.in_ok-by_name.by_name in
     let entries = by_name.entries in
-    let crates = crates_of c.args.krates.now in
+    let crates = map match_view c.args.crates.now in
     let itself : map (λ (e : Bor Text × Vec (KrateMatch Package)). e) l.yielded ≡ entries =
     (iter_end (λ (e : Bor Text × Vec (KrateMatch Package)). e) entries l.yielded c.into_iter-name-iterator.result l.name-iterator c.next.new.self c.next.result
     c.into_iter-name-iterator.ensures.into_iter_gives.0 l.yielded_by c.in-None.is c.next.ensures.steps).0 in

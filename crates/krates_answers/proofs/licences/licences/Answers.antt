@@ -5,7 +5,7 @@ use Rattle.std.proofs.lemmas.Simd.{map-map}
 use Rattle.std.specs.Global.{Vec}
 use Rattle.krates_cm.specs.Document.{Text}
 use Rattle.krates_cm.specs.declared.package.Package.{Package}
-use Rattle.krates_queries.specs.KrateNodes.{Match, crates_of, match_view}
+use Rattle.krates_queries.specs.KrateNodes.{Match, match_view}
 use Rattle.krates_queries.specs.declared.queries.krate_nodes.KrateMatch.{KrateMatch}
 use Rattle.krates_answers.specs.Grouped.{AreGroups, Group, group_view, groups_in, seen_group}
 use Rattle.krates_answers.specs.Labelled.{with_label}
@@ -31,4 +31,4 @@ returns c =
     let all : l.yielded ≡ entries = sym (map-id l.yielded) ∙ itself in
     let licences : map (seen_group match_view) (groups_in by_licence) ≡ map licence_view l.licences.items =
     map-map (seen_group match_view) group_view entries ∙ ap (map named_entry) (sym all) ∙ sym l.invariant in
-    subst (AreGroups (map (with_label stated_licence) (crates_of c.args.krates.now))) licences c.in_ok-by_licence.ensures
+    subst (AreGroups (map (with_label stated_licence) (map match_view c.args.crates.now))) licences c.in_ok-by_licence.ensures

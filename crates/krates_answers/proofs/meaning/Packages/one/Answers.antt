@@ -2,9 +2,9 @@ use Rattle.std.proofs.Common.{Bor, List, ap, arith, length, map, ◌∙◌, subs
 use Rattle.std.proofs.lemmas.List.{length-map}
 use Rattle.std.proofs.lemmas.Result.{err_from_is_err_and}
 use Rattle.krates_cm.specs.declared.package.Package.{Package}
-use Rattle.krates_queries.specs.KrateNodes.{crates_of, match_view}
+use Rattle.krates_queries.specs.KrateNodes.{match_view}
 use Rattle.krates_queries.specs.declared.queries.krate_nodes.KrateMatch.{KrateMatch}
-use Rattle.krates_answers.specs.Meaning.{AreParted, Means, MeansKept}
+use Rattle.krates_answers.specs.Meaning.{AreParted, Means, MeansKept, kept_in}
 use Rattle.krates_answers.specs.Naming.{TellsNotKept, TellsSeveral}
 use Rattle.krates_answers.proofs.MeantLemmas.{empty, one_of}
 use Rattle.krates_answers.proofs.NamingLemmas.{none_only_memory_kept, not_kept_told, only_memory_kept, several_kept_told}
@@ -33,7 +33,7 @@ pub returns-in-Some-clause-one : goal.returns-in-Some-clause-one
 returns-in-Some-clause-one c =
     let p = c.args.self.now in
     let found = c.in_ok-found.found in
-    one_of match_view (MeansKept p c.args.word.now) (crates_of p.krates.now) found.kept.items c.pop.new.self.items c.in-Some.krate c.in_ok-found.ensures.meant.kept_ones c.in-Some.ensures.items
+    one_of match_view (MeansKept p c.args.word.now) (kept_in p) found.kept.items c.pop.new.self.items c.in-Some.krate c.in_ok-found.ensures.meant.kept_ones c.in-Some.ensures.items
     (omega (arith, c.if-len-gt1.false, c.len.ensures, found.kept.ok.0))
 
 pub returns-clause-refused : goal.returns-clause-refused

@@ -1,9 +1,9 @@
-use Rattle.std.proofs.Common.{◌<◌, Bor, List, ap, arith, length, map, subst, sym, true≢false, ◌∙◌}
+use Rattle.std.proofs.Common.{◌<◌, Bor, List, ap, arith, length, map, refl, subst, sym, true≢false, ◌∙◌}
 use Rattle.std.proofs.lemmas.List.{take_all}
 use Rattle.krates_cm.specs.declared.package.Package.{Package}
 use Rattle.krates_answers.specs.Meaning.{IsMeantBy, other}
 use Rattle.krates_answers.specs.Those.{AreThose}
-use Rattle.krates_answers.proofs.TakenLemmas.{taken_leaves, taken_takes}
+use Rattle.krates_answers.proofs.TakenLemmas.{seen_leaves, seen_takes}
 use Rattle.krates_answers.proofs.WalkedLists.{those_none}
 use Rattle.krates_answers.proofs.meaning.Packages.others_by.Goals.{else-branch, then-branch+in_ok-push}
 use Rattle.krates_answers.proofs.meaning.Packages.others_by.Goals as goal
@@ -17,9 +17,9 @@ loop-pkg-preserved c =
     let items = c.args.self.now.others.now in
     let lt : l.pkg-index < length items = omega (arith, c.loop-pkg-test.true) in
     elim c.if-branch.branch [
-      | then-branch+in_ok-push w ↦ taken_takes (λ (pkg : Bor Package). pkg.now) items l.pkg-index _ l.meant.items c.if-branch.meant.items lt c.pkg-item.is l.invariant
-          (c.in_ok-means_other.ensures.0 w.if-branch.true) (ap (λ v. v.items) w.meant-is ∙ w.in_ok-push.ensures.items)
-      | else-branch w ↦ rw w.meant-is (taken_leaves items l.pkg-index c.pkg-item.result (map (λ (pkg : Bor Package). pkg.now) l.meant.items) lt c.pkg-item.is l.invariant
+      | then-branch+in_ok-push w ↦ seen_takes (λ (pkg : Bor Package). pkg.now) (λ (pkg : Bor Package). pkg.now) items l.pkg-index c.pkg-item.result c.pkg-item.result l.meant.items c.if-branch.meant.items lt c.pkg-item.is l.invariant
+          (c.in_ok-means_other.ensures.0 w.if-branch.true) refl (ap (λ v. v.items) w.meant-is ∙ w.in_ok-push.ensures.items)
+      | else-branch w ↦ rw w.meant-is (seen_leaves (λ (pkg : Bor Package). pkg.now) items l.pkg-index c.pkg-item.result (map (λ (pkg : Bor Package). pkg.now) l.meant.items) lt c.pkg-item.is l.invariant
           (λ is. true≢false (sym (c.in_ok-means_other.ensures.1 is) ∙ w.if-branch.false)))
     ]
 
@@ -27,5 +27,5 @@ pub returns : goal.returns
 returns c =
     let l = c.loop-pkg in
     let items = c.args.self.now.others.now in
-    subst (λ (all : List Package). AreThose (λ pkg. IsMeantBy c.args.reading.now (other pkg)) all (map (λ (pkg : Bor Package). pkg.now) l.meant.items))
+    subst (λ (all : List (Bor Package)). AreThose (λ pkg. IsMeantBy c.args.reading.now (other pkg)) (map (λ (pkg : Bor Package). pkg.now) all) (map (λ (pkg : Bor Package). pkg.now) l.meant.items))
     (take_all l.pkg-index items c.loop-pkg-test.false) l.invariant

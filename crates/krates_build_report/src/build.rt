@@ -1,0 +1,245 @@
+//! What cargo builds of a document, as crates that are numbered from 0 on, for the answers that are about lists of crates.
+
+use krates::{Kid, KrateMatch, NodeId, Package};
+use krates_answers::difference::DependencyEdge;
+use krates_answers::direct_links::DirectLinks;
+use krates_answers::meaning::{Meant, Packages};
+use krates_answers::naming::NamingError;
+use krates_build_answers::{BuiltCrates, build_links};
+use krates_build_tables::Tables;
+use krates_built::Units;
+use krates_questions::Document;
+use krates_units::Side;
+use krates_words::BuildSide;
+use std::alloc::{AllocError, Global};
+
+/// What cargo builds of a document. The crates that it builds are at positions from 0 on, in the order of their ids; what is built
+/// both for the host and for another machine has one position.
+#[derive(Drop)]
+pub struct Build<'d, 'a> {
+    /// The document.
+    pub document: &'d Document<'a>,
+    /// What is built.
+    pub units: &'d Units<'a>,
+    /// The crates that are built, each with what for.
+    pub built: BuiltCrates,
+    /// The number of the crate at each position, ascending.
+    pub numbers: Vec<usize>,
+}
+
+impl<'d, 'a> Build<'d, 'a> {
+    /// What these units are of. The only error is running out of memory. Time O(n log n) for n units.
+    pub fn of(
+        alloc: Global,
+        document: &'d Document<'a>,
+        units: &'d Units<'a>,
+    ) -> Result<Build<'d, 'a>, AllocError> {
+        let built = BuiltCrates::of(alloc, units)?;
+        let numbers = built.krates(alloc)?;
+        Ok(Build {
+            document,
+            units,
+            built,
+            numbers,
+        })
+    }
+
+    /// The tables by which it is numbered.
+    pub(crate) fn tables(&self) -> &'d Tables<'a> {
+        self.units.tables()
+    }
+
+    /// The id of the crate with that number.
+    pub(crate) fn id(&self, number: usize) -> Option<&'d Kid> {
+        self.document.crate_ids().get(number)
+    }
+
+    /// The package of the crate with that number.
+    pub(crate) fn package(&self, number: usize) -> Option<&'d Package> {
+        self.document.package_of(self.id(number)?)
+    }
+
+    /// Whether the crate with that number is built, for this side where there is one.
+    pub(crate) fn is_for(&self, number: usize, side: Option<BuildSide>) -> bool {
+        match side {
+            None => self.built.is_built(number),
+            Some(BuildSide::Host) => self.built.is_for_host(number),
+            Some(BuildSide::Target) => self.built.is_for_targets(number),
+        }
+    }
+
+    /// How many crates are built. As numbers of nodes do, positions end at 4,294,967,295.
+    pub(crate) fn count(&self) -> u32 {
+        u32::try_from(self.numbers.len()).unwrap_or(u32::MAX)
+    }
+
+    /// The position of the crate with that number, if it is built.
+    pub(crate) fn position(&self, number: usize) -> Option<NodeId> {
+        match self.numbers.binary_search(&number) {
+            Ok(position) => Some(NodeId::new(u32::try_from(position).ok()?)),
+            Err(_) => None,
+        }
+    }
+
+    /// The crates that are built, each at its position. The only error is running out of memory. Time O(n log n) for n crates.
+    pub fn crates(&self, alloc: Global) -> Result<Vec<KrateMatch<'d, Package>>, AllocError> {
+        let mut crates = Vec::new(alloc);
+        for number in &self.numbers {
+            if let Some(found) = self.found(*number) {
+                push(&mut crates, found)?;
+            }
+        }
+        Ok(crates)
+    }
+
+    /// The crate with that number, at its position.
+    pub(crate) fn found(&self, number: usize) -> Option<KrateMatch<'d, Package>> {
+        let node_id = self.position(number)?;
+        let kid = self.id(number)?;
+        let krate = self.package(number)?;
+        Some(KrateMatch {
+            krate,
+            kid,
+            node_id,
+        })
+    }
+
+    /// The crate at this position.
+    fn at(&self, position: NodeId) -> Option<KrateMatch<'d, Package>> {
+        match self.numbers.get(position.index()) {
+            Some(number) => self.found(*number),
+            None => None,
+        }
+    }
+
+    /// What the crate at one position needs of the one at another.
+    pub(crate) fn edge(&self, parent: NodeId, child: NodeId) -> Option<DependencyEdge<'d>> {
+        match (self.at(parent), self.at(child)) {
+            (Some(parent), Some(child)) => Some(DependencyEdge { parent, child }),
+            _ => None,
+        }
+    }
+
+    /// The position of the crate with that id, if it is built.
+    pub(crate) fn position_of(&self, kid: &Kid) -> Option<NodeId> {
+        match self.document.crate_number(kid) {
+            Some(number) => self.position(number),
+            None => None,
+        }
+    }
+
+    /// Whether the crate with that id is built, and its feature isn't enabled on this side.
+    pub(crate) fn lacks_feature(&self, kid: &Kid, side: Side, name: &str) -> bool {
+        let Some(number) = self.document.crate_number(kid) else {
+            return false;
+        };
+        let is_enabled = self.units.features().iter().any(|other| other.krate == number
+            && other.side == side
+            && other.name == name);
+        self.position(number).is_some() && !is_enabled
+    }
+
+    /// The packages that aren't built, in the order of their ids.
+    fn others(&self, alloc: Global) -> Result<Vec<&'d Package>, AllocError> {
+        let mut others = Vec::new(alloc);
+        for number in 0..self.document.crate_ids().len() {
+            if self.position(number).is_none() {
+                if let Some(package) = self.package(number) {
+                    others.push(package)?;
+                }
+            }
+        }
+        Ok(others)
+    }
+
+    /// The number of the one built crate that a word means, as `Packages::one` reads it.
+    pub(crate) fn one(&self, alloc: Global, word: &str) -> Result<usize, NamingError> {
+        let kept = self.crates(alloc)?;
+        let others = self.others(alloc)?;
+        let packages = Packages {
+            kept: &kept,
+            others: &others,
+        };
+        let found = packages.one(alloc, word)?;
+        Ok(self.number_of(found.kid))
+    }
+
+    /// The one package that a word means, built or not, as `Packages::any` reads it.
+    pub(crate) fn any(&self, alloc: Global, word: &str) -> Result<&'d Package, NamingError> {
+        let kept = self.crates(alloc)?;
+        let others = self.others(alloc)?;
+        let packages = Packages {
+            kept: &kept,
+            others: &others,
+        };
+        match packages.any(alloc, word)? {
+            Meant::Kept(found) => Ok(found.krate),
+            Meant::Other(package) => Ok(package),
+        }
+    }
+
+    /// The number of the crate with that id.
+    fn number_of(&self, kid: &Kid) -> usize {
+        self.document.crate_number(kid).unwrap_or(0)
+    }
+
+    /// Which position leads to which, by what the crates that are built need.
+    pub(crate) fn dependencies(&self, alloc: Global) -> Result<DirectLinks, AllocError> {
+        let mut pairs = Vec::new(alloc);
+        for link in build_links(alloc, self.units)? {
+            if let Some(pair) = self.pair(link.from.krate, link.to.krate) {
+                pairs.push(pair)?;
+            }
+        }
+        DirectLinks::of_pairs(alloc, self.count(), &pairs)
+    }
+
+    /// Which position is needed by which.
+    pub(crate) fn dependents(&self, alloc: Global) -> Result<DirectLinks, AllocError> {
+        let mut pairs = Vec::new(alloc);
+        for link in build_links(alloc, self.units)? {
+            if let Some(pair) = self.pair(link.to.krate, link.from.krate) {
+                pairs.push(pair)?;
+            }
+        }
+        DirectLinks::of_pairs(alloc, self.count(), &pairs)
+    }
+
+    /// The positions of the crates with these numbers, if both are built.
+    fn pair(&self, from: usize, to: usize) -> Option<(usize, usize)> {
+        let from = self.position(from)?;
+        let to = self.position(to)?;
+        Some((from.index(), to.index()))
+    }
+
+    /// The positions of the packages that are asked for.
+    pub(crate) fn asked(&self, alloc: Global) -> Result<Vec<NodeId>, AllocError> {
+        let mut asked = Vec::new(alloc);
+        for entry in &self.tables().crates {
+            if entry.is_selected {
+                if let Some(position) = self.position(entry.number) {
+                    asked.push(position)?;
+                }
+            }
+        }
+        Ok(asked)
+    }
+
+    /// The number of the crate of a package.
+    pub(crate) fn number_of_package(&self, package: &Package) -> Option<usize> {
+        for number in 0..self.document.crate_ids().len() {
+            if let Some(other) = self.package(number) {
+                if other.id == package.id {
+                    return Some(number);
+                }
+            }
+        }
+        None
+    }
+}
+
+/// Adds an item that borrows.
+pub(crate) fn push<T: Drop>(list: &mut Vec<T>, item: T) -> Result<(), AllocError> {
+    list.push(item)?;
+    Ok(())
+}

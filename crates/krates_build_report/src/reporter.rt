@@ -1,0 +1,397 @@
+//! What is asked about a build, answered.
+
+ghost use Rattle.krates_cm.specs.Document.{metadata_view};
+ghost use Rattle.krates_document.specs.Ids.{ids_view};
+ghost use Rattle.krates_rules.specs.Admission.{IsAdmitted};
+
+use crate::bill::bill_of;
+use crate::build::Build;
+use crate::certificate::{Certified, certificate_of};
+use crate::difference::BuildDifference;
+use crate::error::BuildReportError;
+use crate::features::BuiltFeatures;
+use crate::list::BuiltList;
+use crate::stated::{of_build, of_two_builds};
+use crate::unbuilt::Unbuilt;
+use crate::uses::UsedCrates;
+use crate::why::{WhyBuilt, built_fact, words_of_steps};
+use krates::{Metadata, NodeId, Package};
+use krates_answers::licences::licences;
+use krates_build_answers::build_uses;
+use krates_build_checkers::check_built_closed;
+use krates_built::{Units, units_of};
+use krates_cm_json::ToValue;
+use krates_questions::{Document, Ids, admit};
+use krates_report::Report;
+use krates_report::answer::{Answer, printed};
+use krates_report::duplicates::Duplicates;
+use krates_report::tree::Tree;
+use krates_units::BuildSetting;
+use krates_words::{Asked, BuildSide, Word};
+use serde_json::Value;
+use std::alloc::{AllocError, Global};
+
+/// Answers what is asked about a build, over the document that it is given.
+#[derive(Clone, Copy)]
+pub struct BuildReporter<'a> {
+    alloc: Global,
+    asked: &'a Asked,
+    setting: &'a BuildSetting,
+    /// Of the second build, where there are two.
+    second: &'a BuildSetting,
+    /// What `rustc --print cfg` prints of the machine that builds, and of each that the build is for.
+    cfgs: &'a [String],
+}
+
+impl<'a> BuildReporter<'a> {
+    /// A reporter for this question about this build. The second setting is the same with all targets for the words `uses` and `sbom`, which
+    /// tell what only tests need, and that of the other document for `diff`; no other word looks at it. The texts are what `rustc --print cfg`
+    /// prints of the machine that builds, and then of each that the build is for; only `certify` looks at them. Time O(1).
+    pub fn new(
+        alloc: Global,
+        asked: &'a Asked,
+        setting: &'a BuildSetting,
+        second: &'a BuildSetting,
+        cfgs: &'a [String],
+    ) -> BuildReporter<'a> {
+        BuildReporter {
+            alloc,
+            asked,
+            setting,
+            second,
+            cfgs,
+        }
+    }
+
+    /// What is printed of two documents that are compared. It is refused as `answer` is; it may instead return `Memory`. Time: that of both
+    /// `units_of`, and O(n e) for n crates and e links or features of both.
+    pub fn difference<'m>(
+        &self,
+        first: &'m Metadata,
+        second: &'m Metadata,
+    ) -> Result<Report, BuildReportError> {
+        let ids = (admit(self.alloc, first)?, admit(self.alloc, second)?);
+        let documents = self.documents((first, second), &ids)?;
+        self.difference_of(&documents)
+    }
+
+    /// Both documents, whose ids are read.
+    fn documents<'m>(
+        &self,
+        metadata: (&'m Metadata, &'m Metadata),
+        ids: &'m (Ids, Ids),
+    ) -> Result<(Document<'m>, Document<'m>), AllocError>
+        requires first { IsAdmitted (metadata_view metadata.0.now) (ids_view ids.now.0) }
+        requires second { IsAdmitted (metadata_view metadata.1.now) (ids_view ids.now.1) }
+    {
+        let first = Document::new(self.alloc, metadata.0, &ids.0)?;
+        let second = Document::new(self.alloc, metadata.1, &ids.1)?;
+        Ok((first, second))
+    }
+
+    /// What differs between the builds of two documents.
+    fn difference_of<'d>(
+        &self,
+        documents: &(Document<'d>, Document<'d>),
+    ) -> Result<Report, BuildReportError>
+    where
+        'a: 'd,
+    {
+        let first = self.units(&documents.0, self.setting)?;
+        let second = self.units(&documents.1, self.second)?;
+        self.difference_in(documents, &(first, second))
+    }
+
+    /// The same where these are built.
+    fn difference_in<'b, 'd>(
+        &self,
+        documents: &'b (Document<'d>, Document<'d>),
+        units: &'b (Units<'d>, Units<'d>),
+    ) -> Result<Report, BuildReportError> {
+        let first = Build::of(self.alloc, &documents.0, &units.0)?;
+        let second = Build::of(self.alloc, &documents.1, &units.1)?;
+        self.difference_between(&first, &second)
+    }
+
+    /// What differs between two builds.
+    fn difference_between<'b, 'd>(
+        &self,
+        first: &Build<'b, 'd>,
+        second: &Build<'b, 'd>,
+    ) -> Result<Report, BuildReportError> {
+        let answer = BuildDifference::between(self.alloc, first, second)?;
+        Ok(yes(self.text(&answer)?))
+    }
+
+    /// What is printed of a document. It is refused as `Document` where that can't be admitted, as `NotBuilt` or `Lost` where it isn't said what
+    /// cargo builds, as `Naming` where a word doesn't mean one package that is built, as `Check` where the checker doesn't accept the facts of
+    /// the build, as `NoAnswer` where the word isn't answered by build, as `Unnamed` where a certificate has no words for a fact; it may instead
+    /// return `Memory`. Time: that of `units_of`, and of the answer.
+    pub fn answer(&self, metadata: &Metadata) -> Result<Report, BuildReportError> {
+        let ids = admit(self.alloc, metadata)?;
+        let document = Document::new(self.alloc, metadata, &ids)?;
+        self.about(&document)
+    }
+
+    /// The same where the document is admitted.
+    fn about<'d>(&self, document: &Document<'d>) -> Result<Report, BuildReportError>
+    where
+        'a: 'd,
+    {
+        let units = self.units(document, self.setting)?;
+        self.about_units(document, &units)
+    }
+
+    /// The same where it is built.
+    fn about_units<'d>(
+        &self,
+        document: &Document<'d>,
+        units: &Units<'d>,
+    ) -> Result<Report, BuildReportError>
+    where
+        'a: 'd,
+    {
+        let build = Build::of(self.alloc, document, units)?;
+        match &self.asked.word {
+            Word::Uses | Word::Sbom => self.beside_all(&build),
+            _ => self.in_build(&build),
+        }
+    }
+
+    /// The answer to a word about this build of a document and the same with all targets.
+    fn beside_all<'d>(&self, build: &Build<'_, 'd>) -> Result<Report, BuildReportError>
+    where
+        'a: 'd,
+    {
+        let units = self.units(build.document, self.second)?;
+        let all = Build::of(self.alloc, build.document, &units)?;
+        self.with_all(build, &all)
+    }
+
+    /// What a build of the document builds.
+    fn units<'d>(
+        &self,
+        document: &Document<'d>,
+        setting: &'d BuildSetting,
+    ) -> Result<Units<'d>, BuildReportError>
+    where
+        'a: 'd,
+    {
+        match units_of(self.alloc, document, setting) {
+            Ok(units) => Ok(units),
+            Err(refusal) => Err(BuildReportError::of_build(self.alloc, &refusal)?),
+        }
+    }
+
+    /// What is printed of an answer.
+    fn text<T: Answer>(&self, answer: &T) -> Result<String, AllocError> {
+        if !self.asked.is_json {
+            return printed(self.alloc, answer, false);
+        }
+        let whole = self.stated(answer.json(self.alloc))?;
+        let mut text = whole.to_string_pretty(self.alloc)?;
+        text.push_str("\n")?;
+        Ok(text)
+    }
+
+    /// What JSON says of an answer.
+    fn stated(&self, answer: Result<Value, AllocError>) -> Result<Value, AllocError> {
+        match &self.asked.word {
+            Word::Diff { .. } => of_two_builds(self.alloc, (self.setting, self.second), answer),
+            _ => of_build(self.alloc, self.setting, answer),
+        }
+    }
+
+    /// The answer to a word about one build.
+    fn in_build(&self, build: &Build<'_, '_>) -> Result<Report, BuildReportError> {
+        match &self.asked.word {
+            Word::List { side, ids, units } => self.list(build, *side, *ids, *units),
+            Word::Duplicates => self.duplicates(build),
+            Word::Licences => self.licences(build),
+            Word::Tree { spec } => self.tree_below(build, spec.as_ref()),
+            Word::Dependents { spec } => self.tree_above(build, spec.as_str()),
+            Word::Why { spec, steps } => self.why(build, spec.as_str(), *steps),
+            Word::Features { spec } => self.features(build, spec.as_str()),
+            Word::Unreachable { spec, side } => self.unbuilt(build, spec.as_str(), *side),
+            Word::Certify { spec } => self.certificate(build, spec.as_ref()),
+            _ => Err(BuildReportError::NoAnswer),
+        }
+    }
+
+    /// The crates that are built.
+    fn list(
+        &self,
+        build: &Build<'_, '_>,
+        side: Option<BuildSide>,
+        has_ids: bool,
+        has_units: bool,
+    ) -> Result<Report, BuildReportError> {
+        let crates = build.crates(self.alloc)?;
+        let answer = BuiltList {
+            build,
+            crates,
+            side,
+            has_ids,
+            has_units,
+        };
+        Ok(yes(self.text(&answer)?))
+    }
+
+    /// The names that several of them have.
+    fn duplicates(&self, build: &Build<'_, '_>) -> Result<Report, BuildReportError> {
+        let crates = build.crates(self.alloc)?;
+        let dependents = build.dependents(self.alloc)?;
+        let answer = Duplicates::of(self.alloc, crates, dependents)?;
+        Ok(yes(self.text(&answer)?))
+    }
+
+    /// Their licences.
+    fn licences(&self, build: &Build<'_, '_>) -> Result<Report, BuildReportError> {
+        let crates = build.crates(self.alloc)?;
+        let answer = licences(self.alloc, &crates)?;
+        Ok(yes(self.text(&answer)?))
+    }
+
+    /// The tree of what a crate needs, or the packages that are asked for where none is named.
+    fn tree_below(
+        &self,
+        build: &Build<'_, '_>,
+        spec: Option<&String>,
+    ) -> Result<Report, BuildReportError> {
+        let roots = match spec {
+            Some(spec) => self.root(build, spec.as_str())?,
+            None => build.asked(self.alloc)?,
+        };
+        let crates = build.crates(self.alloc)?;
+        let links = build.dependencies(self.alloc);
+        let answer = Tree::of(self.alloc, crates, links, &roots)?;
+        Ok(yes(self.text(&answer)?))
+    }
+
+    /// The tree of those that need a crate.
+    fn tree_above(&self, build: &Build<'_, '_>, spec: &str) -> Result<Report, BuildReportError> {
+        let roots = self.root(build, spec)?;
+        let crates = build.crates(self.alloc)?;
+        let links = build.dependents(self.alloc);
+        let answer = Tree::of(self.alloc, crates, links, &roots)?;
+        Ok(yes(self.text(&answer)?))
+    }
+
+    /// The position of the crate that a word means, as a list.
+    fn root(&self, build: &Build<'_, '_>, spec: &str) -> Result<Vec<NodeId>, BuildReportError> {
+        let number = build.one(self.alloc, spec)?;
+        let mut roots = Vec::new(self.alloc);
+        if let Some(position) = build.position(number) {
+            roots.push(position)?;
+        }
+        Ok(roots)
+    }
+
+    /// Why a crate is built.
+    fn why(
+        &self,
+        build: &Build<'_, '_>,
+        spec: &str,
+        has_steps: bool,
+    ) -> Result<Report, BuildReportError> {
+        let number = build.one(self.alloc, spec)?;
+        let (Some(package), Some(fact)) = (build.package(number), built_fact(build, number)) else {
+            return Err(BuildReportError::NoAnswer);
+        };
+        let Some(steps) = build.units.derived().why(self.alloc, &fact)? else {
+            return Err(BuildReportError::NoAnswer);
+        };
+        let words = words_of_steps(self.alloc, build, &steps)?;
+        let answer = WhyBuilt {
+            build,
+            package,
+            steps,
+            words,
+            has_steps,
+        };
+        Ok(yes(self.text(&answer)?))
+    }
+
+    /// The features of a crate.
+    fn features(&self, build: &Build<'_, '_>, spec: &str) -> Result<Report, BuildReportError> {
+        let number = build.one(self.alloc, spec)?;
+        let Some(package) = build.package(number) else {
+            return Err(BuildReportError::NoAnswer);
+        };
+        let answer = BuiltFeatures::of(self.alloc, build, number, package)?;
+        Ok(yes(self.text(&answer)?))
+    }
+
+    /// Whether it is certain that a package isn't built.
+    fn unbuilt(
+        &self,
+        build: &Build<'_, '_>,
+        spec: &str,
+        side: Option<BuildSide>,
+    ) -> Result<Report, BuildReportError> {
+        let package = build.any(self.alloc, spec)?;
+        let facts = build.units.derived().facts(self.alloc)?;
+        check_built_closed(self.alloc, build.tables(), &facts)?;
+        let is_certain = !is_built(build, package, side);
+        let facts = facts.len();
+        let answer = Unbuilt {
+            package,
+            side,
+            is_certain,
+            facts,
+        };
+        Ok(Report {
+            text: self.text(&answer)?,
+            is_yes: is_certain,
+        })
+    }
+
+    /// A certificate, as JSON.
+    fn certificate(
+        &self,
+        build: &Build<'_, '_>,
+        spec: Option<&String>,
+    ) -> Result<Report, BuildReportError> {
+        let certified = Certified {
+            setting: self.setting,
+            cfgs: self.cfgs,
+        };
+        let certificate = certificate_of(self.alloc, build, certified, spec)?;
+        let value = certificate.to_value(self.alloc)?;
+        let mut text = value.to_string_pretty(self.alloc)?;
+        text.push_str("\n")?;
+        Ok(yes(text))
+    }
+
+    /// What the crates are used for, or the bill of materials, which says it too.
+    fn with_all(
+        &self,
+        build: &Build<'_, '_>,
+        all: &Build<'_, '_>,
+    ) -> Result<Report, BuildReportError> {
+        let used = build_uses(self.alloc, &build.built, &all.built)?;
+        match &self.asked.word {
+            Word::Sbom => {
+                let bill = bill_of(self.alloc, all, &used)?;
+                Ok(yes(bill.text(self.alloc)?))
+            }
+            _ => {
+                let answer = UsedCrates { build: all, used };
+                Ok(yes(self.text(&answer)?))
+            }
+        }
+    }
+}
+
+/// The report of a yes.
+fn yes(text: String) -> Report {
+    Report { text, is_yes: true }
+}
+
+/// Whether a package is built, for this side where there is one.
+fn is_built(build: &Build<'_, '_>, package: &Package, side: Option<BuildSide>) -> bool {
+    match build.number_of_package(package) {
+        Some(number) => build.is_for(number, side),
+        None => false,
+    }
+}

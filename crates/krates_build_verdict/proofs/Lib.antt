@@ -1,0 +1,3 @@
+pub mod BuiltCrates
+pub mod BuildTruth
+pub mod SameWords

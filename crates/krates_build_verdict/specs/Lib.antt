@@ -1,0 +1,2 @@
+pub mod BuildVerdicts
+pub mod BuildTruth
