@@ -13,14 +13,16 @@ import tomllib
 from compare.builds import SHOWN, Build
 from compare.programs import made_here
 
-SET_ASIDE = ("RUSTFLAGS", "CARGO_BUILD_TARGET", "CARGO_ENCODED_RUSTFLAGS")
+SET_ASIDE = ("RUSTFLAGS", "CARGO_BUILD_TARGET", "CARGO_ENCODED_RUSTFLAGS", "RUSTC_BOOTSTRAP")
+# lets a stable cargo print unit graphs
+UNSTABLE = {"RUSTC_BOOTSTRAP": "1"}
 OF_EDITION = {"2021": "2", "2024": "3"}
 
 
-def told(folder, *words):
-    """What a command prints in a folder; None if it fails, and then standard error has its errors, with control characters by number."""
-    # the bootstrap variable lets a stable cargo print unit graphs
-    env = {name: value for name, value in os.environ.items() if name not in SET_ASIDE} | {"RUSTC_BOOTSTRAP": "1"}
+def told(folder, *words, more=UNSTABLE):
+    """What a command prints in a folder, with these variables too; None if it fails, and then standard error has its errors, with control characters by
+    number."""
+    env = {name: value for name, value in os.environ.items() if name not in SET_ASIDE} | more
     ran = subprocess.run(words, cwd=folder, env=env, capture_output=True, check=False)
     if ran.returncode:
         print(ascii(ran.stderr.decode(errors="replace").strip()), file=sys.stderr)

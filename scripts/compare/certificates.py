@@ -1,4 +1,4 @@
-"""Writes certificates of documents, and checks them and damaged ones by the program that only checks certificates.
+"""Writes certificates by krates of documents, and checks them and damaged ones by the program that only checks certificates.
 
 Of each document, without an option and under `--edges no-dev` for Linux, `cargo-krates certify` writes the closed
 list of all that is kept, that of a package that isn't, and a derivation of each kept crate, of at most twelve. Each
@@ -23,6 +23,7 @@ from krates_sources import documents
 
 SETTINGS = [[], ["--edges", "no-dev", *LINUX]]
 CRATES = 12
+NOTE = re.compile(r"\Anote: by krates: .*\n")
 REFUSED = re.compile(r"error: (step (\d+) does not follow|something follows from the facts and isn't among them)\n")
 
 
@@ -50,13 +51,14 @@ def written(folder, place):
 
 def made(file, options, *words):
     """What the first program prints."""
-    return printed("cargo_krates", [*words, *options, "--metadata", str(file)])
+    return printed("cargo_krates", [*words, "--by", "krates", *options, "--metadata", str(file)])
 
 
 def checked(file, options, certificate):
-    """How the checker ends: its status, standard output and standard error."""
+    """How the checker ends: its status, standard output and standard error, without the note that says by which rules it judges."""
     text = certificate if isinstance(certificate, bytes) else json.dumps(certificate).encode()
-    return run("krates_check", [*options, "--metadata", str(file)], text)
+    status, out, said = run("krates_check", ["--by", "krates", *options, "--metadata", str(file)], text)
+    return status, out, NOTE.sub("", said)
 
 
 def parts(certificate):

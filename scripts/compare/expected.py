@@ -1,8 +1,8 @@
-"""Compares the lists of krates-list and the graphs that cargo-krates draws with the lines that are expected of them.
+"""Compares the lists of krates-list and the graphs that are drawn with the lines that are expected of them.
 
 These are beside it, in a file for each set of options: FOLDER/NAME/dev.list, or linux.graph, which may be
 compressed too. A file that isn't there is skipped. The lines of a graph are those that
-crates/krates_report/src/dump/drawing.rt explains. Where a build is refused, the lines that are expected are `refused
+scripts/compare/drawn_graphs/drawing.rt.txt explains. Where a build is refused, the lines that are expected are `refused
 (status 1)` and the refusal, of a graph without the `error: ` before it.
 
 Prints the lines that differ, of a graph the first 20, as `diff` prints them.
@@ -12,7 +12,7 @@ import re
 import subprocess
 import tempfile
 
-from compare.programs import LINUX, SETTINGS, run
+from compare.programs import LINUX, SETTINGS, made_here, run
 from krates_sources import documents, text_of
 
 LISTS = {
@@ -34,7 +34,7 @@ def list_of(text, options):
 
 def graph_of(text, options):
     """The lines of the drawn graph, or its status and its refusal."""
-    status, out, said = run("cargo_krates", ["graph", "--metadata", "-", *options], text)
+    status, out, said = run("drawn_graphs", ["graph", "--metadata", "-", *options], text)
     return f"refused (status {status})\n" + re.sub(r"^error: ", "", said, flags=re.M) if status else out
 
 
@@ -73,4 +73,5 @@ def lists(folder):
 
 def graphs(folder):
     """Compares the drawn graphs."""
-    return compare_files(folder, "graph", SETTINGS, graph_of, 20)
+    with made_here("drawn_graphs"):
+        return compare_files(folder, "graph", SETTINGS, graph_of, 20)

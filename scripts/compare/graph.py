@@ -1,4 +1,4 @@
-"""A drawn graph, as the lines say it that cargo-krates prints for the word `graph`."""
+"""A drawn graph, as the lines say it that the program of drawn_graphs/ prints for the word `graph`."""
 
 
 class Graph:

@@ -18,11 +18,11 @@ def program(crate):
 
 @contextlib.contextmanager
 def made_here(name):
-    """While this lasts, there is the program that scripts/compare/NAME.sh makes, if no variable names another one."""
+    """While this lasts, there is the program that scripts/compare/program.sh makes of the folder NAME, if no variable names another one."""
     with tempfile.TemporaryDirectory() as folder:
         if name.upper() not in os.environ:
             made = pathlib.Path(folder) / name
-            subprocess.run([ROOT / "scripts" / "compare" / f"{name}.sh", made], check=True)
+            subprocess.run([ROOT / "scripts" / "compare" / "program.sh", name, made], check=True)
             os.environ[name.upper()] = str(made)
         yield
 

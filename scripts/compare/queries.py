@@ -1,6 +1,6 @@
 """Checks what the queries answer against a plain reading of the graph that was printed.
 
-Each document is read by cargo-krates with the word `graph` and with the word `queries`, without an option and for
+Each document is read by the program of drawn_graphs/ with the word `graph` and with the word `queries`, without an option and for
 Linux: the one prints the graph, the other what each query answers, of every node, of every id of the document, of
 every feature and of every name. From the lines of the graph, and of the document its members, names and versions,
 this module makes the lines that are expected, each by the sentence that says what the query means, and compares.
@@ -8,7 +8,7 @@ this module makes the lines that are expected, each by the sentence that says wh
 import json
 
 from compare.graph import Graph, kind_of
-from compare.programs import SETTINGS, printed
+from compare.programs import SETTINGS, made_here, printed
 from krates_sources import documents
 
 
@@ -153,7 +153,7 @@ def expected(graph, document):
 def differences(text, options):
     """How many answers there are, and the first few that differ, as they are expected and as they are printed."""
     words = ["--metadata", "-", *options]
-    graph, answers = (printed("cargo_krates", [word, *words], text).splitlines() for word in ("graph", "queries"))
+    graph, answers = (printed("drawn_graphs", [word, *words], text).splitlines() for word in ("graph", "queries"))
     wanted = list(expected(Graph(graph), json.loads(text)))
     pairs = [(line, other) for line, other in zip(wanted, answers) if line != other]
     if len(wanted) != len(answers):
@@ -164,12 +164,13 @@ def differences(text, options):
 def compare(folder):
     """Compares the answers about each document, and returns whether nothing differs and something was compared."""
     same = different = total = 0
-    for path, text in documents(folder):
-        for name, options in SETTINGS.items():
-            count, pairs = differences(text, options)
-            total += count
-            same, different = (same, different + 1) if pairs else (same + 1, different)
-            for wanted, answer in pairs:
-                print(f"{path.parent.name}, {name}: expected {wanted!r}, printed {answer!r}")
+    with made_here("drawn_graphs"):
+        for path, text in documents(folder):
+            for name, options in SETTINGS.items():
+                count, pairs = differences(text, options)
+                total += count
+                same, different = (same, different + 1) if pairs else (same + 1, different)
+                for wanted, answer in pairs:
+                    print(f"{path.parent.name}, {name}: expected {wanted!r}, printed {answer!r}")
     print(f"{same} the same, {different} different; {total} answers")
     return same > 0 and different == 0

@@ -1,6 +1,6 @@
-"""Checks what the words of cargo-krates answer against a plain reading of the document and of the drawn graph.
+"""Checks what the words of cargo-krates answer by krates against a plain reading of the document and of the drawn graph.
 
-Of each document, without an option and for Linux, the word `graph` is read back, and from its lines and the document
+Of each document, without an option and for Linux, the graph is read that the program of drawn_graphs/ draws, and from its lines and the document
 this module says what the other words have to answer, with --json: the crates, the tree of the members, the tree above
 each crate, the names with several crates, the licences, what is shipped (by the lists of builds that ignore kinds),
 the bill of materials, the enabled features, and the difference from the document before. Of each package that isn't
@@ -16,13 +16,13 @@ import tempfile
 import urllib.parse
 
 from compare.graph import Graph
-from compare.programs import SETTINGS, printed
+from compare.programs import SETTINGS, made_here, printed
 from krates_sources import documents
 
 
 def answer(text, words, statuses=(0,)):
     """What the program prints of a document."""
-    return printed("cargo_krates", [*words, "--metadata", "-"], text, statuses)
+    return printed("cargo_krates", [*words, "--by", "krates", "--metadata", "-"], text, statuses)
 
 
 class Reading:
@@ -33,7 +33,7 @@ class Reading:
         self.text, self.options = text, options
         self.document = json.loads(text)
         self.packages = {package["id"]: package for package in self.document["packages"]}
-        self.graph = Graph(answer(text, ["graph", *options]).splitlines())
+        self.graph = Graph(printed("drawn_graphs", ["graph", "--metadata", "-", *options], text).splitlines())
         self.crates = self.graph.crates
         edges = [(source, self.home(target)) for source, target, _ in self.graph.edges if source < len(self.crates)]
         numbers = range(len(self.crates))
@@ -253,6 +253,12 @@ def is_difference(first, other_text, other):
 
 def compare(folder):
     """Compares the answers about each document, and returns whether nothing differs and something was compared."""
+    with made_here("drawn_graphs"):
+        return compare_documents(folder)
+
+
+def compare_documents(folder):
+    """The same where the program that draws graphs is there."""
     total, wrong, before = 0, 0, None
     for path, text in documents(folder):
         for name, options in SETTINGS.items():

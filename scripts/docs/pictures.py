@@ -44,7 +44,7 @@ ROOMS = {
 
 def shown(name):
     """Whether a crate is more than tests, or what only tests use."""
-    return not name.endswith("_tests") and name not in {"krates_samples", "krates_build_samples", "fake_cargo"}
+    return not name.endswith("_tests") and name not in {"krates_samples", "fake_cargo"}
 
 
 def reaches(uses, start):

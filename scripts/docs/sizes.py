@@ -26,11 +26,9 @@ TOGETHER = {
     "samples and tests": (
         "fake_cargo",
         "krates_samples",
-        "krates_build_samples",
         "krates_basic_tests",
         "krates_build_tests",
         "krates_built_tests",
-        "krates_build_report_tests",
         "krates_program_tests",
     ),
 }

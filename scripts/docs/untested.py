@@ -97,8 +97,8 @@ SHOWN_BY = {
         " Bill::text Lines::new Lines::end kept_crates list_json ids_json string JsonObject::new JsonObject::text"
         " JsonObject::object Values::new Values::add Values::list"
     ).split(),
-    # what it answers by what cargo builds is made of the crates that are built, at positions
-    "BuildReporter::new": ("DirectLinks::of_pairs", "Build::of", "Build::crates"),
+    # what it answers by what cargo builds is made of the crates that are built, at positions, with heads in trees
+    "BuildReporter::new": ("DirectLinks::of_pairs", "Build::of", "Build::crates", "head_number"),
     # by build, cargo is told other words than those of the command line
     "asked_of": ("CargoWords::for_build",),
 }
@@ -124,7 +124,7 @@ def untested(tests):
 
 def check():
     """Whether each public call is shown, and each entry of SHOWN_BY needed; prints what isn't."""
-    tests = "\n".join(path.read_text(encoding="utf-8") for path in sorted(ROOT.glob("crates/*_tests/src/*.rt")))
+    tests = "\n".join(path.read_text(encoding="utf-8") for path in sorted(ROOT.glob("crates/*_tests/src/**/*.rt")))
     shown = {call for some in SHOWN_BY.values() for call in some}
     found = list(untested(tests))
     listed = [f"{place}: {call}" for place, call in found if call not in shown]

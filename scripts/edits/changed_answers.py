@@ -1,7 +1,7 @@
 """Changes an answer of each table of worked examples, and reports what its test says.
 
-A table is a list of rows in a static or a constant of a crate whose name ends in `_tests`, and the last part of a row is its
-answer. In a copy of the working tree each table gets a copy whose first row has another answer, and the test that
+A table is a static or a constant of a crate whose name ends in `_tests`: a text with a line for each row, whose answer is behind ` => `, or
+a list of rows, whose last part is the answer. In a copy of the working tree each table gets a copy whose first row has another answer, and the test that
 walks it a copy that walks that one, with the functions between them. scripts/try_tests/crate.sh runs them without a proof,
 or `rt test` does, which proves them first. Libraries that are built here needn't be built again.
 
@@ -14,6 +14,8 @@ import subprocess
 from krates_sources import ROOT, copy_libraries, files
 
 TABLE = re.compile(r"^(?:pub(?:\(\w+\))? )?(?:const|static) (\w+): (&\[[^=]*\]) =\s*(?=&\[)", re.MULTILINE)
+TEXT_TABLE = re.compile(r'^(?:pub(?:\(\w+\))? )?static (\w+): (&str) =\s*(?=r?#*"\n)', re.MULTILINE)
+TEXT_ROW = re.compile(r"^(?!// )(.* =>)", re.MULTILINE)
 FUNCTION = re.compile(r"^(?:pub(?:\(\w+\))? )?fn (\w+)", re.MULTILINE)
 TEST = re.compile(r"^#\[test\]\nfn (\w+)", re.MULTILINE)
 RAW = re.compile(r'b?r(#*)"')
@@ -104,17 +106,36 @@ def way(bodies, tests, table):
     return []
 
 
+def another_list(text, start):
+    """Returns the list of rows that begins here with another answer in its first row, or nothing where none is known."""
+    rows = text[start + 2 : closed(text, start + 1) - 1]
+    row, end = parts(rows)[0]
+    another = changed(without_comments(row))
+    return another and f"&[{another},{rows[end + 1:]}]"
+
+
+def another_text(text, start):
+    """Returns the text with a line for each row that begins here with another answer in its first row, or nothing where it has no row."""
+    literal = text[start : behind(text, start)]
+    another = TEXT_ROW.sub(r"\1 x", literal, count=1)
+    return another if another != literal else None
+
+
+def tables(text):
+    """Returns the tables of a file: the match of each, and what stands in it with another answer, or nothing."""
+    lists = [(it, another_list(text, it.end())) for it in TABLE.finditer(text)]
+    return lists + [(it, another_text(text, it.end())) for it in TEXT_TABLE.finditer(text) if " =>" in text[it.end() : behind(text, it.end())]]
+
+
 def copies(text):
     """Returns the copies of a file's tables and tests, the tests by their tables, and the tables that aren't tried."""
     bodies, tests, added, found, left = functions(text), TEST.findall(text), "", {}, []
-    for table in TABLE.finditer(text):
-        name, rows = table[1], text[table.end() + 2 : closed(text, table.end() + 1) - 1]
-        row, end = parts(rows)[0]
-        another, steps = changed(without_comments(row)), way(bodies, tests, table[1])
+    for table, another in tables(text):
+        name, steps = table[1], way(bodies, tests, table[1])
         if not another or not steps:
             left.append(name)
             continue
-        added += f"\nconst {name}_CHANGED: {table[2]} = &[{another},{rows[end + 1:]}];\n"
+        added += f"\nconst {name}_CHANGED: {table[2]} = {another};\n"
         for step in steps:
             body = re.sub(rf"\b{name}\b", f"{name}_CHANGED", bodies[step])
             for other in steps:

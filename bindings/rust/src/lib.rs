@@ -98,7 +98,7 @@ pub fn why(document: &[u8], options: &Options, id: &str) -> Result<String, Refus
     })
 }
 
-/// What a certificate says of a document under exactly these options, as `cargo krates certify` writes one, where it holds. No search
+/// What a certificate says of a document under exactly these options, as `cargo krates certify --by krates` writes one, where it holds. No search
 /// is made, and none is trusted.
 ///
 /// It is refused as `Options`, `Utf8` or `Parse`, as `Certificate` where it doesn't hold, or because memory ran out.

@@ -27,6 +27,8 @@ fn answer_of(rt: &HostRuntime, mut asked: Asked) -> Result<Report, AnswerFailure
     let document = document::document(&inputs, &asked)?;
     match &asked.rules {
         Rules::Krates(choice) => {
+            said::note_krates(rt);
+            note_host(rt, choice);
             note_exclusions(rt, choice, &document.packages);
             Ok(Reporter::new(rt.alloc(), &asked, choice).answer(document, other)?)
         }
@@ -39,12 +41,11 @@ fn answer_of(rt: &HostRuntime, mut asked: Asked) -> Result<Report, AnswerFailure
     }
 }
 
-/// Looks up what the words don't describe, and says what they leave out.
+/// Looks up what the words don't describe, and says what isn't looked at.
 fn prepare(inputs: &Inputs<'_>, rules: &mut Rules) -> Result<(), AnswerFailure> {
     match rules {
         Rules::Krates(choice) => {
             choice.targets = targets::targets_of(inputs, choice)?;
-            note_host(inputs.rt, choice);
         }
         Rules::Build(_) => configuration::note_files(inputs.rt)?,
     }
@@ -59,7 +60,7 @@ fn by_build(
     documents: (&Metadata, Option<&Metadata>),
 ) -> Result<Report, AnswerFailure> {
     let build = build_setting(inputs, words, documents.0)?;
-    build.note_resolver(inputs.rt);
+    build.note(inputs.rt)?;
     match &asked.word {
         Word::Uses | Word::Sbom | Word::Diff { .. } => {
             by_two(inputs, asked, words, documents, &build)
@@ -87,6 +88,7 @@ fn by_two(
 ) -> Result<Report, AnswerFailure> {
     let (document, other) = documents;
     let mut second = build_setting(inputs, words, other.unwrap_or(document))?;
+    build.note_other(inputs.rt, &second);
     second.setting.kinds.all = second.setting.kinds.all || other.is_none();
     let reporter = BuildReporter::new(
         inputs.rt.alloc(),
@@ -106,7 +108,7 @@ fn note_host(rt: &HostRuntime, choice: &Choice) {
     if !choice.triples.is_empty() {
         said::note(
             rt,
-            "build scripts and proc-macros run on the host; a --target for it adds what they need there",
+            "build scripts and proc-macros run on the host: a --target for it adds all that passes there, --by build what they need",
         );
     }
 }

@@ -5,7 +5,7 @@ use krates_certificate::{Certificate, CertificateError, CertificatePart};
 use krates_rules::Fact;
 use krates_samples::facts::{facts_of, steps_of};
 use krates_samples::settings::all_of;
-use krates_samples::table::{Row, Tell, hold};
+use krates_samples::table::{Row, Tell, hold, hold_lines};
 use krates_text::text::Text;
 use serde_json::json;
 use std::alloc::AllocError;
@@ -35,16 +35,10 @@ impl Tell for OfSteps {
     }
 }
 
-static STEPS: &[Row] = &[
-    (
-        "",
-        r#"{"kind":"derivation","setting":["--ignore","dev"],"steps":[]}"#,
-    ),
-    (
-        "1 +a; 5 a>b:build 0",
-        r#"{"kind":"derivation","setting":["--ignore","dev"],"steps":[{"fact":{"fact":"crate","krate":"path+file:///w/a#0.1.0"},"rule":1,"uses":[]},{"fact":{"cfg":null,"child":"path+file:///w/b#0.1.0","fact":"kept","kind":"build","parent":"path+file:///w/a#0.1.0"},"rule":5,"uses":[0]}]}"#,
-    ),
-];
+static STEPS: &str = r#"
+ => {"kind":"derivation","setting":["--ignore","dev"],"steps":[]}
+1 +a; 5 a>b:build 0 => {"kind":"derivation","setting":["--ignore","dev"],"steps":[{"fact":{"fact":"crate","krate":"path+file:///w/a#0.1.0"},"rule":1,"uses":[]},{"fact":{"cfg":null,"child":"path+file:///w/b#0.1.0","fact":"kept","kind":"build","parent":"path+file:///w/a#0.1.0"},"rule":5,"uses":[0]}]}
+"#;
 
 /// What is written for the facts of a line.
 struct OfFacts;
@@ -57,18 +51,12 @@ impl Tell for OfFacts {
     }
 }
 
-static FACTS: &[Row] = &[
-    ("", r#"{"facts":[],"kind":"closed","setting":[]}"#),
-    (
-        "a/w a>b/j",
-        r#"{"facts":[{"fact":"feature","krate":"path+file:///w/a#0.1.0","name":"w"},{"child":"path+file:///w/b#0.1.0","fact":"toggled","name":"j","parent":"path+file:///w/a#0.1.0"}],"kind":"closed","setting":[]}"#,
-    ),
-    // an edge of each kind, for a target and for every target
-    (
-        "a>b a>b:dev:cfg(unix)",
-        r#"{"facts":[{"cfg":null,"child":"path+file:///w/b#0.1.0","fact":"kept","kind":"normal","parent":"path+file:///w/a#0.1.0"},{"cfg":"cfg(unix)","child":"path+file:///w/b#0.1.0","fact":"kept","kind":"dev","parent":"path+file:///w/a#0.1.0"}],"kind":"closed","setting":[]}"#,
-    ),
-];
+static FACTS: &str = r#"
+ => {"facts":[],"kind":"closed","setting":[]}
+a/w a>b/j => {"facts":[{"fact":"feature","krate":"path+file:///w/a#0.1.0","name":"w"},{"child":"path+file:///w/b#0.1.0","fact":"toggled","name":"j","parent":"path+file:///w/a#0.1.0"}],"kind":"closed","setting":[]}
+// an edge of each kind, for a target and for every target
+a>b a>b:dev:cfg(unix) => {"facts":[{"cfg":null,"child":"path+file:///w/b#0.1.0","fact":"kept","kind":"normal","parent":"path+file:///w/a#0.1.0"},{"cfg":"cfg(unix)","child":"path+file:///w/b#0.1.0","fact":"kept","kind":"dev","parent":"path+file:///w/a#0.1.0"}],"kind":"closed","setting":[]}
+"#;
 
 /// Adds the words of a setting, and what is printed of each fact or step.
 fn push_printed(lines: &mut Text, certificate: &Certificate) {
@@ -193,48 +181,27 @@ impl Tell for Id {
     }
 }
 
-static IDS: &[Row] = &[
-    // most ids are written as they were
-    ("path+file:///w/a#0.1.0", "path+file:///w/a#0.1.0"),
-    (
-        "a 1.0.0 (registry+https://i)",
-        "a 1.0.0 (registry+https://i)",
-    ),
-    (
-        "a 1.0.0 (git+https://h/r#c0)",
-        "a 1.0.0 (git+https://h/r#c0)",
-    ),
-    // the query of a git source is decoded, and reads as it did
-    (
-        "git+https://h/r?branch=x%2Fy#a@1.0.0",
-        "git+https://h/r?branch=x/y#a@1.0.0",
-    ),
-    // or its last piece would be the name
-    (
-        "git+https://h/a?branch=x%2Fy#1.0.0",
-        "a 1.0.0 (git+https://h/a?branch=x/y#)",
-    ),
-    // or its space would begin the version
-    (
-        "git+https://h/r?tag=x%20y#a@1.0.0",
-        "a 1.0.0 (git+https://h/r?tag=x y#)",
-    ),
-    // or it would be decoded twice
-    (
-        "git+https://h/r?tag=x%252Fy#a@1.0.0",
-        "a 1.0.0 (git+https://h/r?tag=x%2Fy#)",
-    ),
-    (
-        "a 1.0.0 (git+https://h/r?tag=x y#)",
-        "a 1.0.0 (git+https://h/r?tag=x y#)",
-    ),
-    ("a", "no package id at key: krate"),
-];
+static IDS: &str = "
+// most ids are written as they were
+path+file:///w/a#0.1.0 => path+file:///w/a#0.1.0
+a 1.0.0 (registry+https://i) => a 1.0.0 (registry+https://i)
+a 1.0.0 (git+https://h/r#c0) => a 1.0.0 (git+https://h/r#c0)
+// the query of a git source is decoded, and reads as it did
+git+https://h/r?branch=x%2Fy#a@1.0.0 => git+https://h/r?branch=x/y#a@1.0.0
+// or its last piece would be the name
+git+https://h/a?branch=x%2Fy#1.0.0 => a 1.0.0 (git+https://h/a?branch=x/y#)
+// or its space would begin the version
+git+https://h/r?tag=x%20y#a@1.0.0 => a 1.0.0 (git+https://h/r?tag=x y#)
+// or it would be decoded twice
+git+https://h/r?tag=x%252Fy#a@1.0.0 => a 1.0.0 (git+https://h/r?tag=x%2Fy#)
+a 1.0.0 (git+https://h/r?tag=x y#) => a 1.0.0 (git+https://h/r?tag=x y#)
+a => no package id at key: krate
+";
 
 #[test]
 fn certificates_are_written_and_read_or_refused(rt: HostRuntime) -> Result<(), Fail> {
-    hold::<OfSteps>(rt.alloc(), STEPS)?;
-    hold::<OfFacts>(rt.alloc(), FACTS)?;
+    hold_lines::<OfSteps>(rt.alloc(), STEPS)?;
+    hold_lines::<OfFacts>(rt.alloc(), FACTS)?;
     hold::<Read>(rt.alloc(), TEXTS)?;
-    hold::<Id>(rt.alloc(), IDS)
+    hold_lines::<Id>(rt.alloc(), IDS)
 }

@@ -3,89 +3,93 @@
 //! A line of clauses has one after another, each as its premises and its fact: `0; 0>1; 0 1>2`. They may name the facts 0 to 9.
 
 use krates_closure::{Clause, ClauseNumber, Clauses, Closure, FactNumber};
-use krates_samples::table::{Row, Tell, hold};
+use krates_samples::table::{Tell, hold, hold_lines};
 use krates_text::text::Text;
 use std::alloc::Global;
 use std::test::Fail;
 
 /// Clauses, and the facts that hold.
-static HOLD: &[Row] = &[
-    ("", ""),
-    // without premises
-    ("3", "3"),
-    ("9; 0", "0 9"),
-    ("4; 4", "4"),
-    // one from another, in each order, and past one that gives nothing
-    ("0; 0>1; 1>2", "0 1 2"),
-    ("1>2; 0>1; 0", "0 1 2"),
-    ("0>1; 2>3; 2", "2 3"),
-    // all premises have to hold, in whatever order they are found
-    ("0; 0 1>2", "0"),
-    ("1; 0 1>2", "1"),
-    ("0; 1; 0 1>2", "0 1 2"),
-    ("0 1 2>3; 2; 1; 0", "0 1 2 3"),
-    ("2 1 0>3; 2; 1; 0", "0 1 2 3"),
-    ("0; 1; 3; 0 1 2 3>4", "0 1 3"),
-    // a premise that is named twice
-    ("5 5>6; 5", "5 6"),
-    ("5 5 7>6; 5", "5"),
-    // two clauses give one fact, one of them or both
-    ("0; 0>2; 1>2", "0 2"),
-    ("1; 0>2; 1>2", "1 2"),
-    ("0; 1; 0>2; 1>2; 2>3", "0 1 2 3"),
-    // several wait for one fact
-    ("0>1; 0>2; 0 1>3; 0 4>5; 0", "0 1 2 3"),
-    ("0; 0>1; 0>2; 0 1>3; 0 4>5", "0 1 2 3"),
-    // nothing holds by itself, nor round a circle, unless something outside leads there
-    ("0>0", ""),
-    ("0>1; 1>0", ""),
-    ("0>1; 1>2; 2>0", ""),
-    ("0>1; 1>2; 2>0; 5>1; 5", "0 1 2 5"),
-    ("0 1>1; 0", "0"),
-    // what holds already, and follows again
-    ("0; 1>0; 0>1", "0 1"),
-    // the greatest number
-    ("9>8; 8 9>7; 9", "7 8 9"),
-];
+static HOLD: &str = "
+ =>
+// without premises
+3 => 3
+9; 0 => 0 9
+4; 4 => 4
+// one from another, in each order, and past one that gives nothing
+0; 0>1; 1>2 => 0 1 2
+1>2; 0>1; 0 => 0 1 2
+0>1; 2>3; 2 => 2 3
+// all premises have to hold, in whatever order they are found
+0; 0 1>2 => 0
+1; 0 1>2 => 1
+0; 1; 0 1>2 => 0 1 2
+0 1 2>3; 2; 1; 0 => 0 1 2 3
+2 1 0>3; 2; 1; 0 => 0 1 2 3
+0; 1; 3; 0 1 2 3>4 => 0 1 3
+// a premise that is named twice
+5 5>6; 5 => 5 6
+5 5 7>6; 5 => 5
+// two clauses give one fact, one of them or both
+0; 0>2; 1>2 => 0 2
+1; 0>2; 1>2 => 1 2
+0; 1; 0>2; 1>2; 2>3 => 0 1 2 3
+// several wait for one fact
+0>1; 0>2; 0 1>3; 0 4>5; 0 => 0 1 2 3
+0; 0>1; 0>2; 0 1>3; 0 4>5 => 0 1 2 3
+// nothing holds by itself, nor round a circle, unless something outside leads there
+0>0 =>
+0>1; 1>0 =>
+0>1; 1>2; 2>0 =>
+0>1; 1>2; 2>0; 5>1; 5 => 0 1 2 5
+0 1>1; 0 => 0
+// what holds already, and follows again
+0; 1>0; 0>1 => 0 1
+// the greatest number
+9>8; 8 9>7; 9 => 7 8 9
+";
 
 /// Clauses that derive each fact in one way and in one order, and the steps that derive them: each as its premises and its fact.
-static STEPS: &[Row] = &[
-    ("", ""),
-    ("7", ">7"),
-    ("0>1; 1>2; 0", ">0; 0>1; 1>2"),
-    ("0 1>2; 0>1; 0; 3>4", ">0; 0>1; 0 1>2"),
-    ("2 1 0>3; 0 1>2; 0>1; 0", ">0; 0>1; 0 1>2; 2 1 0>3"),
-    ("0>1; 1>0", ""),
-    // one that is there twice gives its fact once
-    ("6; 6", ">6"),
-    ("6 6>5; 6", ">6; 6 6>5"),
-];
+static STEPS: &str = "
+ =>
+7 => >7
+0>1; 1>2; 0 => >0; 0>1; 1>2
+0 1>2; 0>1; 0; 3>4 => >0; 0>1; 0 1>2
+2 1 0>3; 0 1>2; 0>1; 0 => >0; 0>1; 0 1>2; 2 1 0>3
+0>1; 1>0 =>
+// one that is there twice gives its fact once
+6; 6 => >6
+6 6>5; 6 => >6; 6 6>5
+";
 
 /// Clauses, and a fact; the steps that derive it, or `none`. What isn't needed for it isn't among them.
-static DERIVATIONS: &[Row] = &[
-    ("7: 7", ">7"),
-    ("7: 6", "none"),
-    ("0>1; 1>2; 0: 1", ">0; 0>1"),
-    ("0>1; 1>2; 0: 2", ">0; 0>1; 1>2"),
-    ("0>1; 0>2; 0; 2>3: 3", ">0; 0>2; 2>3"),
-    ("2 1 0>3; 0 1>2; 0>1; 0: 3", ">0; 0>1; 0 1>2; 2 1 0>3"),
-    ("0>1; 1>0: 0", "none"),
-    ("6 6>5; 6; 7: 5", ">6; 6 6>5"),
-];
+static DERIVATIONS: &str = "
+7: 7 => >7
+7: 6 => none
+0>1; 1>2; 0: 1 => >0; 0>1
+0>1; 1>2; 0: 2 => >0; 0>1; 1>2
+0>1; 0>2; 0; 2>3: 3 => >0; 0>2; 2>3
+2 1 0>3; 0 1>2; 0>1; 0: 3 => >0; 0>1; 0 1>2; 2 1 0>3
+0>1; 1>0: 0 => none
+6 6>5; 6; 7: 5 => >6; 6 6>5
+";
 
 /// Numbers of facts, and whether clauses may name all of them.
-static NAMED: &[Row] = &[
-    ("", "true"),
-    ("0", "true"),
-    ("9", "true"),
-    ("10", "false"),
-    ("3 9 0", "true"),
-    ("10 3", "false"),
-    ("3 10", "false"),
-];
+static NAMED: &str = "
+ => true
+0 => true
+9 => true
+10 => false
+3 9 0 => true
+10 3 => false
+3 10 => false
+";
 
 /// How long a chain is in which each fact follows from the one before it, and how many of its facts hold.
-static CHAINS: &[Row] = &[("1", "1"), ("2", "2"), ("100000", "100000")];
+static CHAINS: &str = "
+1 => 1
+2 => 2
+100000 => 100000
+";
 
 /// The facts with these numbers, between each two of which is a blank.
 fn facts_in(alloc: Global, text: &str) -> Result<Vec<FactNumber>, Fail> {
@@ -230,11 +234,11 @@ impl Tell for Chain {
 
 #[test]
 fn what_is_derivable_holds_by_steps(rt: HostRuntime) -> Result<(), Fail> {
-    hold::<Holding>(rt.alloc(), HOLD)?;
-    hold::<Steps>(rt.alloc(), STEPS)?;
-    hold::<Derivation>(rt.alloc(), DERIVATIONS)?;
-    hold::<Named>(rt.alloc(), NAMED)?;
-    hold::<Chain>(rt.alloc(), CHAINS)
+    hold_lines::<Holding>(rt.alloc(), HOLD)?;
+    hold_lines::<Steps>(rt.alloc(), STEPS)?;
+    hold_lines::<Derivation>(rt.alloc(), DERIVATIONS)?;
+    hold_lines::<Named>(rt.alloc(), NAMED)?;
+    hold_lines::<Chain>(rt.alloc(), CHAINS)
 }
 
 #[test]

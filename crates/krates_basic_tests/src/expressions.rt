@@ -1,7 +1,7 @@
 //! cfg expressions: their values at targets, what they count, and which text isn't one.
 
 use krates_samples::settings::FromText;
-use krates_samples::table::{Row, Tell, hold};
+use krates_samples::table::{Row, Tell, hold, hold_lines};
 use krates_text::cfg::{CfgError, Expression};
 use krates_text::target::Target;
 use krates_text::text::Text;
@@ -10,86 +10,41 @@ use std::test::Fail;
 
 /// Where an expression is asked, a target by its triple and after a plus sign the one feature that is enabled there; the
 /// expression, and its value. Of the target `x` nothing is known.
-static VALUES: &[Row] = &[
-    (
-        r#"x86_64-unknown-linux-gnu cfg(all(unix, not(target_os = "linux"),))"#,
-        "false",
-    ),
-    (
-        r#"aarch64-apple-darwin cfg(all(unix, not(target_os = "linux"),))"#,
-        "true",
-    ),
-    (
-        r#"x86_64-pc-windows-msvc cfg(all(windows, target_env = "musl"))"#,
-        "false",
-    ),
-    (
-        r#"x86_64-unknown-linux-musl cfg(all(windows, target_env = "musl"))"#,
-        "false",
-    ),
-    ("x86_64-unknown-linux-gnu cfg(any())", "false"),
-    ("x86_64-unknown-linux-gnu cfg(all())", "true"),
-    ("x cfg(any(false, true))", "true"),
-    (r#"x cfg(not(target_os = "linux"))"#, "true"),
-    (r#"x+atomics cfg(target_feature = "atomics")"#, "true"),
-    (
-        r#"x86_64-unknown-linux-gnu+simd cfg(target_feature = "atomics")"#,
-        "false",
-    ),
-    ("x86_64-unknown-linux-gnu cfg(target_has_atomic)", "false"),
-    (
-        r#"x86_64-unknown-linux-gnu cfg(target_has_atomic = "ptr")"#,
-        "true",
-    ),
-    (
-        r#"x86_64-unknown-linux-gnu cfg(target_family = "unix")"#,
-        "true",
-    ),
-    (
-        r#"x86_64-unknown-linux-gnu cfg(target_family = "wasm")"#,
-        "false",
-    ),
-    (r#"aarch64-apple-darwin cfg(target_env = "")"#, "true"),
-    (
-        r#"x86_64-pc-windows-msvc cfg(target_vendor = "pc")"#,
-        "true",
-    ),
-    (r#"wasm32-unknown-unknown cfg(panic = "abort")"#, "true"),
-    (r#"wasm32-unknown-unknown cfg(panic = "unwind")"#, "false"),
-    (
-        r#"aarch64-unknown-linux-gnu cfg(target_arch = "aarch64")"#,
-        "true",
-    ),
-    (
-        r#"aarch64-unknown-linux-gnu cfg(target_arch = "x86_64")"#,
-        "false",
-    ),
-    (
-        r#"wasm32-unknown-unknown cfg(target_pointer_width = "32")"#,
-        "true",
-    ),
-    (
-        r#"x86_64-apple-darwin cfg(target_pointer_width = "32")"#,
-        "false",
-    ),
-    (
-        r#"x86_64-apple-darwin cfg(target_endian = "little")"#,
-        "true",
-    ),
-    (r#"x86_64-apple-darwin cfg(target_endian = "big")"#, "false"),
-    (r#"x86_64-unknown-linux-gnu cfg(target_abi = "")"#, "true"),
-    (
-        r#"x86_64-unknown-linux-gnu cfg(target_abi = "gnu")"#,
-        "false",
-    ),
-    // of the families only two are words
-    ("x86_64-pc-windows-msvc cfg(windows)", "true"),
-    ("x86_64-pc-windows-msvc cfg(unix)", "false"),
-    ("wasm32-unknown-unknown cfg(wasm)", "false"),
-    // a key without its prefix is none
-    (r#"x86_64-unknown-linux-gnu cfg(os = "linux")"#, "false"),
-    ("x86_64-unknown-linux-gnu cfg(foo)", "false"),
-];
+static VALUES: &str = r#"
+x86_64-unknown-linux-gnu cfg(all(unix, not(target_os = "linux"),)) => false
+aarch64-apple-darwin cfg(all(unix, not(target_os = "linux"),)) => true
+x86_64-pc-windows-msvc cfg(all(windows, target_env = "musl")) => false
+x86_64-unknown-linux-musl cfg(all(windows, target_env = "musl")) => false
+x86_64-unknown-linux-gnu cfg(any()) => false
+x86_64-unknown-linux-gnu cfg(all()) => true
+x cfg(any(false, true)) => true
+x cfg(not(target_os = "linux")) => true
+x+atomics cfg(target_feature = "atomics") => true
+x86_64-unknown-linux-gnu+simd cfg(target_feature = "atomics") => false
+x86_64-unknown-linux-gnu cfg(target_has_atomic) => false
+x86_64-unknown-linux-gnu cfg(target_has_atomic = "ptr") => true
+x86_64-unknown-linux-gnu cfg(target_family = "unix") => true
+x86_64-unknown-linux-gnu cfg(target_family = "wasm") => false
+aarch64-apple-darwin cfg(target_env = "") => true
+x86_64-pc-windows-msvc cfg(target_vendor = "pc") => true
+wasm32-unknown-unknown cfg(panic = "abort") => true
+wasm32-unknown-unknown cfg(panic = "unwind") => false
+aarch64-unknown-linux-gnu cfg(target_arch = "aarch64") => true
+aarch64-unknown-linux-gnu cfg(target_arch = "x86_64") => false
+wasm32-unknown-unknown cfg(target_pointer_width = "32") => true
+x86_64-apple-darwin cfg(target_pointer_width = "32") => false
+x86_64-apple-darwin cfg(target_endian = "little") => true
+x86_64-apple-darwin cfg(target_endian = "big") => false
+x86_64-unknown-linux-gnu cfg(target_abi = "") => true
+x86_64-unknown-linux-gnu cfg(target_abi = "gnu") => false
+// of the families only two are words
+x86_64-pc-windows-msvc cfg(windows) => true
+x86_64-pc-windows-msvc cfg(unix) => false
+wasm32-unknown-unknown cfg(wasm) => false
+// a key without its prefix is none
+x86_64-unknown-linux-gnu cfg(os = "linux") => false
+x86_64-unknown-linux-gnu cfg(foo) => false
+"#;
 
 /// The refusal of a text that isn't an expression.
 const SYNTAX: &str = "bad cfg expression";
@@ -216,7 +171,7 @@ impl Tell for Printed {
 
 #[test]
 fn expressions_are_evaluated_counted_or_refused(rt: HostRuntime) -> Result<(), Fail> {
-    hold::<Value>(rt.alloc(), VALUES)?;
+    hold_lines::<Value>(rt.alloc(), VALUES)?;
     hold::<Counted>(rt.alloc(), COUNTS)?;
     hold::<FormsInOneAnother>(rt.alloc(), NESTED)?;
     hold::<OpenedForms>(rt.alloc(), OPENED)?;

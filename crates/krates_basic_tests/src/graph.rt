@@ -2,7 +2,7 @@
 
 use krates_graph::agenda::{Agenda, Taken};
 use krates_graph::graph::{Direction, EdgeId, Graph, GraphError, NodeId};
-use krates_samples::table::{Row, Tell, compare, hold};
+use krates_samples::table::{Tell, compare, hold_lines};
 use krates_text::text::Text;
 use std::alloc::Global;
 use std::test::Fail;
@@ -16,36 +16,21 @@ static JOINED_NODES: &[char] = &['a', 'b', 'c'];
 
 /// A node of a graph and the direction of its edges, and what is known of these: their numbers, and each edge with its ends and its
 /// weight.
-static EDGES: &[Row] = &[
-    (
-        "joined 0 out",
-        "[EdgeId(0), EdgeId(2)] (0, 0, 1, 10) (2, 0, 1, 12)",
-    ),
-    ("joined 0 in", "[EdgeId(1)] (1, 1, 0, 11)"),
-    (
-        "joined 1 out",
-        "[EdgeId(1), EdgeId(3)] (1, 1, 0, 11) (3, 1, 1, 13)",
-    ),
-    ("joined 2 out", "[EdgeId(4)] (4, 2, 1, 14)"),
-    ("joined 2 in", "[]"),
-    // no such node
-    ("joined 3 out", "[]"),
-    ("joined 9 in", "[]"),
-    // the node that all but one edge enter
-    (
-        "joined 1 in",
-        "[EdgeId(0), EdgeId(2), EdgeId(3), EdgeId(4)] (0, 0, 1, 10) (2, 0, 1, 12) (3, 1, 1, 13) (4, 2, 1, 14)",
-    ),
-    // the edges that leave the one crate and those that enter the other
-    (
-        "features 0 out",
-        "[EdgeId(0), EdgeId(1)] (0, 0, 1, 0) (1, 0, 4, 1)",
-    ),
-    (
-        "features 1 in",
-        "[EdgeId(0), EdgeId(3), EdgeId(6)] (0, 0, 1, 0) (3, 2, 1, 1) (6, 4, 1, 1)",
-    ),
-];
+static EDGES: &str = "
+joined 0 out => [EdgeId(0), EdgeId(2)] (0, 0, 1, 10) (2, 0, 1, 12)
+joined 0 in => [EdgeId(1)] (1, 1, 0, 11)
+joined 1 out => [EdgeId(1), EdgeId(3)] (1, 1, 0, 11) (3, 1, 1, 13)
+joined 2 out => [EdgeId(4)] (4, 2, 1, 14)
+joined 2 in => []
+// no such node
+joined 3 out => []
+joined 9 in => []
+// the node that all but one edge enter
+joined 1 in => [EdgeId(0), EdgeId(2), EdgeId(3), EdgeId(4)] (0, 0, 1, 10) (2, 0, 1, 12) (3, 1, 1, 13) (4, 2, 1, 14)
+// the edges that leave the one crate and those that enter the other
+features 0 out => [EdgeId(0), EdgeId(1)] (0, 0, 1, 0) (1, 0, 4, 1)
+features 1 in => [EdgeId(0), EdgeId(3), EdgeId(6)] (0, 0, 1, 0) (3, 2, 1, 1) (6, 4, 1, 1)
+";
 
 /// Crates 0 and 1, the feature 4 of 1 that 0 turns on, and two features in between; the weight is 1 where a feature is an end.
 static BETWEEN_FEATURES: &[(u32, u32, u8)] = &[
@@ -160,10 +145,10 @@ fn limits_refuse_one_more(rt: HostRuntime) -> Result<(), Fail> {
 }
 
 /// Refusals, and their texts.
-static TEXTS: &[Row] = &[
-    ("Full", "too many nodes or edges"),
-    ("Memory", "out of memory"),
-];
+static TEXTS: &str = "
+Full => too many nodes or edges
+Memory => out of memory
+";
 
 /// What a refusal prints.
 struct Printed;
@@ -192,8 +177,8 @@ fn no_limit_takes_nothing(rt: HostRuntime) {
 
 #[test]
 fn edges_of_a_node_come_by_number_and_refusals_are_printed(rt: HostRuntime) -> Result<(), Fail> {
-    hold::<Edges>(rt.alloc(), EDGES)?;
-    hold::<Printed>(rt.alloc(), TEXTS)
+    hold_lines::<Edges>(rt.alloc(), EDGES)?;
+    hold_lines::<Printed>(rt.alloc(), TEXTS)
 }
 
 /// Whether a node and an edge of it are added under the next numbers, or the one that isn't is returned and changes nothing.

@@ -2,42 +2,46 @@
 
 use json::Scratch;
 use krates_cm_json::{JsonRef, Owned, Parsed};
-use krates_samples::table::{Row, Tell, compare, hold};
+use krates_samples::table::{Tell, compare, hold_lines};
 use krates_text::text::Text;
 use serde_json::Value;
 use std::alloc::{AllocError, Global};
 use std::test::Fail;
 
 /// Texts, and the value of each; or that it isn't read.
-static TEXTS: &[Row] = &[
-    ("null", "null"),
-    (" true ", "true"),
-    (r#""a\u0041\n""#, r#""aA\n""#),
-    ("[]", "[]"),
-    ("[1, -2, [3.5, 0], {}]", "[1,-2,[3.5,0],{}]"),
-    // The names of an object are in order, and the last value of a name stays.
-    (r#"{"b":[false],"a":null}"#, r#"{"a":null,"b":[false]}"#),
-    (r#"{"a":1,"b":2,"a":{"c":3}}"#, r#"{"a":{"c":3},"b":2}"#),
-    (r#"{"a":1e999,"a":1}"#, "not read"),
-    // Numbers are in range where a float is that isn't infinite.
-    ("18446744073709551615", "18446744073709551615"),
-    ("-9223372036854775808", "-9223372036854775808"),
-    ("1e308", "1e+308"),
-    ("1e309", "not read"),
-    ("-1e309", "not read"),
-    // What isn't JSON, or continues after its value.
-    ("", "not read"),
-    ("[1", "not read"),
-    ("1 2", "not read"),
-    ("{} x", "not read"),
-    ("[1,]", "not read"),
-    (r#"{"a"}"#, "not read"),
-    ("01", "not read"),
-    ("nul", "not read"),
-];
+static TEXTS: &str = r#"
+null => null
+ true  => true
+"a\u0041\n" => "aA\n"
+[] => []
+[1, -2, [3.5, 0], {}] => [1,-2,[3.5,0],{}]
+// The names of an object are in order, and the last value of a name stays.
+{"b":[false],"a":null} => {"a":null,"b":[false]}
+{"a":1,"b":2,"a":{"c":3}} => {"a":{"c":3},"b":2}
+{"a":1e999,"a":1} => not read
+// Numbers are in range where a float is that isn't infinite.
+18446744073709551615 => 18446744073709551615
+-9223372036854775808 => -9223372036854775808
+1e308 => 1e+308
+1e309 => not read
+-1e309 => not read
+// What isn't JSON, or continues after its value.
+ => not read
+[1 => not read
+1 2 => not read
+{} x => not read
+[1,] => not read
+{"a"} => not read
+01 => not read
+nul => not read
+"#;
 
 /// How deep arrays nest, and whether they are read.
-static DEPTHS: &[Row] = &[("1", "read"), ("127", "read"), ("128", "not read")];
+static DEPTHS: &str = "
+1 => read
+127 => read
+128 => not read
+";
 
 /// What a text is.
 struct InPlace;
@@ -134,7 +138,7 @@ impl Tell for AsValue {
 
 #[test]
 fn texts_in_place_and_as_values(rt: HostRuntime) -> Result<(), Fail> {
-    hold::<InPlace>(rt.alloc(), TEXTS)?;
-    hold::<AsValue>(rt.alloc(), TEXTS)?;
-    hold::<Nested>(rt.alloc(), DEPTHS)
+    hold_lines::<InPlace>(rt.alloc(), TEXTS)?;
+    hold_lines::<AsValue>(rt.alloc(), TEXTS)?;
+    hold_lines::<Nested>(rt.alloc(), DEPTHS)
 }

@@ -2,7 +2,7 @@
 
 use crate::packages::read;
 use krates_cm::Target;
-use krates_samples::table::{Row, Tell, hold};
+use krates_samples::table::{Tell, hold, hold_lines};
 use krates_text::text::Text;
 use krates_units::kinds::{
     Mode, asks_for, is_library, is_linkable, is_macro, is_script, runs_programs, uses_dev,
@@ -26,239 +26,128 @@ static WASM: &str =
     r#"wasm32-unknown-unknown;debug_assertions;panic="abort";target_abi="";target_arch="wasm32";target_endian="little";target_env="";target_family="wasm";target_feature="bulk-memory";target_feature="multivalue";target_feature="mutable-globals";target_feature="nontrapping-fptoint";target_feature="reference-types";target_feature="sign-ext";target_has_atomic="16";target_has_atomic="32";target_has_atomic="64";target_has_atomic="8";target_has_atomic="ptr";target_os="unknown";target_pointer_width="32";target_vendor="unknown""#;
 
 /// What rustc prints in the same way, and what is read of it or which line isn't.
-static PRINTED: &[Row] = &[
-    (
-        r#"x86_64-pc-windows-msvc;debug_assertions;panic="unwind";target_abi="";target_arch="x86_64";target_endian="little";target_env="msvc";target_family="windows";target_feature="cmpxchg16b";target_feature="fxsr";target_feature="sse";target_feature="sse2";target_feature="sse3";target_has_atomic="128";target_has_atomic="16";target_has_atomic="32";target_has_atomic="64";target_has_atomic="8";target_has_atomic="ptr";target_os="windows";target_pointer_width="64";target_vendor="pc";windows"#,
-        r#"Machine { triple: "x86_64-pc-windows-msvc", words: ["debug_assertions", "windows"], pairs: [("panic", "unwind"), ("target_abi", ""), ("target_arch", "x86_64"), ("target_endian", "little"), ("target_env", "msvc"), ("target_family", "windows"), ("target_feature", "cmpxchg16b"), ("target_feature", "fxsr"), ("target_feature", "sse"), ("target_feature", "sse2"), ("target_feature", "sse3"), ("target_has_atomic", "128"), ("target_has_atomic", "16"), ("target_has_atomic", "32"), ("target_has_atomic", "64"), ("target_has_atomic", "8"), ("target_has_atomic", "ptr"), ("target_os", "windows"), ("target_pointer_width", "64"), ("target_vendor", "pc")] }"#,
-    ),
-    (
-        r#"wasm32-unknown-unknown;debug_assertions;panic="abort";target_abi="";target_arch="wasm32";target_endian="little";target_env="";target_family="wasm";target_feature="bulk-memory";target_feature="multivalue";target_feature="mutable-globals";target_feature="nontrapping-fptoint";target_feature="reference-types";target_feature="sign-ext";target_has_atomic="16";target_has_atomic="32";target_has_atomic="64";target_has_atomic="8";target_has_atomic="ptr";target_os="unknown";target_pointer_width="32";target_vendor="unknown""#,
-        r#"Machine { triple: "wasm32-unknown-unknown", words: ["debug_assertions"], pairs: [("panic", "abort"), ("target_abi", ""), ("target_arch", "wasm32"), ("target_endian", "little"), ("target_env", ""), ("target_family", "wasm"), ("target_feature", "bulk-memory"), ("target_feature", "multivalue"), ("target_feature", "mutable-globals"), ("target_feature", "nontrapping-fptoint"), ("target_feature", "reference-types"), ("target_feature", "sign-ext"), ("target_has_atomic", "16"), ("target_has_atomic", "32"), ("target_has_atomic", "64"), ("target_has_atomic", "8"), ("target_has_atomic", "ptr"), ("target_os", "unknown"), ("target_pointer_width", "32"), ("target_vendor", "unknown")] }"#,
-    ),
-    // the order of the lines stays, and what comes twice stays twice; a string may be empty or have any byte but a quotation mark
-    (
-        r#"t;_b9;k="";k="=, 'é";k="";_b9"#,
-        r#"Machine { triple: "t", words: ["_b9", "_b9"], pairs: [("k", ""), ("k", "=, 'é"), ("k", "")] }"#,
-    ),
-    ("t", r#"Machine { triple: "t", words: [], pairs: [] }"#),
-    // a line of another form is refused, and the first of them is named
-    ("t;unix;9a;9b", "line 2 is no cfg of rustc"),
-    ("t;unix;;a", "line 2 is no cfg of rustc"),
-    ("t;a-b", "line 1 is no cfg of rustc"),
-    ("t;é", "line 1 is no cfg of rustc"),
-    (r#"t;a;k="v";c;k=v"#, "line 4 is no cfg of rustc"),
-    (r#"t;k = "v""#, "line 1 is no cfg of rustc"),
-    (r#"t;k="v" "#, "line 1 is no cfg of rustc"),
-    (r#"t;k="v"#, "line 1 is no cfg of rustc"),
-    (r#"t;k=v""#, "line 1 is no cfg of rustc"),
-    (r#"t;k="v"w""#, "line 1 is no cfg of rustc"),
-    (r#"t;="v""#, "line 1 is no cfg of rustc"),
-    (r#"t;k=""#, "line 1 is no cfg of rustc"),
-];
+static PRINTED: &str = r#"
+x86_64-pc-windows-msvc;debug_assertions;panic="unwind";target_abi="";target_arch="x86_64";target_endian="little";target_env="msvc";target_family="windows";target_feature="cmpxchg16b";target_feature="fxsr";target_feature="sse";target_feature="sse2";target_feature="sse3";target_has_atomic="128";target_has_atomic="16";target_has_atomic="32";target_has_atomic="64";target_has_atomic="8";target_has_atomic="ptr";target_os="windows";target_pointer_width="64";target_vendor="pc";windows => Machine { triple: "x86_64-pc-windows-msvc", words: ["debug_assertions", "windows"], pairs: [("panic", "unwind"), ("target_abi", ""), ("target_arch", "x86_64"), ("target_endian", "little"), ("target_env", "msvc"), ("target_family", "windows"), ("target_feature", "cmpxchg16b"), ("target_feature", "fxsr"), ("target_feature", "sse"), ("target_feature", "sse2"), ("target_feature", "sse3"), ("target_has_atomic", "128"), ("target_has_atomic", "16"), ("target_has_atomic", "32"), ("target_has_atomic", "64"), ("target_has_atomic", "8"), ("target_has_atomic", "ptr"), ("target_os", "windows"), ("target_pointer_width", "64"), ("target_vendor", "pc")] }
+wasm32-unknown-unknown;debug_assertions;panic="abort";target_abi="";target_arch="wasm32";target_endian="little";target_env="";target_family="wasm";target_feature="bulk-memory";target_feature="multivalue";target_feature="mutable-globals";target_feature="nontrapping-fptoint";target_feature="reference-types";target_feature="sign-ext";target_has_atomic="16";target_has_atomic="32";target_has_atomic="64";target_has_atomic="8";target_has_atomic="ptr";target_os="unknown";target_pointer_width="32";target_vendor="unknown" => Machine { triple: "wasm32-unknown-unknown", words: ["debug_assertions"], pairs: [("panic", "abort"), ("target_abi", ""), ("target_arch", "wasm32"), ("target_endian", "little"), ("target_env", ""), ("target_family", "wasm"), ("target_feature", "bulk-memory"), ("target_feature", "multivalue"), ("target_feature", "mutable-globals"), ("target_feature", "nontrapping-fptoint"), ("target_feature", "reference-types"), ("target_feature", "sign-ext"), ("target_has_atomic", "16"), ("target_has_atomic", "32"), ("target_has_atomic", "64"), ("target_has_atomic", "8"), ("target_has_atomic", "ptr"), ("target_os", "unknown"), ("target_pointer_width", "32"), ("target_vendor", "unknown")] }
+// the order of the lines stays, and what comes twice stays twice; a string may be empty or have any byte but a quotation mark
+t;_b9;k="";k="=, 'é";k="";_b9 => Machine { triple: "t", words: ["_b9", "_b9"], pairs: [("k", ""), ("k", "=, 'é"), ("k", "")] }
+t => Machine { triple: "t", words: [], pairs: [] }
+// a line of another form is refused, and the first of them is named
+t;unix;9a;9b => line 2 is no cfg of rustc
+t;unix;;a => line 2 is no cfg of rustc
+t;a-b => line 1 is no cfg of rustc
+t;é => line 1 is no cfg of rustc
+t;a;k="v";c;k=v => line 4 is no cfg of rustc
+t;k = "v" => line 1 is no cfg of rustc
+t;k="v"  => line 1 is no cfg of rustc
+t;k="v => line 1 is no cfg of rustc
+t;k=v" => line 1 is no cfg of rustc
+t;k="v"w" => line 1 is no cfg of rustc
+t;="v" => line 1 is no cfg of rustc
+t;k=" => line 1 is no cfg of rustc
+"#;
 
 /// A target text, and the triples of the machines above at which it holds: those of the Cargo Book's section "Platform specific
 /// dependencies" first.
-static HELD: &[Row] = &[
-    ("cfg(windows)", "x86_64-pc-windows-msvc "),
-    ("cfg(unix)", "x86_64-unknown-linux-gnu x86_64-apple-darwin "),
-    (r#"cfg(target_arch = "x86")"#, ""),
-    (
-        r#"cfg(target_arch = "x86_64")"#,
-        "x86_64-unknown-linux-gnu x86_64-pc-windows-msvc x86_64-apple-darwin ",
-    ),
-    ("x86_64-pc-windows-msvc", "x86_64-pc-windows-msvc "),
-    ("x86_64-unknown-linux-gnu", "x86_64-unknown-linux-gnu "),
-    (
-        "cfg(not(unix))",
-        "x86_64-pc-windows-msvc wasm32-unknown-unknown ",
-    ),
-    (
-        r#"cfg(all(unix, target_os = "macos"))"#,
-        "x86_64-apple-darwin ",
-    ),
-    (
-        r#"cfg(any(windows, target_family = "wasm"))"#,
-        "x86_64-pc-windows-msvc wasm32-unknown-unknown ",
-    ),
-    // what rustc prints holds, whatever the profile of the build
-    (
-        "cfg(debug_assertions)",
-        "x86_64-unknown-linux-gnu x86_64-pc-windows-msvc x86_64-apple-darwin wasm32-unknown-unknown ",
-    ),
-    (
-        r#"cfg(target_feature = "sse3")"#,
-        "x86_64-pc-windows-msvc x86_64-apple-darwin ",
-    ),
-    (r#"cfg(panic = "abort")"#, "wasm32-unknown-unknown "),
-    (
-        r#"cfg(target_env = "")"#,
-        "x86_64-apple-darwin wasm32-unknown-unknown ",
-    ),
-    (
-        r#"cfg(target_has_atomic = "128")"#,
-        "x86_64-pc-windows-msvc x86_64-apple-darwin ",
-    ),
-    // a key is no word, and a pair isn't compared by its key or by its string alone
-    ("cfg(target_os)", ""),
-    (r#"cfg(unix = "")"#, ""),
-    (r#"cfg(target_os = "unix")"#, ""),
-    (
-        "cfg(true)",
-        "x86_64-unknown-linux-gnu x86_64-pc-windows-msvc x86_64-apple-darwin wasm32-unknown-unknown ",
-    ),
-    ("cfg(any())", ""),
-    (
-        "cfg(all())",
-        "x86_64-unknown-linux-gnu x86_64-pc-windows-msvc x86_64-apple-darwin wasm32-unknown-unknown ",
-    ),
-    // what isn't an expression is a triple
-    ("cfg(unix", ""),
-    ("unix", ""),
-    ("", ""),
-];
+static HELD: &str = r#"
+cfg(windows) => x86_64-pc-windows-msvc
+cfg(unix) => x86_64-unknown-linux-gnu x86_64-apple-darwin
+cfg(target_arch = "x86") =>
+cfg(target_arch = "x86_64") => x86_64-unknown-linux-gnu x86_64-pc-windows-msvc x86_64-apple-darwin
+x86_64-pc-windows-msvc => x86_64-pc-windows-msvc
+x86_64-unknown-linux-gnu => x86_64-unknown-linux-gnu
+cfg(not(unix)) => x86_64-pc-windows-msvc wasm32-unknown-unknown
+cfg(all(unix, target_os = "macos")) => x86_64-apple-darwin
+cfg(any(windows, target_family = "wasm")) => x86_64-pc-windows-msvc wasm32-unknown-unknown
+// what rustc prints holds, whatever the profile of the build
+cfg(debug_assertions) => x86_64-unknown-linux-gnu x86_64-pc-windows-msvc x86_64-apple-darwin wasm32-unknown-unknown
+cfg(target_feature = "sse3") => x86_64-pc-windows-msvc x86_64-apple-darwin
+cfg(panic = "abort") => wasm32-unknown-unknown
+cfg(target_env = "") => x86_64-apple-darwin wasm32-unknown-unknown
+cfg(target_has_atomic = "128") => x86_64-pc-windows-msvc x86_64-apple-darwin
+// a key is no word, and a pair isn't compared by its key or by its string alone
+cfg(target_os) =>
+cfg(unix = "") =>
+cfg(target_os = "unix") =>
+cfg(true) => x86_64-unknown-linux-gnu x86_64-pc-windows-msvc x86_64-apple-darwin wasm32-unknown-unknown
+cfg(any()) =>
+cfg(all()) => x86_64-unknown-linux-gnu x86_64-pc-windows-msvc x86_64-apple-darwin wasm32-unknown-unknown
+// what isn't an expression is a triple
+cfg(unix =>
+unix =>
+ =>
+"#;
 
 /// Machines, and after a bar the target text of a dependency, if it has one; and whether it passes on some of them.
-static PASSED: &[Row] = &[
-    ("linux windows|cfg(windows)", "true"),
-    ("windows linux|cfg(windows)", "true"),
-    ("linux darwin|cfg(windows)", "false"),
-    // no machine alone makes it true
-    ("linux windows|cfg(all(unix, windows))", "false"),
-    ("linux windows|cfg(not(all(unix, windows)))", "true"),
-    ("linux|", "false"),
-    ("|cfg(all())", "false"),
-    ("|cfg(unix)", "false"),
-    ("linux", "true"),
-    ("", "true"),
-];
+static PASSED: &str = "
+linux windows|cfg(windows) => true
+windows linux|cfg(windows) => true
+linux darwin|cfg(windows) => false
+// no machine alone makes it true
+linux windows|cfg(all(unix, windows)) => false
+linux windows|cfg(not(all(unix, windows))) => true
+linux| => false
+|cfg(all()) => false
+|cfg(unix) => false
+linux => true
+ => true
+";
 
 /// JSON of a target's kinds and of what else counts, and after a bar the flags; what the target is, and in which modes it is asked
 /// for, has dev dependencies and runs programs.
-static ASKED: &[Row] = &[
-    // where no kind is asked for, libraries and programs are
-    (
-        r#""kind":["lib"]|"#,
-        "library linkable build; tests use dev ",
-    ),
-    (r#""kind":["bin"]|"#, "build; tests use dev "),
-    (r#""kind":["example"]|"#, "; builds use dev tests use dev "),
-    (
-        r#""kind":["test"]|"#,
-        "; builds use dev tests use dev tests run ",
-    ),
-    (r#""kind":["bench"]|"#, "; tests use dev tests run "),
-    (r#""kind":["custom-build"]|"#, "script ; tests use dev "),
-    // forms of a library
-    (r#""kind":["cdylib"]|"#, "library build; tests use dev "),
-    (r#""kind":["staticlib"]|"#, "library build; tests use dev "),
-    (
-        r#""kind":["staticlib","rlib"]|"#,
-        "library linkable build; tests use dev ",
-    ),
-    (
-        r#""kind":["dylib"]|"#,
-        "library linkable build; tests use dev ",
-    ),
-    (
-        r#""kind":["proc-macro"]|"#,
-        "library linkable macro build; tests use dev ",
-    ),
-    // an example may be a procedural macro, and a program isn't one whatever its forms
-    (
-        r#""kind":["example"],"crate_types":["proc-macro"]|examples"#,
-        "macro build; builds use dev tests use dev ",
-    ),
-    (
-        r#""kind":["bin"],"crate_types":["proc-macro"]|"#,
-        "build; tests use dev ",
-    ),
-    // each flag asks for its kind alone
-    (
-        r#""kind":["lib"]|lib"#,
-        "library linkable build; tests use dev ",
-    ),
-    (r#""kind":["bin"]|lib"#, "; tests use dev "),
-    (r#""kind":["bin"]|bins"#, "build; tests use dev "),
-    (
-        r#""kind":["lib"]|bins"#,
-        "library linkable ; tests use dev ",
-    ),
-    (
-        r#""kind":["example"]|examples"#,
-        "build; builds use dev tests use dev ",
-    ),
-    // `--tests` asks for what has `test = true`
-    (
-        r#""kind":["lib"],"test":true|tests"#,
-        "library linkable test; tests use dev ",
-    ),
-    (
-        r#""kind":["lib"],"test":false|tests"#,
-        "library linkable ; tests use dev ",
-    ),
-    (
-        r#""kind":["test"],"test":true|tests"#,
-        "test; builds use dev tests use dev tests run ",
-    ),
-    (
-        r#""kind":["example"],"test":true|tests"#,
-        "test; builds use dev tests use dev ",
-    ),
-    (
-        r#""kind":["bench"],"test":false|tests"#,
-        "; tests use dev tests run ",
-    ),
-    // `--benches` asks for libraries, programs and benchmarks
-    (
-        r#""kind":["bench"],"test":false|benches"#,
-        "test; tests use dev tests run ",
-    ),
-    (
-        r#""kind":["lib"],"test":false|benches"#,
-        "library linkable test; tests use dev ",
-    ),
-    (
-        r#""kind":["bin"],"test":false|benches"#,
-        "test; tests use dev ",
-    ),
-    (
-        r#""kind":["test"],"test":true|benches"#,
-        "; builds use dev tests use dev tests run ",
-    ),
-    // `--all-targets` asks for all, in both modes
-    (
-        r#""kind":["lib"],"test":true|all"#,
-        "library linkable build test; tests use dev ",
-    ),
-    (
-        r#""kind":["bin"],"test":false|all"#,
-        "build test; tests use dev ",
-    ),
-    (
-        r#""kind":["example"],"test":false|all"#,
-        "build; builds use dev tests use dev ",
-    ),
-    (
-        r#""kind":["test"],"test":true|all"#,
-        "test; builds use dev tests use dev tests run ",
-    ),
-    (
-        r#""kind":["bench"],"test":false|all"#,
-        "test; tests use dev tests run ",
-    ),
-];
+static ASKED: &str = r#"
+// where no kind is asked for, libraries and programs are
+"kind":["lib"]| => library linkable build; tests use dev
+"kind":["bin"]| => build; tests use dev
+"kind":["example"]| => ; builds use dev tests use dev
+"kind":["test"]| => ; builds use dev tests use dev tests run
+"kind":["bench"]| => ; tests use dev tests run
+"kind":["custom-build"]| => script ; tests use dev
+// forms of a library
+"kind":["cdylib"]| => library build; tests use dev
+"kind":["staticlib"]| => library build; tests use dev
+"kind":["staticlib","rlib"]| => library linkable build; tests use dev
+"kind":["dylib"]| => library linkable build; tests use dev
+"kind":["proc-macro"]| => library linkable macro build; tests use dev
+// an example may be a procedural macro, and a program isn't one whatever its forms
+"kind":["example"],"crate_types":["proc-macro"]|examples => macro build; builds use dev tests use dev
+"kind":["bin"],"crate_types":["proc-macro"]| => build; tests use dev
+// each flag asks for its kind alone
+"kind":["lib"]|lib => library linkable build; tests use dev
+"kind":["bin"]|lib => ; tests use dev
+"kind":["bin"]|bins => build; tests use dev
+"kind":["lib"]|bins => library linkable ; tests use dev
+"kind":["example"]|examples => build; builds use dev tests use dev
+// `--tests` asks for what has `test = true`
+"kind":["lib"],"test":true|tests => library linkable test; tests use dev
+"kind":["lib"],"test":false|tests => library linkable ; tests use dev
+"kind":["test"],"test":true|tests => test; builds use dev tests use dev tests run
+"kind":["example"],"test":true|tests => test; builds use dev tests use dev
+"kind":["bench"],"test":false|tests => ; tests use dev tests run
+// `--benches` asks for libraries, programs and benchmarks
+"kind":["bench"],"test":false|benches => test; tests use dev tests run
+"kind":["lib"],"test":false|benches => library linkable test; tests use dev
+"kind":["bin"],"test":false|benches => test; tests use dev
+"kind":["test"],"test":true|benches => ; builds use dev tests use dev tests run
+// `--all-targets` asks for all, in both modes
+"kind":["lib"],"test":true|all => library linkable build test; tests use dev
+"kind":["bin"],"test":false|all => build test; tests use dev
+"kind":["example"],"test":false|all => build; builds use dev tests use dev
+"kind":["test"],"test":true|all => test; builds use dev tests use dev tests run
+"kind":["bench"],"test":false|all => test; tests use dev tests run
+"#;
 
 /// Flags, and whether they ask for some kind of target, and for one that has dev dependencies.
-static FLAGS: &[Row] = &[
-    ("", ""),
-    ("lib", "kinds "),
-    ("bins", "kinds "),
-    ("lib bins", "kinds "),
-    ("examples", "kinds dev "),
-    ("tests", "kinds dev "),
-    ("benches", "kinds dev "),
-    ("all", "kinds dev "),
-];
+static FLAGS: &str = "
+ =>
+lib => kinds
+bins => kinds
+lib bins => kinds
+examples => kinds dev
+tests => kinds dev
+benches => kinds dev
+all => kinds dev
+";
 
 /// The machine of a line.
 fn machine_of(alloc: Global, line: &str) -> Result<Machine, MachineError> {
@@ -401,17 +290,17 @@ impl Tell for Flags {
 
 #[test]
 fn reads_what_rustc_prints_of_a_machine_or_names_the_line(rt: HostRuntime) -> Result<(), Fail> {
-    hold::<Described>(rt.alloc(), PRINTED)
+    hold_lines::<Described>(rt.alloc(), PRINTED)
 }
 
 #[test]
 fn target_texts_hold_at_machines(rt: HostRuntime) -> Result<(), Fail> {
-    hold::<Held>(rt.alloc(), HELD)?;
-    hold::<Passed>(rt.alloc(), PASSED)
+    hold_lines::<Held>(rt.alloc(), HELD)?;
+    hold_lines::<Passed>(rt.alloc(), PASSED)
 }
 
 #[test]
 fn targets_are_asked_for_by_their_kinds(rt: HostRuntime) -> Result<(), Fail> {
-    hold::<Flags>(rt.alloc(), FLAGS)?;
-    hold::<Asked>(rt.alloc(), ASKED)
+    hold_lines::<Flags>(rt.alloc(), FLAGS)?;
+    hold_lines::<Asked>(rt.alloc(), ASKED)
 }

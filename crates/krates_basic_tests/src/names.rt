@@ -2,53 +2,53 @@
 
 use krates_cm::{CrateType, Edition, TargetKind, UnknownName};
 use krates_cm_json::ToValue;
-use krates_samples::table::{Row, Tell, hold};
+use krates_samples::table::{Tell, hold_lines};
 use krates_text::text::Text;
 use std::fmt::Debug;
 use std::str::FromStr;
 use std::test::Fail;
 
 /// Texts, and the kind of a target that each names, with what is written for it; or why it names none.
-static KINDS: &[Row] = &[
-    ("bench", r#"Bench "bench""#),
-    ("bin", r#"Bin "bin""#),
-    ("custom-build", r#"CustomBuild "custom-build""#),
-    ("cdylib", r#"CDyLib "cdylib""#),
-    ("dylib", r#"DyLib "dylib""#),
-    ("example", r#"Example "example""#),
-    ("lib", r#"Lib "lib""#),
-    ("proc-macro", r#"ProcMacro "proc-macro""#),
-    ("rlib", r#"RLib "rlib""#),
-    ("staticlib", r#"StaticLib "staticlib""#),
-    ("test", r#"Test "test""#),
-    ("", "unknown target kind"),
-    ("library", "unknown target kind"),
-    ("Lib", "unknown target kind"),
-];
+static KINDS: &str = r#"
+bench => Bench "bench"
+bin => Bin "bin"
+custom-build => CustomBuild "custom-build"
+cdylib => CDyLib "cdylib"
+dylib => DyLib "dylib"
+example => Example "example"
+lib => Lib "lib"
+proc-macro => ProcMacro "proc-macro"
+rlib => RLib "rlib"
+staticlib => StaticLib "staticlib"
+test => Test "test"
+ => unknown target kind
+library => unknown target kind
+Lib => unknown target kind
+"#;
 
 /// The same of the type of a crate.
-static TYPES: &[Row] = &[
-    ("bin", r#"Bin "bin""#),
-    ("cdylib", r#"CDyLib "cdylib""#),
-    ("dylib", r#"DyLib "dylib""#),
-    ("lib", r#"Lib "lib""#),
-    ("proc-macro", r#"ProcMacro "proc-macro""#),
-    ("rlib", r#"RLib "rlib""#),
-    ("staticlib", r#"StaticLib "staticlib""#),
-    ("", "unknown crate type"),
-    ("test", "unknown crate type"),
-];
+static TYPES: &str = r#"
+bin => Bin "bin"
+cdylib => CDyLib "cdylib"
+dylib => DyLib "dylib"
+lib => Lib "lib"
+proc-macro => ProcMacro "proc-macro"
+rlib => RLib "rlib"
+staticlib => StaticLib "staticlib"
+ => unknown crate type
+test => unknown crate type
+"#;
 
 /// The same of an edition.
-static EDITIONS: &[Row] = &[
-    ("2015", r#"E2015 "2015""#),
-    ("2018", r#"E2018 "2018""#),
-    ("2021", r#"E2021 "2021""#),
-    ("2024", r#"E2024 "2024""#),
-    ("", "unknown edition"),
-    ("2020", "unknown edition"),
-    ("E2021", "unknown edition"),
-];
+static EDITIONS: &str = r#"
+2015 => E2015 "2015"
+2018 => E2018 "2018"
+2021 => E2021 "2021"
+2024 => E2024 "2024"
+ => unknown edition
+2020 => unknown edition
+E2021 => unknown edition
+"#;
 
 /// Adds the value that was read, with what is written for it, or why none was.
 fn push_named<T: ToValue + Debug + Drop>(
@@ -94,7 +94,7 @@ impl Tell for Year {
 
 #[test]
 fn each_name_is_read_and_written(rt: HostRuntime) -> Result<(), Fail> {
-    hold::<Kind>(rt.alloc(), KINDS)?;
-    hold::<Type>(rt.alloc(), TYPES)?;
-    hold::<Year>(rt.alloc(), EDITIONS)
+    hold_lines::<Kind>(rt.alloc(), KINDS)?;
+    hold_lines::<Type>(rt.alloc(), TYPES)?;
+    hold_lines::<Year>(rt.alloc(), EDITIONS)
 }

@@ -3,7 +3,7 @@
 use krates_cm::Package;
 use krates_cm_json::FromValue;
 use krates_samples::failures::Failures;
-use krates_samples::table::{Question, Row, compare};
+use krates_samples::table::{Question, compare, row_of, trimmed};
 use serde_json::Value;
 use std::alloc::Global;
 use std::fmt::Debug;
@@ -31,11 +31,17 @@ pub(crate) fn told_within<Q: Question>(
 pub(crate) fn hold_within<Q: Question>(
     alloc: Global,
     around: (&str, &str),
-    rows: &[Row],
+    table: &str,
 ) -> Result<(), Fail> {
     let mut failures = Failures::new(alloc);
-    for &(line, answer) in rows {
-        failures.compare(line, told_within::<Q>(alloc, around, line), answer)?;
+    for line in table.lines() {
+        if let Some((line, answer)) = row_of(line) {
+            failures.compare(
+                line,
+                trimmed(alloc, told_within::<Q>(alloc, around, line)),
+                answer,
+            )?;
+        }
     }
     failures.reported()
 }

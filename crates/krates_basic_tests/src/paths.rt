@@ -1,15 +1,15 @@
 //! Paths: their components, their parents, and how they are joined and compared.
 
-use krates_samples::table::{Row, Tell, hold};
+use krates_samples::table::{Tell, hold_lines};
 use krates_text::path::{components, ends_with, join, parent, same};
 use krates_text::text::Text;
 use std::test::Fail;
 
 /// A path and its components, in order, each after a bar.
-static COMPONENTS: &[Row] = &[
-    ("/D:/a//krates/./tests/", "|/|D:|a|krates|tests"),
-    ("./a/.././.b", "|.|a|..|.b"),
-];
+static COMPONENTS: &str = "
+/D:/a//krates/./tests/ => |/|D:|a|krates|tests
+./a/.././.b => |.|a|..|.b
+";
 
 /// The components of a path.
 struct Components;
@@ -24,18 +24,18 @@ impl Tell for Components {
 }
 
 /// A path and its parent.
-static PARENTS: &[Row] = &[
-    ("/w/a/Cargo.toml", r#"Some("/w/a")"#),
-    ("/w/./a//Cargo.toml/.", r#"Some("/w/./a")"#),
-    ("/w", r#"Some("/")"#),
-    ("//./w/", r#"Some("/")"#),
-    ("Cargo.toml", r#"Some("")"#),
-    ("./a", r#"Some(".")"#),
-    (".", r#"Some("")"#),
-    ("/", "None"),
-    ("//.", "None"),
-    ("", "None"),
-];
+static PARENTS: &str = r#"
+/w/a/Cargo.toml => Some("/w/a")
+/w/./a//Cargo.toml/. => Some("/w/./a")
+/w => Some("/")
+//./w/ => Some("/")
+Cargo.toml => Some("")
+./a => Some(".")
+. => Some("")
+/ => None
+//. => None
+ => None
+"#;
 
 /// The parent of a path.
 struct Parent;
@@ -48,13 +48,13 @@ impl Tell for Parent {
 }
 
 /// A base, a bar, a path that is meant there, and the two joined.
-static JOINED: &[Row] = &[
-    ("/w/a|LICENSE", "/w/a/LICENSE"),
-    ("/w/a|../L", "/w/a/../L"),
-    ("/w/a|/x", "/x"),
-    ("/w/|a", "/w/a"),
-    ("|R", "R"),
-];
+static JOINED: &str = "
+/w/a|LICENSE => /w/a/LICENSE
+/w/a|../L => /w/a/../L
+/w/a|/x => /x
+/w/|a => /w/a
+|R => R
+";
 
 /// A base and a path, joined.
 struct Joined;
@@ -69,15 +69,15 @@ impl Tell for Joined {
 }
 
 /// Two paths with a bar between them, whether the first ends with the components of the second, and whether the two are the same.
-static COMPARED: &[Row] = &[
-    ("/w/./c//Cargo.toml|c/Cargo.toml", "(true, false)"),
-    ("/w|", "(true, false)"),
-    ("/w/MyCargo.toml|Cargo.toml", "(false, false)"),
-    ("/w/c|/c", "(false, false)"),
-    ("/w/./c//Cargo.toml|/w/c/Cargo.toml/", "(true, true)"),
-    ("/w/c|w/c", "(true, false)"),
-    ("./c|c", "(true, false)"),
-];
+static COMPARED: &str = "
+/w/./c//Cargo.toml|c/Cargo.toml => (true, false)
+/w| => (true, false)
+/w/MyCargo.toml|Cargo.toml => (false, false)
+/w/c|/c => (false, false)
+/w/./c//Cargo.toml|/w/c/Cargo.toml/ => (true, true)
+/w/c|w/c => (true, false)
+./c|c => (true, false)
+";
 
 /// How two paths compare.
 struct Compared;
@@ -92,8 +92,8 @@ impl Tell for Compared {
 
 #[test]
 fn components_parents_joined_and_compared(rt: HostRuntime) -> Result<(), Fail> {
-    hold::<Components>(rt.alloc(), COMPONENTS)?;
-    hold::<Parent>(rt.alloc(), PARENTS)?;
-    hold::<Joined>(rt.alloc(), JOINED)?;
-    hold::<Compared>(rt.alloc(), COMPARED)
+    hold_lines::<Components>(rt.alloc(), COMPONENTS)?;
+    hold_lines::<Parent>(rt.alloc(), PARENTS)?;
+    hold_lines::<Joined>(rt.alloc(), JOINED)?;
+    hold_lines::<Compared>(rt.alloc(), COMPARED)
 }

@@ -8,7 +8,7 @@ use krates_cm::{
 };
 use krates_cm_json::FromValue;
 use krates_samples::stand_in::DOCUMENT as TWO_PACKAGES;
-use krates_samples::table::{Row, Tell, compare, hold};
+use krates_samples::table::{Tell, compare, hold_lines};
 use krates_text::text::Text;
 use std::alloc::{AllocError, Global};
 use std::fmt::Debug;
@@ -23,72 +23,33 @@ const DOCUMENT: (&str, &str) = (
 );
 
 /// The rest of a document, and its root, the packages of the workspace, the default ones, and the package `B`.
-static ANSWERS: &[Row] = &[
-    (
-        r#""workspace_root":"/w""#,
-        r#"root None, members ["a"], default None, B is Some("b")"#,
-    ),
-    (
-        r#""workspace_root":"/w/b/","workspace_default_members":["B"]"#,
-        r#"root Some("b"), members ["a"], default Some(["b"]), B is Some("b")"#,
-    ),
-    (
-        r#""workspace_root":"/w/b","resolve":null,"workspace_default_members":["B","A","D"]"#,
-        r#"root Some("b"), members ["a"], default Some(["a", "b"]), B is Some("b")"#,
-    ),
-    (
-        r#""workspace_root":"/w/b","resolve":{"nodes":[],"root":"A"},"workspace_default_members":[]"#,
-        r#"root Some("a"), members ["a"], default Some([]), B is Some("b")"#,
-    ),
-    (
-        r#""workspace_root":"/w/b","resolve":{"nodes":[],"root":null}"#,
-        r#"root None, members ["a"], default None, B is Some("b")"#,
-    ),
-    (
-        r#""workspace_root":"/w/b","resolve":{"nodes":[],"root":"D"}"#,
-        r#"root None, members ["a"], default None, B is Some("b")"#,
-    ),
-    // of two packages of one id the first, and both where several are meant
-    (
-        r#""workspace_root":"/w/b","resolve":{"nodes":[],"root":"C"},"workspace_default_members":["C"]"#,
-        r#"root Some("c"), members ["a"], default Some(["c", "d"]), B is Some("b")"#,
-    ),
-    // only a manifest that is called so is that of the workspace's root
-    (
-        r#""workspace_root":"/w/c""#,
-        r#"root None, members ["a"], default None, B is Some("b")"#,
-    ),
-];
+static ANSWERS: &str = r#"
+"workspace_root":"/w" => root None, members ["a"], default None, B is Some("b")
+"workspace_root":"/w/b/","workspace_default_members":["B"] => root Some("b"), members ["a"], default Some(["b"]), B is Some("b")
+"workspace_root":"/w/b","resolve":null,"workspace_default_members":["B","A","D"] => root Some("b"), members ["a"], default Some(["a", "b"]), B is Some("b")
+"workspace_root":"/w/b","resolve":{"nodes":[],"root":"A"},"workspace_default_members":[] => root Some("a"), members ["a"], default Some([]), B is Some("b")
+"workspace_root":"/w/b","resolve":{"nodes":[],"root":null} => root None, members ["a"], default None, B is Some("b")
+"workspace_root":"/w/b","resolve":{"nodes":[],"root":"D"} => root None, members ["a"], default None, B is Some("b")
+// of two packages of one id the first, and both where several are meant
+"workspace_root":"/w/b","resolve":{"nodes":[],"root":"C"},"workspace_default_members":["C"] => root Some("c"), members ["a"], default Some(["c", "d"]), B is Some("b")
+// only a manifest that is called so is that of the workspace's root
+"workspace_root":"/w/c" => root None, members ["a"], default None, B is Some("b")
+"#;
 
 /// Further keys of the document of two packages, of which `a` is the member; and the packages of the workspace and the default ones.
-static WORKSPACES: &[Row] = &[
-    ("", r#"members ["a"], default None"#),
-    (
-        r#","workspace_default_members":["path+file:///w/b#0.1.0"]"#,
-        r#"members ["a"], default Some(["b"])"#,
-    ),
-];
+static WORKSPACES: &str = r#"
+ => members ["a"], default None
+,"workspace_default_members":["path+file:///w/b#0.1.0"] => members ["a"], default Some(["b"])
+"#;
 
 /// The manifest of a package with its licence file and its readme, and where these are.
-static FILES: &[Row] = &[
-    (
-        r#""manifest_path":"/w/a/Cargo.toml","license_file":"LICENSE","readme":"R""#,
-        r#"Some("/w/a/LICENSE"), Some("/w/a/R")"#,
-    ),
-    (
-        r#""manifest_path":"/w/a/Cargo.toml","license_file":"../L""#,
-        r#"Some("/w/a/../L"), None"#,
-    ),
-    (
-        r#""manifest_path":"/w/a/Cargo.toml","license_file":"/x""#,
-        r#"Some("/x"), None"#,
-    ),
-    (
-        r#""manifest_path":"Cargo.toml","readme":"R""#,
-        r#"None, Some("R")"#,
-    ),
-    (r#""manifest_path":"/","readme":"R""#, r#"None, Some("/R")"#),
-];
+static FILES: &str = r#"
+"manifest_path":"/w/a/Cargo.toml","license_file":"LICENSE","readme":"R" => Some("/w/a/LICENSE"), Some("/w/a/R")
+"manifest_path":"/w/a/Cargo.toml","license_file":"../L" => Some("/w/a/../L"), None
+"manifest_path":"/w/a/Cargo.toml","license_file":"/x" => Some("/x"), None
+"manifest_path":"Cargo.toml","readme":"R" => None, Some("R")
+"manifest_path":"/","readme":"R" => None, Some("/R")
+"#;
 
 /// What surrounds the rows above.
 const PACKAGE: (&str, &str) = (
@@ -100,54 +61,45 @@ const PACKAGE: (&str, &str) = (
 const TARGET: (&str, &str) = (r#"{"name":"t","src_path":"s","kind":["#, "]}");
 
 /// The kinds of a target, and which tests say yes.
-static KINDS: &[Row] = &[
-    (r#""lib""#, "lib "),
-    (r#""rlib","dylib","cdylib","staticlib""#, ""),
-    (r#""bin""#, "bin "),
-    (r#""example""#, "example "),
-    (r#""test""#, "test "),
-    (r#""bench""#, "bench "),
-    (r#""custom-build""#, "custom-build "),
-    (r#""proc-macro""#, "proc-macro "),
-    (r#""test","lib","bin""#, "lib bin test "),
-];
+static KINDS: &str = r#"
+"lib" => lib
+"rlib","dylib","cdylib","staticlib" =>
+"bin" => bin
+"example" => example
+"test" => test
+"bench" => bench
+"custom-build" => custom-build
+"proc-macro" => proc-macro
+"test","lib","bin" => lib bin test
+"#;
 
 /// The source of a package as JSON, and of what kind it is, and whether the package is local.
-static SOURCES: &[Row] = &[
-    // as cargo writes a path dependency, and a member
-    ("null", "None, local: true"),
-    // as it writes crates.io, by either protocol
-    (
-        r#""registry+https://github.com/rust-lang/crates.io-index""#,
-        "Some(Registry), local: false",
-    ),
-    (
-        r#""sparse+https://index.crates.io/""#,
-        "Some(SparseRegistry), local: false",
-    ),
-    (
-        r#""git+https://github.com/x/y?branch=a#abc""#,
-        "Some(Git), local: false",
-    ),
-    // as an id has it
-    (r#""path+file:///w/x""#, "Some(Path), local: true"),
-    // only the first plus counts
-    (r#""git+path+x""#, "Some(Git), local: false"),
-    (r#""path+git+x""#, "Some(Path), local: true"),
-    (r#""x+path+y""#, "Some(Other), local: false"),
-    // the word is whole, and in small letters, and may have nothing after it
-    (r#""gitx+https://h""#, "Some(Other), local: false"),
-    (r#""gi+https://h""#, "Some(Other), local: false"),
-    (r#"" path+file:///w/x""#, "Some(Other), local: false"),
-    (r#""Path+file:///w/x""#, "Some(Other), local: false"),
-    (r#""+x""#, "Some(Other), local: false"),
-    (r#""sparse+""#, "Some(SparseRegistry), local: false"),
-    // no plus
-    (r#""file:///x""#, "Some(Other), local: false"),
-    (r#""registry""#, "Some(Other), local: false"),
-    (r#""path""#, "Some(Other), local: false"),
-    (r#""""#, "Some(Other), local: false"),
-];
+static SOURCES: &str = r#"
+// as cargo writes a path dependency, and a member
+null => None, local: true
+// as it writes crates.io, by either protocol
+"registry+https://github.com/rust-lang/crates.io-index" => Some(Registry), local: false
+"sparse+https://index.crates.io/" => Some(SparseRegistry), local: false
+"git+https://github.com/x/y?branch=a#abc" => Some(Git), local: false
+// as an id has it
+"path+file:///w/x" => Some(Path), local: true
+// only the first plus counts
+"git+path+x" => Some(Git), local: false
+"path+git+x" => Some(Path), local: true
+"x+path+y" => Some(Other), local: false
+// the word is whole, and in small letters, and may have nothing after it
+"gitx+https://h" => Some(Other), local: false
+"gi+https://h" => Some(Other), local: false
+" path+file:///w/x" => Some(Other), local: false
+"Path+file:///w/x" => Some(Other), local: false
+"+x" => Some(Other), local: false
+"sparse+" => Some(SparseRegistry), local: false
+// no plus
+"file:///x" => Some(Other), local: false
+"registry" => Some(Other), local: false
+"path" => Some(Other), local: false
+"" => Some(Other), local: false
+"#;
 
 /// Adds the names of packages, as a list.
 fn push_names(told: &mut Text, packages: &[&Package]) {
@@ -262,7 +214,7 @@ impl Tell for Origin {
 
 #[test]
 fn what_documents_packages_targets_and_sources_answer(rt: HostRuntime) -> Result<(), Fail> {
-    hold::<Origin>(rt.alloc(), SOURCES)?;
+    hold_lines::<Origin>(rt.alloc(), SOURCES)?;
     let document = TWO_PACKAGES.strip_suffix("}").unwrap_or("");
     hold_within::<Workspace>(rt.alloc(), (document, "}"), WORKSPACES)?;
     hold_within::<AnswersOf<Metadata>>(rt.alloc(), DOCUMENT, ANSWERS)?;
@@ -353,16 +305,10 @@ fn ordered(alloc: Global) -> Result<String, AllocError> {
 }
 
 /// Sources, and whether each is crates.io.
-static CRATES_IO: &[Row] = &[
-    (
-        "registry+https://github.com/rust-lang/crates.io-index",
-        "true",
-    ),
-    (
-        "registry+https://github.com/rust-lang/crates.io-index/",
-        "false",
-    ),
-];
+static CRATES_IO: &str = "
+registry+https://github.com/rust-lang/crates.io-index => true
+registry+https://github.com/rust-lang/crates.io-index/ => false
+";
 
 /// Whether the source of a text is crates.io.
 struct IsCratesIo;
@@ -381,5 +327,5 @@ fn printed_compared_and_known_sources(rt: HostRuntime) -> Result<(), Fail> {
     let expected = "i s normal dev build 2015 2024 2018";
     compare("printed", printed(alloc)?.as_str(), expected)?;
     compare("ordered", ordered(alloc)?.as_str(), "(true, true, true)")?;
-    hold::<IsCratesIo>(alloc, CRATES_IO)
+    hold_lines::<IsCratesIo>(alloc, CRATES_IO)
 }

@@ -4,51 +4,42 @@
 use crate::ids::kid;
 use krates_cm::{Error as MetadataError, ReadError, UnknownName};
 use krates_ids::{Error, Kid, Lost};
-use krates_samples::table::{Question, Row, Tell, compare, hold};
+use krates_samples::table::{Question, Tell, compare, hold_lines};
 use krates_text::text::Text;
 use std::alloc::Global;
 use std::test::Fail;
 use std::{io, str};
 
 /// Refusals of a build by their names, and what each prints.
-static OF_BUILDS: &[Row] = &[
-    ("NoResolveGraph", "no resolution graph was provided"),
-    ("Metadata", "features given twice"),
-    ("NoRootKrates", "no root crates available"),
-    ("InvalidId", "invalid package id: a b"),
-    ("Doubled", "doubled id: path+file:///w/a#0.1.0"),
-    ("Package", "lost package: path+file:///w/a#0.1.0"),
-    ("Node", "lost node: path+file:///w/a#0.1.0"),
-    ("Feature", "lost feature: f of path+file:///w/a#0.1.0"),
-    (
-        "Undeclared",
-        "undeclared dependency: path+file:///w/b#0.1.0 of path+file:///w/a#0.1.0",
-    ),
-    ("TooMany", "too many nodes or edges"),
-    ("Memory", "out of memory"),
-];
+static OF_BUILDS: &str = "
+NoResolveGraph => no resolution graph was provided
+Metadata => features given twice
+NoRootKrates => no root crates available
+InvalidId => invalid package id: a b
+Doubled => doubled id: path+file:///w/a#0.1.0
+Package => lost package: path+file:///w/a#0.1.0
+Node => lost node: path+file:///w/a#0.1.0
+Feature => lost feature: f of path+file:///w/a#0.1.0
+Undeclared => undeclared dependency: path+file:///w/b#0.1.0 of path+file:///w/a#0.1.0
+TooMany => too many nodes or edges
+Memory => out of memory
+";
 
 /// Refusals of metadata by their names, and what each prints.
-static OF_METADATA: &[Row] = &[
-    (
-        "CargoMetadata",
-        "`cargo metadata` exited with an error: no manifest",
-    ),
-    (
-        "NoJson",
-        "could not find any json in the output of `cargo metadata`",
-    ),
-    ("FeaturesTwice", "features given twice"),
-    ("NoManifestParent", "manifest path without parent"),
-    ("Memory", "out of memory"),
-];
+static OF_METADATA: &str = "
+CargoMetadata => `cargo metadata` exited with an error: no manifest
+NoJson => could not find any json in the output of `cargo metadata`
+FeaturesTwice => features given twice
+NoManifestParent => manifest path without parent
+Memory => out of memory
+";
 
 /// Those whose cause comes from the library, and how what each prints begins.
-static OF_CAUSES: &[Row] = &[
-    ("Io", "failed to start `cargo metadata`: "),
-    ("Utf8", "cannot convert the stdout of `cargo metadata`: "),
-    ("ErrUtf8", "cannot convert the stderr of `cargo metadata`: "),
-];
+static OF_CAUSES: &str = "
+Io => failed to start `cargo metadata`:
+Utf8 => cannot convert the stdout of `cargo metadata`:
+ErrUtf8 => cannot convert the stderr of `cargo metadata`:
+";
 
 /// The failure where there is no refusal of this name.
 fn no_refusal(name: &str) -> Fail {
@@ -154,9 +145,9 @@ impl Tell for Begun {
 
 #[test]
 fn refusals_of_builds_of_metadata_and_of_names(rt: HostRuntime) -> Result<(), Fail> {
-    hold::<OfBuild>(rt.alloc(), OF_BUILDS)?;
-    hold::<OfMetadata>(rt.alloc(), OF_METADATA)?;
-    hold::<Begun>(rt.alloc(), OF_CAUSES)?;
+    hold_lines::<OfBuild>(rt.alloc(), OF_BUILDS)?;
+    hold_lines::<OfMetadata>(rt.alloc(), OF_METADATA)?;
+    hold_lines::<Begun>(rt.alloc(), OF_CAUSES)?;
     let told = format!(in rt.alloc();
         "{} | {} | {} | {}",
         UnknownName::TargetKind,

@@ -2,96 +2,57 @@
 
 use crate::packages::package;
 use krates_ids::PkgSpec;
-use krates_samples::table::{Question, Row, Tell, hold};
+use krates_samples::table::{Question, Row, Tell, hold, hold_lines};
 use krates_text::text::Text;
 use std::test::Fail;
 
 /// Texts, and the name, version and url of the specification that each is.
-static READ: &[Row] = &[
-    ("", ", any version, any url"),
-    ("bitflags", "bitflags, any version, any url"),
-    ("bitflags:1.0.4", "bitflags, 1.0.4, any url"),
-    ("bitflags@1.0.4", "bitflags, 1.0.4, any url"),
-    ("@1.0.4-rc.1+build", ", 1.0.4-rc.1+build, any url"),
-    (
-        "https://github.com/rust-lang/cargo",
-        "cargo, any version, https://github.com/rust-lang/cargo",
-    ),
-    (
-        "https://github.com/rust-lang/cargo#0.33.0",
-        "cargo, 0.33.0, https://github.com/rust-lang/cargo",
-    ),
-    (
-        "https://github.com/rust-lang/crates.io-index#bitflags",
-        "bitflags, any version, https://github.com/rust-lang/crates.io-index",
-    ),
-    (
-        "https://github.com/rust-lang/cargo#crates-io:0.21.0",
-        "crates-io, 0.21.0, https://github.com/rust-lang/cargo",
-    ),
-    (
-        "https://github.com/rust-lang/cargo#crates-io@0.21.0",
-        "crates-io, 0.21.0, https://github.com/rust-lang/cargo",
-    ),
-    ("crates.io/foo", "foo, any version, cargo://crates.io/foo"),
-    ("crates.io/foo#1.2.3", "foo, 1.2.3, cargo://crates.io/foo"),
-    (
-        "https://x.org/7zip",
-        "7zip, any version, https://x.org/7zip",
-    ),
-    (
-        "https://x.org/7zip#7zip:1.0.0",
-        "7zip, 1.0.0, https://x.org/7zip",
-    ),
-    ("https://x.org/a#@1.0.0", ", 1.0.0, https://x.org/a"),
-];
+static READ: &str = "
+ => , any version, any url
+bitflags => bitflags, any version, any url
+bitflags:1.0.4 => bitflags, 1.0.4, any url
+bitflags@1.0.4 => bitflags, 1.0.4, any url
+@1.0.4-rc.1+build => , 1.0.4-rc.1+build, any url
+https://github.com/rust-lang/cargo => cargo, any version, https://github.com/rust-lang/cargo
+https://github.com/rust-lang/cargo#0.33.0 => cargo, 0.33.0, https://github.com/rust-lang/cargo
+https://github.com/rust-lang/crates.io-index#bitflags => bitflags, any version, https://github.com/rust-lang/crates.io-index
+https://github.com/rust-lang/cargo#crates-io:0.21.0 => crates-io, 0.21.0, https://github.com/rust-lang/cargo
+https://github.com/rust-lang/cargo#crates-io@0.21.0 => crates-io, 0.21.0, https://github.com/rust-lang/cargo
+crates.io/foo => foo, any version, cargo://crates.io/foo
+crates.io/foo#1.2.3 => foo, 1.2.3, cargo://crates.io/foo
+https://x.org/7zip => 7zip, any version, https://x.org/7zip
+https://x.org/7zip#7zip:1.0.0 => 7zip, 1.0.0, https://x.org/7zip
+https://x.org/a#@1.0.0 => , 1.0.0, https://x.org/a
+";
 
 /// Texts, and how the specification that each is prints.
-static PRINTED: &[Row] = &[
-    ("", ""),
-    ("bitflags", "bitflags"),
-    ("bitflags@1.0.4", "bitflags@1.0.4"),
-    ("bitflags:1.0.4", "bitflags@1.0.4"),
-    ("7zip", "7zip"),
-    ("@1.0.4-rc.1+build", "@1.0.4-rc.1+build"),
-    (
-        "https://github.com/rust-lang/cargo",
-        "https://github.com/rust-lang/cargo",
-    ),
-    (
-        "https://github.com/rust-lang/cargo#0.33.0-beta.1",
-        "https://github.com/rust-lang/cargo#0.33.0-beta.1",
-    ),
-    (
-        "https://github.com/rust-lang/crates.io-index#bitflags",
-        "https://github.com/rust-lang/crates.io-index#bitflags",
-    ),
-    (
-        "https://github.com/rust-lang/cargo#crates-io@0.21.0",
-        "https://github.com/rust-lang/cargo#crates-io@0.21.0",
-    ),
-    (
-        "https://github.com/rust-lang/cargo#crates-io:0.21.0",
-        "https://github.com/rust-lang/cargo#crates-io@0.21.0",
-    ),
-    // the last piece is left out where it is given as the name
-    ("https://x.org/b/a#a", "https://x.org/b/a"),
-    ("https://x.org/b/a#a@1.0.0", "https://x.org/b/a#1.0.0"),
-    // an earlier piece isn't, nor the end of the last
-    ("https://x.org/b/a#b", "https://x.org/b/a#b"),
-    (
-        "https://x.org/b/crates-io#io@1.0.0",
-        "https://x.org/b/crates-io#io@1.0.0",
-    ),
-    ("crates.io/foo", "cargo://crates.io/foo"),
-    ("crates.io/foo#1.2.3", "cargo://crates.io/foo#1.2.3"),
-    ("crates.io/foo#bar", "cargo://crates.io/foo#bar"),
-    ("https://x.org/7zip", "https://x.org/7zip"),
-    ("https://x.org/7zip#1.0.0", "https://x.org/7zip#1.0.0"),
-    ("https://x.org/7zip#7zip:1.0.0", "https://x.org/7zip#1.0.0"),
-    ("https://x.org/a#7zip@1.0.0", "https://x.org/a#7zip@1.0.0"),
-    ("https://x.org/a#@1.0.0", "https://x.org/a#@1.0.0"),
-];
+static PRINTED: &str = "
+ =>
+bitflags => bitflags
+bitflags@1.0.4 => bitflags@1.0.4
+bitflags:1.0.4 => bitflags@1.0.4
+7zip => 7zip
+@1.0.4-rc.1+build => @1.0.4-rc.1+build
+https://github.com/rust-lang/cargo => https://github.com/rust-lang/cargo
+https://github.com/rust-lang/cargo#0.33.0-beta.1 => https://github.com/rust-lang/cargo#0.33.0-beta.1
+https://github.com/rust-lang/crates.io-index#bitflags => https://github.com/rust-lang/crates.io-index#bitflags
+https://github.com/rust-lang/cargo#crates-io@0.21.0 => https://github.com/rust-lang/cargo#crates-io@0.21.0
+https://github.com/rust-lang/cargo#crates-io:0.21.0 => https://github.com/rust-lang/cargo#crates-io@0.21.0
+// the last piece is left out where it is given as the name
+https://x.org/b/a#a => https://x.org/b/a
+https://x.org/b/a#a@1.0.0 => https://x.org/b/a#1.0.0
+// an earlier piece isn't, nor the end of the last
+https://x.org/b/a#b => https://x.org/b/a#b
+https://x.org/b/crates-io#io@1.0.0 => https://x.org/b/crates-io#io@1.0.0
+crates.io/foo => cargo://crates.io/foo
+crates.io/foo#1.2.3 => cargo://crates.io/foo#1.2.3
+crates.io/foo#bar => cargo://crates.io/foo#bar
+https://x.org/7zip => https://x.org/7zip
+https://x.org/7zip#1.0.0 => https://x.org/7zip#1.0.0
+https://x.org/7zip#7zip:1.0.0 => https://x.org/7zip#1.0.0
+https://x.org/a#7zip@1.0.0 => https://x.org/a#7zip@1.0.0
+https://x.org/a#@1.0.0 => https://x.org/a#@1.0.0
+";
 
 const NO_NAME: &str = "package spec was invalid: found an invalid character for the package name";
 
@@ -127,74 +88,26 @@ static REFUSED: &[Row] = &[
 ];
 
 /// A specification, the version of the package `cargo` and its source as JSON, and whether the two match.
-static MATCHES: &[Row] = &[
-    (
-        r#"https://github.com/rust-lang/cargo 0.1.0 "git+https://github.com/rust-lang/cargo?branch=x#abc""#,
-        "true",
-    ),
-    ("https://github.com/rust-lang/cargo 0.1.0 null", "true"),
-    (
-        r#"https://github.com/rust-lang/cargo 0.1.0 "a?b+c""#,
-        "false",
-    ),
-    (
-        r#"https://github.com/rust-lang/cargo 0.1.0 "https://github.com/rust-lang/cargo#abc""#,
-        "true",
-    ),
-    (
-        r#"https://github.com/rust-lang/cargo 0.1.0 "git+https://github.com/rust-lang/cargo.git""#,
-        "false",
-    ),
-    (
-        r#"cargo 0.1.0 "git+https://github.com/rust-lang/cargo?branch=x#abc""#,
-        "true",
-    ),
-    (
-        r#"crates-io 0.1.0 "git+https://github.com/rust-lang/cargo?branch=x#abc""#,
-        "false",
-    ),
-    (
-        r#"cargo@0.1.0 0.1.0 "git+https://github.com/rust-lang/cargo?branch=x#abc""#,
-        "true",
-    ),
-    (
-        r#"cargo@0.1.0 0.1.1 "git+https://github.com/rust-lang/cargo?branch=x#abc""#,
-        "false",
-    ),
-    (
-        r#"cargo@0.1.0 0.1.0+build "git+https://github.com/rust-lang/cargo?branch=x#abc""#,
-        "false",
-    ),
-    (
-        r#"cargo@0.1.0-rc.1 0.1.0 "git+https://github.com/rust-lang/cargo?branch=x#abc""#,
-        "false",
-    ),
-    (
-        r#"https://github.com/rust-lang/cargo#0.1.0 0.1.1 null"#,
-        "false",
-    ),
-    (
-        r#"https://github.com/rust-lang/cargo#cargo-x@0.1.0 0.1.0 null"#,
-        "false",
-    ),
-    // of a source what is behind its first plus and before its first question mark, wherever a hash is
-    (
-        r#"https://x.org/a+b#cargo 0.1.0 "git+https://x.org/a+b#c?d""#,
-        "false",
-    ),
-    (
-        r#"https://x.org/a+b#cargo 0.1.0 "git+https://x.org/a+b#c""#,
-        "true",
-    ),
-    (
-        r#"https://x.org/b#cargo 0.1.0 "git+https://x.org/a+b#c""#,
-        "false",
-    ),
-    (
-        r#"cargo@0.1.0-rc.1 0.1.0-rc.1 "git+https://github.com/rust-lang/cargo?branch=x#abc""#,
-        "true",
-    ),
-];
+static MATCHES: &str = r#"
+https://github.com/rust-lang/cargo 0.1.0 "git+https://github.com/rust-lang/cargo?branch=x#abc" => true
+https://github.com/rust-lang/cargo 0.1.0 null => true
+https://github.com/rust-lang/cargo 0.1.0 "a?b+c" => false
+https://github.com/rust-lang/cargo 0.1.0 "https://github.com/rust-lang/cargo#abc" => true
+https://github.com/rust-lang/cargo 0.1.0 "git+https://github.com/rust-lang/cargo.git" => false
+cargo 0.1.0 "git+https://github.com/rust-lang/cargo?branch=x#abc" => true
+crates-io 0.1.0 "git+https://github.com/rust-lang/cargo?branch=x#abc" => false
+cargo@0.1.0 0.1.0 "git+https://github.com/rust-lang/cargo?branch=x#abc" => true
+cargo@0.1.0 0.1.1 "git+https://github.com/rust-lang/cargo?branch=x#abc" => false
+cargo@0.1.0 0.1.0+build "git+https://github.com/rust-lang/cargo?branch=x#abc" => false
+cargo@0.1.0-rc.1 0.1.0 "git+https://github.com/rust-lang/cargo?branch=x#abc" => false
+https://github.com/rust-lang/cargo#0.1.0 0.1.1 null => false
+https://github.com/rust-lang/cargo#cargo-x@0.1.0 0.1.0 null => false
+// of a source what is behind its first plus and before its first question mark, wherever a hash is
+https://x.org/a+b#cargo 0.1.0 "git+https://x.org/a+b#c?d" => false
+https://x.org/a+b#cargo 0.1.0 "git+https://x.org/a+b#c" => true
+https://x.org/b#cargo 0.1.0 "git+https://x.org/a+b#c" => false
+cargo@0.1.0-rc.1 0.1.0-rc.1 "git+https://github.com/rust-lang/cargo?branch=x#abc" => true
+"#;
 
 /// Adds the name, version and url of a specification.
 fn push_described(told: &mut Text, spec: &PkgSpec) {
@@ -270,10 +183,10 @@ impl Tell for Matches {
 
 #[test]
 fn specifications_are_read_printed_and_matched(rt: HostRuntime) -> Result<(), Fail> {
-    hold::<Read>(rt.alloc(), READ)?;
-    hold::<Copied>(rt.alloc(), READ)?;
+    hold_lines::<Read>(rt.alloc(), READ)?;
+    hold_lines::<Copied>(rt.alloc(), READ)?;
     hold::<Read>(rt.alloc(), REFUSED)?;
-    hold::<Printed>(rt.alloc(), PRINTED)?;
-    hold::<PrintedAndRead>(rt.alloc(), READ)?;
-    hold::<Matches>(rt.alloc(), MATCHES)
+    hold_lines::<Printed>(rt.alloc(), PRINTED)?;
+    hold_lines::<PrintedAndRead>(rt.alloc(), READ)?;
+    hold_lines::<Matches>(rt.alloc(), MATCHES)
 }

@@ -1,2 +1,5 @@
+pub mod FactsAgain
 pub mod NamingFaults
+pub mod NamingsRead
+pub mod PartsAgain
 pub mod SameFact

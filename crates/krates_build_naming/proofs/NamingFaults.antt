@@ -1,8 +1,9 @@
 -- There is a fault exactly where nothing is named: for each way to combine namings, and so for each form of facts.
 use Rattle.std.proofs.Common.{◌≡◌, ◌⊎◌, ◌+◌, ℕ, List, Bool, true, false, Option, Some, None, refl, inl, inr}
-use Rattle.std.specs.Prelude.{codes, bytes_eq, option_and_then, slice_get}
+use Rattle.std.specs.Prelude.{codes, bytes_eq, length, nat_lt, option_and_then, slice_get}
+use Rattle.krates_build_facts.specs.FactModels.{FactModel}
 use Rattle.krates_cm.specs.Document.{Text}
-use Rattle.krates_build_naming.specs.NamedFacts.{met, linked_reference, linked_feature, linked_name, linked, lost, activated, activated_reference, activated_feature, activated_name, used, available, compiled, needed, script_run, script_compiled, run_needed, building_of, activating_of, linking_of, fact_of}
+use Rattle.krates_build_naming.specs.NamedFacts.{met, linked_reference, linked_feature, linked_name, linked, lost, activated, activated_reference, activated_feature, activated_name, used, available, compiled, needed, script_run, script_compiled, run_needed, building_of, activating_of, linking_of, ended, fact_of, fact_read, word_count}
 use Rattle.krates_build_naming.specs.NamedParts.{word_at, crate_at, meeting_at, side_at, mode_at, platform_at, reference_words, reference_at, link_words, link_at, lacking_words, lacking_at, target_words, target_at, placement_at, unit_at}
 use Rattle.krates_build_naming.specs.NamedPlaces.{crate_named, lacking_named, link_named, platform_named, target_named}
 use Rattle.krates_build_naming.specs.Naming.{IsExact, Naming, ◌<*>◌, applied, by_word, choose, found_or, later_fault, name_of, refused, then_by}
@@ -217,6 +218,14 @@ linking_exact form n ws =
     (choose_exact (bytes_eq form (codes "lost")) (lost_exact n ws)
     (activating_exact form n ws))))))
 
+read_exact : (n : FactNames) (ws : List Text) → IsExact (fact_read n ws)
+unfolding fact_read
+read_exact n ws = word_exact (faults.Missing 0) (slice_get ws 0) (λ form. linking_exact form n ws)
+
+ended_exact : (ws : List Text) (f : FactModel) → IsExact (ended ws f)
+unfolding ended
+ended_exact ws f = choose_exact (nat_lt (word_count f) (length ws)) (refused_exact (faults.Further (word_count f))) (name_exact f)
+
 pub facts_exact : (n : FactNames) (ws : List Text) → IsExact (fact_of n ws)
 unfolding fact_of
-facts_exact n ws = word_exact (faults.Missing 0) (slice_get ws 0) (λ form. linking_exact form n ws)
+facts_exact n ws = then_exact (read_exact n ws) (ended_exact ws)

@@ -1,9 +1,9 @@
--- Which fact words name: the first word is a form, and the words behind it name its parts. One row for each form.
-use Rattle.std.specs.Prelude.{List, bytes_eq, codes, slice_get}
+-- Which fact words name: the first word is a form, and the words behind it name its parts. One row for each form. No word may follow.
+use Rattle.std.specs.Prelude.{ℕ, List, bytes_eq, codes, length, nat_lt, slice_get}
 use Rattle.krates_cm.specs.Document.{Text}
 use Rattle.krates_build_facts.specs.FactModels.{FactModel, Met, LinkedReference, LinkedFeature, LinkedName, Linked, Lost, Activated, ActivatedReference, ActivatedFeature, ActivatedName, Used, Available, Compiled, Needed, ScriptRun, ScriptCompiled, RunNeeded}
 use Rattle.krates_build_naming.specs.NamedParts.{crate_at, lacking_at, link_at, meeting_at, placement_at, platform_at, reference_at, side_at, unit_at, word_at}
-use Rattle.krates_build_naming.specs.Naming.{IsExact, Naming, ◌<*>◌, by_word, choose, name_of, refused}
+use Rattle.krates_build_naming.specs.Naming.{IsExact, Naming, ◌<*>◌, by_word, choose, name_of, refused, then_by}
 use Rattle.krates_build_naming.specs.declared.names.FactNames.{FactNames}
 use Rattle.krates_build_naming.specs.declared.names.NameFault.TheVariants as faults
 
@@ -95,9 +95,39 @@ linking_of form n ws =
     (choose (bytes_eq form (codes "lost")) (lost n ws)
     (activating_of form n ws))))))
 
+-- the fact that the words begin with
+unfoldable pub fact_read : FactNames → List Text → Naming FactModel
+fact_read n ws = by_word (faults.Missing 0) (λ form. linking_of form n ws) (slice_get ws 0)
+
+-- ---- no word may follow
+
+-- how many words name the fact, its form among them
+abbrev pub word_count : FactModel → ℕ
+word_count (Met c m) = 3
+word_count (LinkedReference c m v) = 6
+word_count (LinkedFeature c m f) = 4
+word_count (LinkedName c m d) = 4
+word_count (Linked place) = 6
+word_count (Lost c index) = 5
+word_count (Activated c side) = 3
+word_count (ActivatedReference c side v) = 6
+word_count (ActivatedFeature c side f) = 4
+word_count (ActivatedName c side d) = 4
+word_count (Used place side) = 7
+word_count (Available c text) = 3
+word_count (Compiled u) = 7
+word_count (Needed place from u) = 13
+word_count (ScriptRun c at) = 4
+word_count (ScriptCompiled c side) = 3
+word_count (RunNeeded place from run) = 10
+
+-- the fact, where no other word follows those that name it
+unfoldable pub ended : List Text → FactModel → Naming FactModel
+ended ws f = choose (nat_lt (word_count f) (length ws)) (refused (faults.Further (word_count f))) (name_of f)
+
 -- the fact that the words name
 unfoldable pub fact_of : FactNames → List Text → Naming FactModel
-fact_of n ws = by_word (faults.Missing 0) (λ form. linking_of form n ws) (slice_get ws 0)
+fact_of n ws = then_by (fact_read n ws) (ended ws)
 
 -- for all words, in each document and build
 abbrev pub FactsAreExact : Type 0

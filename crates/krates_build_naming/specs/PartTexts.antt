@@ -33,16 +33,32 @@ mode_named s =
     else if bytes_eq s (codes "test") then Some modes.Test
     else None
 
+-- the reference, which names no feature of a dependency, so that the word for one is empty
+abbrev pub unless_said : Text → Reference → Option Reference
+unless_said feature v = if bytes_eq feature (codes "") then Some v else None
+
 -- a reference: its form, then the name of a dependency or a feature, and then, in two forms, a feature of that dependency
 unfoldable pub reference_named : (form name feature : Text) → Option Reference
 reference_named form name feature =
-    if bytes_eq form (codes "dep") then Some (krate name)
+    if bytes_eq form (codes "dep") then unless_said feature (krate name)
     else if bytes_eq form (codes "weak") then Some (weak name feature)
     else if bytes_eq form (codes "strong") then Some (strong name feature)
-    else if bytes_eq form (codes "feature") then Some (simple name)
+    else if bytes_eq form (codes "feature") then unless_said feature (simple name)
     else None
 
 -- ---- the word for something
+
+abbrev pub meeting_text : Meeting → Text
+meeting_text meetings.Root = codes "root"
+meeting_text meetings.Dependency = codes "dependency"
+
+abbrev pub side_text : Side → Text
+side_text sides.Targets = codes "targets"
+side_text sides.Host = codes "host"
+
+abbrev pub mode_text : Mode → Text
+mode_text modes.Build = codes "build"
+mode_text modes.Test = codes "test"
 
 abbrev pub kind_text : DependencyKind → Text
 kind_text Normal = codes "normal"

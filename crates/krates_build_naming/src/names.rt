@@ -27,7 +27,7 @@ pub enum NameFault {
     Side(usize),
     /// It names no way in which a target is compiled.
     Mode(usize),
-    /// It names no form of feature references.
+    /// The words from here name no feature reference.
     Reference(usize),
     /// The words from here name no dependency that has an edge.
     Link(usize),
@@ -37,4 +37,6 @@ pub enum NameFault {
     Target(usize),
     /// It names neither the host nor a machine that the build is for.
     Platform(usize),
+    /// It follows those that name the fact.
+    Further(usize),
 }

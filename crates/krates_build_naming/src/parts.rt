@@ -4,7 +4,7 @@ ghost use Rattle.std.specs.Prelude.{◌≡◌, ◌<◌, map, option_map, string_
 ghost use Rattle.krates_build_tables.specs.References.{reference_view};
 ghost use Rattle.krates_build_naming.specs.NamedParts.{meeting_at, mode_at, reference_at, side_at};
 ghost use Rattle.krates_build_naming.specs.Naming.{Gives};
-ghost use Rattle.krates_build_naming.specs.PartTexts.{meeting_named, mode_named, reference_named, side_named};
+ghost use Rattle.krates_build_naming.specs.PartTexts.{meeting_named, mode_named, reference_named, side_named, unless_said};
 
 use crate::names::NameFault;
 use crate::reading::{word_at, word_in};
@@ -91,10 +91,21 @@ fn reference_named<'a>(form: &str, name: &'a str, feature: &'a str) -> Option<Fe
     ensures { option_map reference_view result ≡ reference_named form.now name.now feature.now }
 {
     match form {
-        "dep" => Some(FeatureReference::Krate(name)),
+        "dep" => unless_said(feature, FeatureReference::Krate(name)),
         "weak" => Some(FeatureReference::Weak(name, feature)),
         "strong" => Some(FeatureReference::Strong(name, feature)),
-        "feature" => Some(FeatureReference::Simple(name)),
+        "feature" => unless_said(feature, FeatureReference::Simple(name)),
         _ => None,
     }
+}
+
+/// The reference, where the word for a feature is empty.
+fn unless_said<'a>(feature: &str, reference: FeatureReference<'a>) -> Option<FeatureReference<'a>>
+    ensures { option_map reference_view result
+        ≡ unless_said feature.now (reference_view reference.entry) }
+{
+    if feature == "" {
+        return Some(reference);
+    }
+    None
 }

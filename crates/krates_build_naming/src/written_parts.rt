@@ -1,119 +1,202 @@
-//! The parts of facts as they are written: each word behind a line feed.
+//! The words for the parts of facts: what the tables call what has a number or a place, and nothing where they lack it.
+
+ghost use Rattle.std.specs.Prelude.{◌≡◌, option_copied};
+ghost use Rattle.krates_build_tables.specs.References.{reference_view};
+ghost use Rattle.krates_build_naming.specs.WrittenParts.{AreDependencyTexts, AreReferenceTexts, AreTargetTexts, crate_text, lacking_in, lacking_texts, link_in, link_texts, machine_text, no_dependency, no_target, platform_text, reference_texts, target_in, target_texts, texts_of_lacking, texts_of_link, texts_of_target};
 
 use crate::names::FactNames;
 use crate::texts::{kind_text, target_kinds_text, target_text};
-use krates_build_facts::{PlacementNumber, PlatformNumber, UnitPlace};
-use krates_build_tables::{FeatureReference, LinkPlace};
-use krates_text::text::Text;
-use krates_units::{Meeting, Mode, Side};
+use krates_build_facts::PlatformNumber;
+use krates_build_tables::{FeatureReference, Lacking, Link, LinkPlace, TargetEntry, TargetPlace};
 
-/// Adds a word.
-pub(crate) fn push_word(told: &mut Text, word: &str) {
-    told.push_str("\n");
-    told.push_str(word);
-}
-
-/// Adds the word for a crate, which is empty where the number is of none.
-pub(crate) fn push_crate(told: &mut Text, names: &FactNames<'_, '_>, krate: usize) {
+/// The word for a crate, which is empty where there is none with the number.
+pub(crate) fn crate_text<'s>(names: &FactNames<'s, '_>, krate: usize) -> &'s str
+    ensures { result.now ≡ crate_text names.now krate }
+{
     match names.ids.get(krate) {
-        Some(id) => push_word(told, id.repr()),
-        None => push_word(told, ""),
+        Some(id) => id.repr(),
+        None => "",
     }
 }
 
-/// Adds the word for how a crate is met.
-pub(crate) fn push_meeting(told: &mut Text, meeting: Meeting) {
-    match meeting {
-        Meeting::Root => push_word(told, "root"),
-        Meeting::Dependency => push_word(told, "dependency"),
-    }
-}
-
-/// Adds the word for a side.
-pub(crate) fn push_side(told: &mut Text, side: Side) {
-    match side {
-        Side::Targets => push_word(told, "targets"),
-        Side::Host => push_word(told, "host"),
-    }
-}
-
-/// Adds the word for how a target is compiled.
-fn push_mode(told: &mut Text, mode: Mode) {
-    match mode {
-        Mode::Build => push_word(told, "build"),
-        Mode::Test => push_word(told, "test"),
-    }
-}
-
-/// Adds three words.
-fn push_three(told: &mut Text, first: &str, second: &str, third: &str) {
-    push_word(told, first);
-    push_word(told, second);
-    push_word(told, third);
-}
-
-/// Adds the words for a feature reference.
-pub(crate) fn push_reference(told: &mut Text, reference: FeatureReference<'_>) {
-    match reference {
-        FeatureReference::Krate(name) => push_three(told, "dep", name, ""),
-        FeatureReference::Weak(name, feature) => push_three(told, "weak", name, feature),
-        FeatureReference::Strong(name, feature) => push_three(told, "strong", name, feature),
-        FeatureReference::Simple(name) => push_three(told, "feature", name, ""),
-    }
-}
-
-/// Adds the word for a platform.
-pub(crate) fn push_platform(told: &mut Text, names: &FactNames<'_, '_>, platform: PlatformNumber) {
+/// The word for a platform, which is empty where there is no machine with the number.
+pub(crate) fn platform_text<'s>(names: &FactNames<'s, '_>, platform: PlatformNumber) -> &'s str
+    ensures { result.now ≡ platform_text names.now platform }
+{
     match platform {
-        PlatformNumber::Host => push_word(told, "host"),
-        PlatformNumber::Machine(number) => match names.tables.machine(number) {
-            Some(machine) => push_word(told, machine.triple()),
-            None => push_word(told, ""),
-        },
+        PlatformNumber::Host => "host",
+        PlatformNumber::Machine(number) => machine_text(names, number),
     }
 }
 
-/// Adds the words for a placement.
-pub(crate) fn push_placement(
-    told: &mut Text,
-    names: &FactNames<'_, '_>,
-    placement: PlacementNumber,
-) {
-    push_platform(told, names, placement.platform);
-    push_side(told, placement.side);
-}
-
-/// Adds the words for a link, which are fewer where there is none at the place.
-pub(crate) fn push_link(told: &mut Text, names: &FactNames<'_, '_>, place: LinkPlace) {
-    push_crate(told, names, place.krate);
-    if let Some(entry) = names.tables.entry(place.krate) {
-        if let Some(link) = entry.link(place.index) {
-            push_crate(told, names, link.child);
-            push_three(told, kind_text(link.kind), target_text(link.cfg), link.name);
-        }
+fn machine_text<'s>(names: &FactNames<'s, '_>, number: usize) -> &'s str
+    ensures { result.now ≡ machine_text names.now number }
+{
+    match names.tables.machine(number) {
+        Some(machine) => machine.triple(),
+        None => "",
     }
 }
 
-/// Adds the words for a dependency that is lacking, which are fewer where there is none at the place.
-pub(crate) fn push_lacking(told: &mut Text, names: &FactNames<'_, '_>, krate: usize, index: usize) {
-    push_crate(told, names, krate);
-    if let Some(entry) = names.tables.entry(krate) {
-        if let Some(lacking) = entry.lacking.get(index) {
-            let target = target_text(lacking.declared.target.as_deref());
-            push_three(told, kind_text(lacking.kind), target, lacking.name);
-        }
+/// The words for a reference.
+#[derive(Clone, Copy)]
+pub(crate) struct WrittenReference<'a> {
+    /// The word for its form.
+    pub form: &'a str,
+    /// The name of a dependency or a feature.
+    pub name: &'a str,
+    /// A feature of the dependency, or nothing.
+    pub feature: &'a str,
+}
+
+pub(crate) fn reference_texts<'a>(reference: FeatureReference<'a>) -> WrittenReference<'a>
+    ensures { AreReferenceTexts result (reference_texts (reference_view reference.entry)) }
+{
+    match reference {
+        FeatureReference::Krate(name) => written("dep", name, ""),
+        FeatureReference::Weak(name, feature) => written("weak", name, feature),
+        FeatureReference::Strong(name, feature) => written("strong", name, feature),
+        FeatureReference::Simple(name) => written("feature", name, ""),
     }
 }
 
-/// Adds the words for a unit, which are fewer where there is no target at the place.
-pub(crate) fn push_unit(told: &mut Text, names: &FactNames<'_, '_>, unit: UnitPlace) {
-    push_crate(told, names, unit.target.krate);
-    if let Some(entry) = names.tables.entry(unit.target.krate) {
-        if let Some(target) = entry.target(unit.target.index) {
-            push_word(told, target_kinds_text(&target.target.kind));
-            push_word(told, target.target.name.as_str());
-        }
+fn written<'a>(form: &'a str, name: &'a str, feature: &'a str) -> WrittenReference<'a>
+    ensures form { result.form.now ≡ form.now }
+    ensures name { result.name.now ≡ name.now }
+    ensures feature { result.feature.now ≡ feature.now }
+{
+    WrittenReference {
+        form,
+        name,
+        feature,
     }
-    push_mode(told, unit.mode);
-    push_placement(told, names, unit.placement);
+}
+
+/// The words for a dependency, but that for the crate that has it.
+#[derive(Clone, Copy)]
+pub(crate) struct WrittenDependency<'a> {
+    /// The word for the other crate.
+    pub child: &'a str,
+    /// The word for its kind.
+    pub kind: &'a str,
+    /// The word for its target text.
+    pub target: &'a str,
+    /// Its name.
+    pub name: &'a str,
+}
+
+/// The words for a dependency that has an edge, which are empty where there is none at the place.
+pub(crate) fn link_texts<'s>(names: &FactNames<'s, '_>, place: LinkPlace) -> WrittenDependency<'s>
+    ensures { AreDependencyTexts result (link_texts names.now place) }
+{
+    match link_in(names, place) {
+        Some(link) => texts_of_link(names, link),
+        None => no_dependency(),
+    }
+}
+
+fn link_in<'s, 't>(names: &FactNames<'s, 't>, place: LinkPlace) -> Option<&'s Link<'t>>
+    ensures { option_copied result ≡ link_in names.now place }
+{
+    let entry = names.tables.entry(place.krate)?;
+    entry.link(place.index)
+}
+
+fn texts_of_link<'s>(names: &FactNames<'s, '_>, link: &'s Link<'_>) -> WrittenDependency<'s>
+    ensures { AreDependencyTexts result (texts_of_link names.now link.now) }
+{
+    WrittenDependency {
+        child: crate_text(names, link.child),
+        kind: kind_text(link.kind),
+        target: target_text(link.cfg),
+        name: link.name,
+    }
+}
+
+fn no_dependency() -> WrittenDependency<'static>
+    ensures { AreDependencyTexts result no_dependency }
+{
+    WrittenDependency {
+        child: "",
+        kind: "",
+        target: "",
+        name: "",
+    }
+}
+
+/// The words for a dependency that is lacking, which has no other crate. They are empty where there is none at the place.
+pub(crate) fn lacking_texts<'s>(
+    names: &FactNames<'s, '_>,
+    krate: usize,
+    index: usize,
+) -> WrittenDependency<'s>
+    ensures { AreDependencyTexts result (lacking_texts names.now krate index) }
+{
+    match lacking_in(names, krate, index) {
+        Some(lacking) => texts_of_lacking(lacking),
+        None => no_dependency(),
+    }
+}
+
+fn lacking_in<'s, 't>(
+    names: &FactNames<'s, 't>,
+    krate: usize,
+    index: usize,
+) -> Option<&'s Lacking<'t>>
+    ensures { option_copied result ≡ lacking_in names.now krate index }
+{
+    let entry = names.tables.entry(krate)?;
+    entry.lacking.get(index)
+}
+
+fn texts_of_lacking<'s>(lacking: &'s Lacking<'_>) -> WrittenDependency<'s>
+    ensures { AreDependencyTexts result (texts_of_lacking lacking.now) }
+{
+    WrittenDependency {
+        child: "",
+        kind: kind_text(lacking.kind),
+        target: target_text(lacking.declared.target.as_deref()),
+        name: lacking.name,
+    }
+}
+
+/// The words for a target, but that for its crate.
+#[derive(Clone, Copy)]
+pub(crate) struct WrittenTarget<'a> {
+    /// The word for its kinds.
+    pub kind: &'a str,
+    /// Its name.
+    pub name: &'a str,
+}
+
+/// The words for a target, which are empty where there is none at the place.
+pub(crate) fn target_texts<'s>(names: &FactNames<'s, '_>, place: TargetPlace) -> WrittenTarget<'s>
+    ensures { AreTargetTexts result (target_texts names.now place) }
+{
+    match target_in(names, place) {
+        Some(target) => texts_of_target(target),
+        None => no_target(),
+    }
+}
+
+fn target_in<'s, 't>(names: &FactNames<'s, 't>, place: TargetPlace) -> Option<&'s TargetEntry<'t>>
+    ensures { option_copied result ≡ target_in names.now place }
+{
+    let entry = names.tables.entry(place.krate)?;
+    entry.target(place.index)
+}
+
+fn texts_of_target<'s>(target: &'s TargetEntry<'_>) -> WrittenTarget<'s>
+    ensures { AreTargetTexts result (texts_of_target target.now) }
+{
+    WrittenTarget {
+        kind: target_kinds_text(&target.target.kind),
+        name: target.target.name.as_str(),
+    }
+}
+
+fn no_target() -> WrittenTarget<'static>
+    ensures { AreTargetTexts result no_target }
+{
+    WrittenTarget { kind: "", name: "" }
 }

@@ -1,6 +1,6 @@
 //! What cargo builds of a document, as crates that are numbered from 0 on, for the answers that are about lists of crates.
 
-use krates::{Kid, KrateMatch, NodeId, Package};
+use krates::{DepKind, Kid, KrateMatch, NodeId, Package};
 use krates_answers::difference::DependencyEdge;
 use krates_answers::direct_links::DirectLinks;
 use krates_answers::meaning::{Meant, Packages};
@@ -9,6 +9,7 @@ use krates_build_answers::{BuiltCrates, build_links};
 use krates_build_tables::Tables;
 use krates_built::Units;
 use krates_questions::Document;
+use krates_report::tree::head_number;
 use krates_units::Side;
 use krates_words::BuildSide;
 use std::alloc::{AllocError, Global};
@@ -203,6 +204,45 @@ impl<'d, 'a> Build<'d, 'a> {
             }
         }
         DirectLinks::of_pairs(alloc, self.count(), &pairs)
+    }
+
+    /// Which position or head leads to which in a tree: to what is needed, or where it `is_above`, to those that need it.
+    pub(crate) fn links_by_kind(
+        &self,
+        alloc: Global,
+        is_above: bool,
+    ) -> Result<DirectLinks, AllocError> {
+        let mut pairs = Vec::new(alloc);
+        for link in build_links(alloc, self.units)? {
+            let (from, to) = (link.from.krate, link.to.krate);
+            let pair = if is_above {
+                self.pair(to, from)
+            } else {
+                self.pair(from, to)
+            };
+            if let Some(pair) = pair {
+                self.push_by_kind(pair, link.kind, &mut pairs)?;
+            }
+        }
+        DirectLinks::of_pairs(alloc, self.count().saturating_mul(3), &pairs)
+    }
+
+    /// Adds a pair of positions: as it is, or over the head of this kind.
+    fn push_by_kind(
+        &self,
+        pair: (usize, usize),
+        kind: DepKind,
+        pairs: &mut Vec<(usize, usize)>,
+    ) -> Result<(), AllocError> {
+        let (from, to) = pair;
+        match head_number(self.numbers.len(), from, kind) {
+            None => pairs.push(pair)?,
+            Some(head) => {
+                pairs.push((from, head))?;
+                pairs.push((head, to))?;
+            }
+        }
+        Ok(())
     }
 
     /// The positions of the crates with these numbers, if both are built.

@@ -27,6 +27,32 @@ struct ChangedFeature<'d> {
     name: &'d str,
 }
 
+/// What one build builds that another doesn't.
+#[derive(Drop)]
+struct OnlyHere<'d> {
+    crates: Vec<KrateMatch<'d, Package>>,
+    dependencies: Vec<DependencyEdge<'d>>,
+    features: Vec<ChangedFeature<'d>>,
+}
+
+impl<'d> OnlyHere<'d> {
+    /// What is built here and not there.
+    fn of(
+        alloc: Global,
+        here: &Build<'d, '_>,
+        there: &Build<'d, '_>,
+    ) -> Result<OnlyHere<'d>, AllocError> {
+        let crates = lacking(alloc, here, there)?;
+        let dependencies = lost_dependencies(alloc, here, there)?;
+        let features = lost_features(alloc, here, there)?;
+        Ok(OnlyHere {
+            crates,
+            dependencies,
+            features,
+        })
+    }
+}
+
 /// What only one of two builds builds, in both directions.
 #[derive(Drop)]
 pub(crate) struct BuildDifference<'d> {
@@ -42,35 +68,29 @@ impl<'d> BuildDifference<'d> {
         first: &Build<'d, '_>,
         second: &Build<'d, '_>,
     ) -> Result<BuildDifference<'d>, AllocError> {
-        let difference = difference(alloc, first, second)?;
-        let removed_features = lost_features(alloc, first, second)?;
-        let added_features = lost_features(alloc, second, first)?;
+        let OnlyHere {
+            crates: removed,
+            dependencies: removed_dependencies,
+            features: removed_features,
+        } = OnlyHere::of(alloc, first, second)?;
+        let OnlyHere {
+            crates: added,
+            dependencies: added_dependencies,
+            features: added_features,
+        } = OnlyHere::of(alloc, second, first)?;
+        let changed = Changed::between(alloc, &removed, &added)?;
         Ok(BuildDifference {
-            difference,
+            difference: Difference {
+                removed,
+                added,
+                removed_dependencies,
+                added_dependencies,
+                changed,
+            },
             removed_features,
             added_features,
         })
     }
-}
-
-/// What differs in crates and in what they need.
-fn difference<'d>(
-    alloc: Global,
-    first: &Build<'d, '_>,
-    second: &Build<'d, '_>,
-) -> Result<Difference<'d>, AllocError> {
-    let removed = lacking(alloc, first, second)?;
-    let added = lacking(alloc, second, first)?;
-    let changed = Changed::between(alloc, &removed, &added)?;
-    let removed_dependencies = lost_dependencies(alloc, first, second)?;
-    let added_dependencies = lost_dependencies(alloc, second, first)?;
-    Ok(Difference {
-        removed,
-        added,
-        removed_dependencies,
-        added_dependencies,
-        changed,
-    })
 }
 
 /// The crates that one build has and the other lacks, by number.

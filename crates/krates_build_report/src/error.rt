@@ -21,7 +21,7 @@ pub enum BuildReportError {
     Naming(NamingError),
     /// The checker doesn't say yes.
     Check(BuildCheckError),
-    /// No words name a fact alone, as a certificate has to: what it is about is named as something else is, or its name has a line feed.
+    /// No words name a fact alone, as a certificate has to: what it is about is named as something else is.
     Unnamed(String),
     /// A second document is required, and there is none.
     NoOther,

@@ -263,7 +263,7 @@ impl<'a> BuildReporter<'a> {
             None => build.asked(self.alloc)?,
         };
         let crates = build.crates(self.alloc)?;
-        let links = build.dependencies(self.alloc);
+        let links = build.links_by_kind(self.alloc, false);
         let answer = Tree::of(self.alloc, crates, links, &roots)?;
         Ok(yes(self.text(&answer)?))
     }
@@ -272,7 +272,7 @@ impl<'a> BuildReporter<'a> {
     fn tree_above(&self, build: &Build<'_, '_>, spec: &str) -> Result<Report, BuildReportError> {
         let roots = self.root(build, spec)?;
         let crates = build.crates(self.alloc)?;
-        let links = build.dependents(self.alloc);
+        let links = build.links_by_kind(self.alloc, true);
         let answer = Tree::of(self.alloc, crates, links, &roots)?;
         Ok(yes(self.text(&answer)?))
     }

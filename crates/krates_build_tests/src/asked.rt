@@ -7,7 +7,7 @@ use krates_cm::{DepKindInfo, Metadata, Package};
 use krates_ids::Kid;
 use krates_resolve::{Document, Setting};
 use krates_samples::documents::{kid_of, kind_named};
-use krates_samples::table::{Row, Tell, hold};
+use krates_samples::table::{Tell, hold_lines};
 use krates_text::text::Text;
 use std::alloc::Global;
 use std::test::Fail;
@@ -196,85 +196,67 @@ impl Tell for Asked {
     }
 }
 
-static ASKED: &[Row] = &[
-    // what a name means
-    ("referent m z", "z"),
-    ("referent m b-c", "b-c"),
-    ("referent m q", "none"),
-    // a crate without dependencies, and one that isn't in the document
-    ("referent n z", "none"),
-    ("referent q z", "none"),
-    // what is meant under a setting
-    ("referents m z", "z"),
-    ("referents m q", ""),
-    ("referents m z / names all", "z"),
-    // roots: members in the order of the document
-    ("roots", "nm"),
-    ("roots / root m", "m"),
-    ("roots / root m / workspace on", "nm"),
-    // by manifest; that of the workspace means every member
-    ("roots / include /w/m", "m"),
-    ("roots / root m / include /w/n/Cargo.toml", "n"),
-    ("roots / root m / include /w", "nm"),
-    ("roots / include /w/q", ""),
-    // an excluded crate is still a root
-    ("roots / without n", "nm"),
-    // declared edges
-    ("declared m z dev", "Some(0)"),
-    ("declared m z build", "Some(2)"),
-    ("declared m b-c normal cfg(windows)", "Some(3)"),
-    // declared for this kind, but not listed
-    ("declared m z normal", "None"),
-    // for another target, the other way round, and of a crate that isn't in the document
-    ("declared m b-c normal", "None"),
-    ("declared z m build", "None"),
-    ("declared q m build", "None"),
-    // open edges
-    ("open m z dev / ignore build workspace", "true"),
-    ("open m z build / ignore build workspace", "false"),
-    ("open m z normal / ignore build workspace", "false"),
-    ("open m z dev / ignore build workspace / without z", "false"),
-    (
-        "open m z dev / ignore build workspace / without m / for x86_64-unknown-linux-gnu",
-        "true",
-    ),
-    (
-        "open m b-c normal cfg(windows) / ignore build workspace",
-        "true",
-    ),
-    (
-        "open m b-c normal cfg(windows) / ignore build workspace / for x86_64-unknown-linux-gnu",
-        "false",
-    ),
-    // target texts that pass
-    ("passes", "true"),
-    ("passes cfg(windows)", "true"),
-    ("passes x86_64-pc-windows-msvc", "true"),
-    ("passes cfg(any())", "false"),
-    ("passes / for x86_64-unknown-linux-gnu", "true"),
-    (
-        "passes cfg(windows) / for x86_64-unknown-linux-gnu",
-        "false",
-    ),
-    ("passes cfg(unix) / for x86_64-unknown-linux-gnu", "true"),
-    (
-        "passes x86_64-unknown-linux-gnu / for x86_64-unknown-linux-gnu",
-        "true",
-    ),
-    (
-        "passes x86_64-pc-windows-msvc / for x86_64-unknown-linux-gnu",
-        "false",
-    ),
-    // what is excluded and ignored, and whether a name means all
-    ("excluded / without n", "+m-n+z+b-c"),
-    ("ignores dev member / ignore dev non-workspace", "false"),
-    ("ignores dev other / ignore dev non-workspace", "true"),
-    ("names", "false"),
-    ("names / names all", "true"),
-    ("names / names all / names least", "false"),
-];
+static ASKED: &str = "
+// what a name means
+referent m z => z
+referent m b-c => b-c
+referent m q => none
+// a crate without dependencies, and one that isn't in the document
+referent n z => none
+referent q z => none
+// what is meant under a setting
+referents m z => z
+referents m q =>
+referents m z / names all => z
+// roots: members in the order of the document
+roots => nm
+roots / root m => m
+roots / root m / workspace on => nm
+// by manifest; that of the workspace means every member
+roots / include /w/m => m
+roots / root m / include /w/n/Cargo.toml => n
+roots / root m / include /w => nm
+roots / include /w/q =>
+// an excluded crate is still a root
+roots / without n => nm
+// declared edges
+declared m z dev => Some(0)
+declared m z build => Some(2)
+declared m b-c normal cfg(windows) => Some(3)
+// declared for this kind, but not listed
+declared m z normal => None
+// for another target, the other way round, and of a crate that isn't in the document
+declared m b-c normal => None
+declared z m build => None
+declared q m build => None
+// open edges
+open m z dev / ignore build workspace => true
+open m z build / ignore build workspace => false
+open m z normal / ignore build workspace => false
+open m z dev / ignore build workspace / without z => false
+open m z dev / ignore build workspace / without m / for x86_64-unknown-linux-gnu => true
+open m b-c normal cfg(windows) / ignore build workspace => true
+open m b-c normal cfg(windows) / ignore build workspace / for x86_64-unknown-linux-gnu => false
+// target texts that pass
+passes => true
+passes cfg(windows) => true
+passes x86_64-pc-windows-msvc => true
+passes cfg(any()) => false
+passes / for x86_64-unknown-linux-gnu => true
+passes cfg(windows) / for x86_64-unknown-linux-gnu => false
+passes cfg(unix) / for x86_64-unknown-linux-gnu => true
+passes x86_64-unknown-linux-gnu / for x86_64-unknown-linux-gnu => true
+passes x86_64-pc-windows-msvc / for x86_64-unknown-linux-gnu => false
+// what is excluded and ignored, and whether a name means all
+excluded / without n => +m-n+z+b-c
+ignores dev member / ignore dev non-workspace => false
+ignores dev other / ignore dev non-workspace => true
+names => false
+names / names all => true
+names / names all / names least => false
+";
 
 #[test]
 fn what_documents_and_settings_answer(rt: HostRuntime) -> Result<(), Fail> {
-    hold::<Asked>(rt.alloc(), ASKED)
+    hold_lines::<Asked>(rt.alloc(), ASKED)
 }

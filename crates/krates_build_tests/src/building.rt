@@ -8,7 +8,7 @@ use crate::real_documents::metadata_of;
 use krates::cm::Metadata;
 use krates::{Builder, Error, Krates, OnFilter, Package};
 use krates_samples::documents::{kid_of, word_of};
-use krates_samples::table::{Row, Tell, hold};
+use krates_samples::table::{Tell, hold_lines};
 use krates_text::text::Text;
 use std::test::Fail;
 
@@ -77,39 +77,33 @@ impl Tell for Built {
     }
 }
 
-static BUILT: &[Row] = &[
-    // what is needed is kept, and what isn't is reported
-    ("a b|b", "+a+b"),
-    ("a b|b|c", "+a+b-c"),
-    // in the order of the ids, whatever the order of the document
-    ("d|c|b|a b / nodes c|b|a b|d", "+a+b-c-d"),
-    // a cycle, a member that is listed twice, and a node that no crate needs and that has no package
-    ("a b|b a", "+a+b"),
-    ("a b|b / members a a", "+a+b"),
-    ("a b|b / nodes a b|b|c", "+a+b"),
-    // an optional edge isn't kept, even where a weak reference alone leads over it
-    ("a b?|b", "+a-b"),
-    ("a b?;b=dep:b w=b?/j|b;j= / nodes a b;w|b;j", "+a-b"),
-    // the root, where there is one, and not the members
-    ("a|b / members a b / root b", "+b-a"),
-    // what is refused
-    ("a|b / nodes b", "lost node: path+file:///w/a#0.1.0"),
-    ("b / nodes a|b", "lost package: path+file:///w/a#0.1.0"),
-    ("a b|b / nodes a b", "lost node: path+file:///w/b#0.1.0"),
-    ("a b / nodes a b|b", "lost package: path+file:///w/b#0.1.0"),
-    (
-        "a|b / nodes a b|b",
-        "undeclared dependency: path+file:///w/b#0.1.0 of path+file:///w/a#0.1.0",
-    ),
-    ("a|b / members", "no root crates available"),
-    ("a|a / nodes a", "doubled id: path+file:///w/a#0.1.0"),
-    // the first class that is true counts: a member that isn't an id, or a lost root, comes after a missing graph or a doubled id
-    (
-        "a|a / members x&id=x / no graph",
-        "no resolution graph was provided",
-    ),
-    ("b|b / nodes b", "doubled id: path+file:///w/b#0.1.0"),
-];
+static BUILT: &str = "
+// what is needed is kept, and what isn't is reported
+a b|b => +a+b
+a b|b|c => +a+b-c
+// in the order of the ids, whatever the order of the document
+d|c|b|a b / nodes c|b|a b|d => +a+b-c-d
+// a cycle, a member that is listed twice, and a node that no crate needs and that has no package
+a b|b a => +a+b
+a b|b / members a a => +a+b
+a b|b / nodes a b|b|c => +a+b
+// an optional edge isn't kept, even where a weak reference alone leads over it
+a b?|b => +a-b
+a b?;b=dep:b w=b?/j|b;j= / nodes a b;w|b;j => +a-b
+// the root, where there is one, and not the members
+a|b / members a b / root b => +b-a
+// what is refused
+a|b / nodes b => lost node: path+file:///w/a#0.1.0
+b / nodes a|b => lost package: path+file:///w/a#0.1.0
+a b|b / nodes a b => lost node: path+file:///w/b#0.1.0
+a b / nodes a b|b => lost package: path+file:///w/b#0.1.0
+a|b / nodes a b|b => undeclared dependency: path+file:///w/b#0.1.0 of path+file:///w/a#0.1.0
+a|b / members => no root crates available
+a|a / nodes a => doubled id: path+file:///w/a#0.1.0
+// the first class that is true counts: a member that isn't an id, or a lost root, comes after a missing graph or a doubled id
+a|a / members x&id=x / no graph => no resolution graph was provided
+b|b / nodes b => doubled id: path+file:///w/b#0.1.0
+";
 
 /// Adds how many crates are kept, or the text of the refusal.
 pub(crate) fn push_count(told: &mut Text, built: &Result<Krates, Error>) {
@@ -142,20 +136,14 @@ impl Told<Package> for Queried {
     }
 }
 
-static QUERIES: &[Row] = &[
-    (
-        "c|b|a b / nodes a b|b|c",
-        "2 of /w, a is 0, b is 1, c is none without features",
-    ),
-    // `b` brings the optional dependency of that name, and `w` enables its feature `j`; `c` isn't needed
-    (
-        "a b?;w=b?/j b=dep:b|b;j= k=|c;x= / nodes a b;w b|b;j|c;x",
-        "2 of /w, a is 0+b+w, b is 1+j, c is none without features",
-    ),
-];
+static QUERIES: &str = "
+c|b|a b / nodes a b|b|c => 2 of /w, a is 0, b is 1, c is none without features
+// `b` brings the optional dependency of that name, and `w` enables its feature `j`; `c` isn't needed
+a b?;w=b?/j b=dep:b|b;j= k=|c;x= / nodes a b;w b|b;j|c;x => 2 of /w, a is 0+b+w, b is 1+j, c is none without features
+";
 
 #[test]
 fn kept_and_reported_or_refused_and_queried(rt: HostRuntime) -> Result<(), Fail> {
-    hold::<Built>(rt.alloc(), BUILT)?;
-    hold::<OfGraph<Queried>>(rt.alloc(), QUERIES)
+    hold_lines::<Built>(rt.alloc(), BUILT)?;
+    hold_lines::<OfGraph<Queried>>(rt.alloc(), QUERIES)
 }

@@ -4,7 +4,7 @@ use crate::starved_commands::parts;
 use krates_cargo::{Cmd, Features, LockOptions, MetadataCommand};
 use krates_cm::{Error, Metadata};
 use krates_samples::stand_in::DOCUMENT;
-use krates_samples::table::{Row, Tell, compare, hold};
+use krates_samples::table::{Row, Tell, compare, hold, hold_lines};
 use krates_text::text::Text;
 use std::alloc::{AllocError, Global};
 use std::process::Command;
@@ -12,64 +12,31 @@ use std::test::Fail;
 
 /// Settings of a command, in order, and, after the refusals of its setters, its variables in the order of their names, its program, its
 /// directory and its words.
-static COMMANDS: &[Row] = &[
-    ("", "cargo in none: metadata|--format-version|1"),
-    (
-        "no-deps selected=x,y all no-default manifest=p other=--z",
-        "cargo in none: metadata|--format-version|1|--no-deps|--features|x,y|--all-features|--no-default-features|--manifest-path|p|--z",
-    ),
-    // names are added, other options replaced
-    (
-        "selected=x selected=y,x other=--a other=--b,--c",
-        "cargo in none: metadata|--format-version|1|--features|x,y,x|--b|--c",
-    ),
-    (
-        "all all",
-        "features given twice! cargo in none: metadata|--format-version|1|--all-features",
-    ),
-    (
-        "no-default all no-default",
-        "features given twice! cargo in none: metadata|--format-version|1|--all-features|--no-default-features",
-    ),
-    (
-        "no-deps selected=x,y all no-default manifest=p other=--z all",
-        "features given twice! cargo in none: metadata|--format-version|1|--no-deps|--features|x,y|--all-features|--no-default-features|--manifest-path|p|--z",
-    ),
-    // of several values the last counts
-    (
-        "cargo=q cargo=p dir=/c dir=/d manifest=a manifest=b",
-        "p in /d: metadata|--format-version|1|--manifest-path|b",
-    ),
-    (
-        "env=B,1 env=A,2 env=B,3",
-        "A=2 B=3 cargo in none: metadata|--format-version|1",
-    ),
-];
+static COMMANDS: &str = "
+ => cargo in none: metadata|--format-version|1
+no-deps selected=x,y all no-default manifest=p other=--z => cargo in none: metadata|--format-version|1|--no-deps|--features|x,y|--all-features|--no-default-features|--manifest-path|p|--z
+// names are added, other options replaced
+selected=x selected=y,x other=--a other=--b,--c => cargo in none: metadata|--format-version|1|--features|x,y,x|--b|--c
+all all => features given twice! cargo in none: metadata|--format-version|1|--all-features
+no-default all no-default => features given twice! cargo in none: metadata|--format-version|1|--all-features|--no-default-features
+no-deps selected=x,y all no-default manifest=p other=--z all => features given twice! cargo in none: metadata|--format-version|1|--no-deps|--features|x,y|--all-features|--no-default-features|--manifest-path|p|--z
+// of several values the last counts
+cargo=q cargo=p dir=/c dir=/d manifest=a manifest=b => p in /d: metadata|--format-version|1|--manifest-path|b
+env=B,1 env=A,2 env=B,3 => A=2 B=3 cargo in none: metadata|--format-version|1
+";
 
 /// Settings of a tool's options, in order, and the command that they become: its program, its directory and its words.
-static BECOMES: &[Row] = &[
-    ("", "cargo in none: metadata|--format-version|1"),
-    (
-        "feature=b,a feature=b manifest=x/Other.toml",
-        "cargo in x: metadata|--format-version|1|--manifest-path|Cargo.toml|--features|a b",
-    ),
-    (
-        "manifest=Cargo.toml dir=/d",
-        "cargo in .: metadata|--format-version|1|--manifest-path|Cargo.toml",
-    ),
-    ("manifest=/", "manifest path without parent"),
-    ("manifest=", "manifest path without parent"),
-    ("dir=", "cargo in .: metadata|--format-version|1"),
-    (
-        "no-default all feature=c lock other=--z",
-        "cargo in none: metadata|--format-version|1|--no-default-features|--all-features|--features|c|--frozen|--locked|--offline|--z",
-    ),
-    (
-        "lock other=--y other=--z no-default all feature=c",
-        "cargo in none: metadata|--format-version|1|--no-default-features|--all-features|--features|c|--frozen|--locked|--offline|--y|--z",
-    ),
-    ("cargo=p dir=/d", "p in /d: metadata|--format-version|1"),
-];
+static BECOMES: &str = "
+ => cargo in none: metadata|--format-version|1
+feature=b,a feature=b manifest=x/Other.toml => cargo in x: metadata|--format-version|1|--manifest-path|Cargo.toml|--features|a b
+manifest=Cargo.toml dir=/d => cargo in .: metadata|--format-version|1|--manifest-path|Cargo.toml
+manifest=/ => manifest path without parent
+manifest= => manifest path without parent
+dir= => cargo in .: metadata|--format-version|1
+no-default all feature=c lock other=--z => cargo in none: metadata|--format-version|1|--no-default-features|--all-features|--features|c|--frozen|--locked|--offline|--z
+lock other=--y other=--z no-default all feature=c => cargo in none: metadata|--format-version|1|--no-default-features|--all-features|--features|c|--frozen|--locked|--offline|--y|--z
+cargo=p dir=/d => p in /d: metadata|--format-version|1
+";
 
 /// Texts, and their first line that begins with `{`.
 static JSON_LINES: &[Row] = &[
@@ -206,13 +173,13 @@ impl Tell for OfCommand {
 }
 
 /// Settings of a command, after a bar and the program that is handed in, if there is one; and the program that it runs.
-static PROGRAMS: &[Row] = &[
-    ("|", "cargo"),
-    ("q|", "q"),
-    ("|cargo=p", "p"),
-    // its own before the one that is handed in
-    ("q|cargo=p", "p"),
-];
+static PROGRAMS: &str = "
+| => cargo
+q| => q
+|cargo=p => p
+// its own before the one that is handed in
+q|cargo=p => p
+";
 
 /// The program that a command runs.
 struct Program;
@@ -338,9 +305,9 @@ impl Tell for Read {
 
 #[test]
 fn commands_options_and_what_is_read(rt: HostRuntime) -> Result<(), Fail> {
-    hold::<OfCommand>(rt.alloc(), COMMANDS)?;
-    hold::<OfOptions>(rt.alloc(), BECOMES)?;
-    hold::<Program>(rt.alloc(), PROGRAMS)?;
+    hold_lines::<OfCommand>(rt.alloc(), COMMANDS)?;
+    hold_lines::<OfOptions>(rt.alloc(), BECOMES)?;
+    hold_lines::<Program>(rt.alloc(), PROGRAMS)?;
     hold::<JsonLine>(rt.alloc(), JSON_LINES)?;
     hold::<Read>(rt.alloc(), READ)
 }

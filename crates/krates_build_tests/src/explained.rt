@@ -6,7 +6,7 @@ use crate::lists::{Ask, Given, OfLine};
 use krates::derive::{CheckError, check, check_closed};
 use krates::{Builder, Krates, NodeId};
 use krates_samples::documents::section;
-use krates_samples::table::{Row, hold};
+use krates_samples::table::hold_lines;
 use krates_text::text::Text;
 use std::alloc::AllocError;
 use std::test::Fail;
@@ -75,37 +75,25 @@ impl Ask for Explained {
     }
 }
 
-static EXPLAINED: &[Row] = &[
-    // a weak reference over an edge that another feature keeps, and a strong one beside it
-    ("a b?;b=dep:b w=b?/j|b;j=", "5 nodes true, 7 facts true"),
-    (
-        "a b?;b=dep:b w=b?/j s=b/k|b;j= k=",
-        "7 nodes true, 10 facts true",
-    ),
-    // a reference over an edge for tests
-    ("a b&dev;x=b/y|b;y=", "4 nodes true, 6 facts true"),
-    // a reference to a feature of an excluded crate
-    ("a b;x=b/nope|b / without b", "2 nodes true, 2 facts true"),
-    // a dependency that is known by the name of its library, and one that is renamed
-    (
-        "a md-5?;x=md-5/std|md-5&lib=md5;std= / nodes a md-5&as=md5;x|md-5;std",
-        "4 nodes true, 6 facts true",
-    ),
-    (
-        "a real?&as=alias;x=dep:alias|real / nodes a real&as=alias;x|real",
-        "3 nodes true, 4 facts true",
-    ),
-    // two versions, which a feature enables by one name
-    (
-        "a d?;x=dep:d|d@0.10.0|d@0.9.0 / nodes a d@0.10.0 d@0.9.0;x|d@0.10.0|d@0.9.0 / names all",
-        "4 nodes true, 6 facts true",
-    ),
-    // an edge that two features require has one step
-    ("a b?;x=dep:b y=dep:b|b", "4 nodes true, 5 facts true"),
-    // documents that cargo wrote
-    ("weakling", "25 nodes true, 39 facts true"),
-    ("gitter", "21 nodes true, 32 facts true"),
-];
+static EXPLAINED: &str = "
+// a weak reference over an edge that another feature keeps, and a strong one beside it
+a b?;b=dep:b w=b?/j|b;j= => 5 nodes true, 7 facts true
+a b?;b=dep:b w=b?/j s=b/k|b;j= k= => 7 nodes true, 10 facts true
+// a reference over an edge for tests
+a b&dev;x=b/y|b;y= => 4 nodes true, 6 facts true
+// a reference to a feature of an excluded crate
+a b;x=b/nope|b / without b => 2 nodes true, 2 facts true
+// a dependency that is known by the name of its library, and one that is renamed
+a md-5?;x=md-5/std|md-5&lib=md5;std= / nodes a md-5&as=md5;x|md-5;std => 4 nodes true, 6 facts true
+a real?&as=alias;x=dep:alias|real / nodes a real&as=alias;x|real => 3 nodes true, 4 facts true
+// two versions, which a feature enables by one name
+a d?;x=dep:d|d@0.10.0|d@0.9.0 / nodes a d@0.10.0 d@0.9.0;x|d@0.10.0|d@0.9.0 / names all => 4 nodes true, 6 facts true
+// an edge that two features require has one step
+a b?;x=dep:b y=dep:b|b => 4 nodes true, 5 facts true
+// documents that cargo wrote
+weakling => 25 nodes true, 39 facts true
+gitter => 21 nodes true, 32 facts true
+";
 
 /// Adds the steps of the derivation of a node, where there is one, and what the check answers of it.
 fn push_reason(
@@ -152,34 +140,22 @@ impl Ask for Rechecked {
     }
 }
 
-static RECHECKED: &[Row] = &[
-    // a crate that is needed for tests
-    (
-        "a b&dev|b / why 1",
-        "1 +a; 5 a>b:dev 0; 5 +b 1; yes, facts yes",
-    ),
-    // an enabled feature, and no second node
-    ("a;x= / why 1", "1 a/x; yes, facts yes"),
-    ("a / why 1", "none, facts yes"),
-    // two versions, of which a name means both: the second is there for no other reason
-    (
-        "a d?;x=dep:d|d@0.10.0|d@0.9.0 / nodes a d@0.10.0 d@0.9.0;x|d@0.10.0|d@0.9.0 / names all / why 2",
-        "1 a/x; 4 a>d@0.9.0 0; 5 +d@0.9.0 1; yes, facts yes",
-    ),
-    // the same build, checked where the name means the least: what it kept needn't be reached, and lacks nothing that is
-    (
-        "a d?;x=dep:d|d@0.10.0|d@0.9.0 / nodes a d@0.10.0 d@0.9.0;x|d@0.10.0|d@0.9.0 / why 2 / built names all",
-        "1 a/x; 4 a>d@0.9.0 0; 5 +d@0.9.0 1; step 1, facts yes",
-    ),
-    // the other way round: what is kept where it means the least is reached where it means both, and isn't all
-    (
-        "a d?;x=dep:d|d@0.10.0|d@0.9.0 / nodes a d@0.10.0 d@0.9.0;x|d@0.10.0|d@0.9.0 / names all / why 1 / built names least",
-        "1 a/x; 4 a>d@0.10.0 0; 5 +d@0.10.0 1; yes, facts open",
-    ),
-];
+static RECHECKED: &str = "
+// a crate that is needed for tests
+a b&dev|b / why 1 => 1 +a; 5 a>b:dev 0; 5 +b 1; yes, facts yes
+// an enabled feature, and no second node
+a;x= / why 1 => 1 a/x; yes, facts yes
+a / why 1 => none, facts yes
+// two versions, of which a name means both: the second is there for no other reason
+a d?;x=dep:d|d@0.10.0|d@0.9.0 / nodes a d@0.10.0 d@0.9.0;x|d@0.10.0|d@0.9.0 / names all / why 2 => 1 a/x; 4 a>d@0.9.0 0; 5 +d@0.9.0 1; yes, facts yes
+// the same build, checked where the name means the least: what it kept needn't be reached, and lacks nothing that is
+a d?;x=dep:d|d@0.10.0|d@0.9.0 / nodes a d@0.10.0 d@0.9.0;x|d@0.10.0|d@0.9.0 / why 2 / built names all => 1 a/x; 4 a>d@0.9.0 0; 5 +d@0.9.0 1; step 1, facts yes
+// the other way round: what is kept where it means the least is reached where it means both, and isn't all
+a d?;x=dep:d|d@0.10.0|d@0.9.0 / nodes a d@0.10.0 d@0.9.0;x|d@0.10.0|d@0.9.0 / names all / why 1 / built names least => 1 a/x; 4 a>d@0.10.0 0; 5 +d@0.10.0 1; yes, facts open
+";
 
 #[test]
 fn builds_explain_what_they_keep(rt: HostRuntime) -> Result<(), Fail> {
-    hold::<OfLine<Explained>>(rt.alloc(), EXPLAINED)?;
-    hold::<OfLine<Rechecked>>(rt.alloc(), RECHECKED)
+    hold_lines::<OfLine<Explained>>(rt.alloc(), EXPLAINED)?;
+    hold_lines::<OfLine<Rechecked>>(rt.alloc(), RECHECKED)
 }

@@ -7,7 +7,7 @@ use krates::index::{
 };
 use krates::{Error, FilterFn, Krates, Package};
 use krates_samples::documents::{metadata, section};
-use krates_samples::table::{Row, Tell, hold};
+use krates_samples::table::{Tell, hold_lines};
 use krates_text::text::Text;
 use semver::Version;
 use std::alloc::Global;
@@ -67,34 +67,19 @@ impl Tell for AskedFor {
     }
 }
 
-static ASKED_FOR: &[Row] = &[
-    // it is asked once
-    ("a b|b", "+a+b, asked 1"),
-    // even where a package is lost, or no crate is kept
-    (
-        "a b|b / nodes a b",
-        "lost node: path+file:///w/b#0.1.0, asked 1",
-    ),
-    ("a|b / members", "no root crates available, asked 1"),
-    // it isn't asked where the document is refused as it was given
-    (
-        "a b|b / no graph",
-        "no resolution graph was provided, asked 0",
-    ),
-    (
-        "a b|b / null graph",
-        "no resolution graph was provided, asked 0",
-    ),
-    ("a b|b / members a &id=x", "invalid package id: x, asked 0"),
-    (
-        "a|a|b / nodes a|b",
-        "doubled id: path+file:///w/a#0.1.0, asked 0",
-    ),
-    (
-        "a b|b|b / nodes a b|b",
-        "doubled id: path+file:///w/b#0.1.0, asked 0",
-    ),
-];
+static ASKED_FOR: &str = "
+// it is asked once
+a b|b => +a+b, asked 1
+// even where a package is lost, or no crate is kept
+a b|b / nodes a b => lost node: path+file:///w/b#0.1.0, asked 1
+a|b / members => no root crates available, asked 1
+// it isn't asked where the document is refused as it was given
+a b|b / no graph => no resolution graph was provided, asked 0
+a b|b / null graph => no resolution graph was provided, asked 0
+a b|b / members a &id=x => invalid package id: x, asked 0
+a|a|b / nodes a|b => doubled id: path+file:///w/a#0.1.0, asked 0
+a b|b|b / nodes a b|b => doubled id: path+file:///w/b#0.1.0, asked 0
+";
 
 /// The one feature that `NAME=REFERENCE` says.
 fn features_of(alloc: Global, feature: &str) -> Result<FeaturesMap, Fail> {
@@ -164,34 +149,19 @@ impl Tell for Corrected {
     }
 }
 
-static CORRECTED: &[Row] = &[
-    // a package of crates.io that isn't kept, whose manifest has one feature
-    (
-        "a|p@1.0.0&crates.io;default=std / nodes a / index p@1.0.0 std",
-        "1 kept, closure p:2",
-    ),
-    (
-        "a|p@1.0.0&crates.io;default=std / nodes a / index p@1.0.1 std",
-        "1 kept, closure p:1",
-    ),
-    // of two versions the index knows one
-    (
-        "a|p@0.9.0&crates.io|p@1.0.0&crates.io / nodes a / index p@1.0.0 std",
-        "1 kept, closure p:0 p:1",
-    ),
-    // the index lets the default features of the crate, or of one that the document lacks, name one that no node lists
-    (
-        "a b!|b@1.0.0&crates.io|p;x= / nodes a b@1.0.0&crates.io|b@1.0.0&crates.io;default / index b@1.0.0 default=std",
-        "lost feature: std of registry+https://github.com/rust-lang/crates.io-index#b@1.0.0, closure",
-    ),
-    (
-        "a b!|b@1.0.0&crates.io|p;x= / nodes a b@1.0.0&crates.io|b@1.0.0&crates.io;default / index z@1.0.0 default=std",
-        "2 kept, closure p:1",
-    ),
-];
+static CORRECTED: &str = "
+// a package of crates.io that isn't kept, whose manifest has one feature
+a|p@1.0.0&crates.io;default=std / nodes a / index p@1.0.0 std => 1 kept, closure p:2
+a|p@1.0.0&crates.io;default=std / nodes a / index p@1.0.1 std => 1 kept, closure p:1
+// of two versions the index knows one
+a|p@0.9.0&crates.io|p@1.0.0&crates.io / nodes a / index p@1.0.0 std => 1 kept, closure p:0 p:1
+// the index lets the default features of the crate, or of one that the document lacks, name one that no node lists
+a b!|b@1.0.0&crates.io|p;x= / nodes a b@1.0.0&crates.io|b@1.0.0&crates.io;default / index b@1.0.0 default=std => lost feature: std of registry+https://github.com/rust-lang/crates.io-index#b@1.0.0, closure
+a b!|b@1.0.0&crates.io|p;x= / nodes a b@1.0.0&crates.io|b@1.0.0&crates.io;default / index z@1.0.0 default=std => 2 kept, closure p:1
+";
 
 #[test]
 fn asked_once_and_reported_or_lost_as_corrected(rt: HostRuntime) -> Result<(), Fail> {
-    hold::<AskedFor>(rt.alloc(), ASKED_FOR)?;
-    hold::<Corrected>(rt.alloc(), CORRECTED)
+    hold_lines::<AskedFor>(rt.alloc(), ASKED_FOR)?;
+    hold_lines::<Corrected>(rt.alloc(), CORRECTED)
 }

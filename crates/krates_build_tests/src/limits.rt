@@ -11,7 +11,7 @@ use krates_drawing::outline::Outline;
 use krates_ids::Error;
 use krates_resolve::{Document, Setting, admit, select};
 use krates_samples::documents::section;
-use krates_samples::table::{Row, Tell, hold};
+use krates_samples::table::{Tell, hold_lines};
 use krates_text::text::Text;
 use std::alloc::Global;
 use std::test::Fail;
@@ -59,48 +59,30 @@ impl Tell for Drawn {
     }
 }
 
-static LIMITS: &[Row] = &[
-    // two crates and an edge: exactly as many as there may be, and one of either too many
-    ("a b|b / within 2 1", "2 nodes, 1 edges"),
-    ("a b|b / within 1 1", "too many nodes or edges"),
-    ("a b|b / within 2 0", "too many nodes or edges"),
-    // a crate alone
-    ("a / within 1 0", "1 nodes, 0 edges"),
-    ("a / within 0 0", "too many nodes or edges"),
-    // features are nodes as well: two crates and three features, with an edge to `b`, one that requires its feature, and one from each
-    // feature to what it enables and to its crate
-    (
-        "a b?;b=dep:b w=b?/j|b;j= / nodes a b;b w|b;j / within 5 7",
-        "5 nodes, 7 edges",
-    ),
-    (
-        "a b?;b=dep:b w=b?/j|b;j= / nodes a b;b w|b;j / within 4 7",
-        "too many nodes or edges",
-    ),
-    (
-        "a b?;b=dep:b w=b?/j|b;j= / nodes a b;b w|b;j / within 5 6",
-        "too many nodes or edges",
-    ),
-    // nine features that one dependency requires: an edge to each, and one from each to its crate
-    (
-        "a b&with=f1,f2,f3,f4,f5,f6,f7,f8,f9|b;f1= f2= f3= f4= f5= f6= f7= f8= f9= / within 11 18",
-        "11 nodes, 18 edges",
-    ),
-    (
-        "a b&with=f1,f2,f3,f4,f5,f6,f7,f8,f9|b;f1= f2= f3= f4= f5= f6= f7= f8= f9= / within 11 17",
-        "too many nodes or edges",
-    ),
-    // more room than is needed
-    ("a b|b a / within 4294967295 4294967295", "2 nodes, 2 edges"),
-    // a crate that nobody needs isn't drawn; the feature of the other one is the node too many
-    (
-        "a;x=|b / nodes a;x|b / within 1 9",
-        "too many nodes or edges",
-    ),
-    ("a;x=|b / nodes a;x|b / within 2 9", "2 nodes, 1 edges"),
-];
+static LIMITS: &str = "
+// two crates and an edge: exactly as many as there may be, and one of either too many
+a b|b / within 2 1 => 2 nodes, 1 edges
+a b|b / within 1 1 => too many nodes or edges
+a b|b / within 2 0 => too many nodes or edges
+// a crate alone
+a / within 1 0 => 1 nodes, 0 edges
+a / within 0 0 => too many nodes or edges
+// features are nodes as well: two crates and three features, with an edge to `b`, one that requires its feature, and one from each
+// feature to what it enables and to its crate
+a b?;b=dep:b w=b?/j|b;j= / nodes a b;b w|b;j / within 5 7 => 5 nodes, 7 edges
+a b?;b=dep:b w=b?/j|b;j= / nodes a b;b w|b;j / within 4 7 => too many nodes or edges
+a b?;b=dep:b w=b?/j|b;j= / nodes a b;b w|b;j / within 5 6 => too many nodes or edges
+// nine features that one dependency requires: an edge to each, and one from each to its crate
+a b&with=f1,f2,f3,f4,f5,f6,f7,f8,f9|b;f1= f2= f3= f4= f5= f6= f7= f8= f9= / within 11 18 => 11 nodes, 18 edges
+a b&with=f1,f2,f3,f4,f5,f6,f7,f8,f9|b;f1= f2= f3= f4= f5= f6= f7= f8= f9= / within 11 17 => too many nodes or edges
+// more room than is needed
+a b|b a / within 4294967295 4294967295 => 2 nodes, 2 edges
+// a crate that nobody needs isn't drawn; the feature of the other one is the node too many
+a;x=|b / nodes a;x|b / within 1 9 => too many nodes or edges
+a;x=|b / nodes a;x|b / within 2 9 => 2 nodes, 1 edges
+";
 
 #[test]
 fn limits(rt: HostRuntime) -> Result<(), Fail> {
-    hold::<Drawn>(rt.alloc(), LIMITS)
+    hold_lines::<Drawn>(rt.alloc(), LIMITS)
 }

@@ -8,7 +8,7 @@ use crate::own_types::Named;
 use krates::graph::GraphEdge;
 use krates::{DepKind, Edge, Krates};
 use krates_samples::documents::kind_named;
-use krates_samples::table::{Row, Tell, hold};
+use krates_samples::table::{Tell, hold_lines};
 use krates_text::text::Text;
 use std::alloc::AllocError;
 use std::fmt;
@@ -51,37 +51,22 @@ impl Told<Named> for Printed {
     }
 }
 
-static PRINTED: &[Row] = &[
-    // a feature, and its edge
-    ("a;f=", "crate a,feature f,|;| :"),
-    // a dependency of each kind
-    ("a b|b", "crate a,crate b,|;| >"),
-    ("a b&build|b", "crate a,crate b,|(build);| >:build"),
-    ("a b&dev|b", "crate a,crate b,|(dev);| >:dev"),
-    // and for one target
-    (
-        "a b&on=cfg(unix)|b",
-        "crate a,crate b,| 'cfg(unix)';| >::cfg(unix)",
-    ),
-    (
-        "a b&build&on=cfg(unix)|b",
-        "crate a,crate b,|(build) 'cfg(unix)';| >:build:cfg(unix)",
-    ),
-    (
-        "a b&dev&on=cfg(unix)|b",
-        "crate a,crate b,|(dev) 'cfg(unix)';| >:dev:cfg(unix)",
-    ),
-    // a dependency on a feature, and that feature's edge
-    ("a b&with=f|b;f=", "crate a,crate b,feature f,|;;| = :"),
-    (
-        "a b&build&with=f|b;f=",
-        "crate a,crate b,feature f,|(build);;| =:build :",
-    ),
-    (
-        "a b&dev&with=f&on=cfg(unix)|b;f=",
-        "crate a,crate b,feature f,|(dev) 'cfg(unix)';;| =:dev:cfg(unix) :",
-    ),
-];
+static PRINTED: &str = "
+// a feature, and its edge
+a;f= => crate a,feature f,|;| :
+// a dependency of each kind
+a b|b => crate a,crate b,|;| >
+a b&build|b => crate a,crate b,|(build);| >:build
+a b&dev|b => crate a,crate b,|(dev);| >:dev
+// and for one target
+a b&on=cfg(unix)|b => crate a,crate b,| 'cfg(unix)';| >::cfg(unix)
+a b&build&on=cfg(unix)|b => crate a,crate b,|(build) 'cfg(unix)';| >:build:cfg(unix)
+a b&dev&on=cfg(unix)|b => crate a,crate b,|(dev) 'cfg(unix)';| >:dev:cfg(unix)
+// a dependency on a feature, and that feature's edge
+a b&with=f|b;f= => crate a,crate b,feature f,|;;| = :
+a b&build&with=f|b;f= => crate a,crate b,feature f,|(build);;| =:build :
+a b&dev&with=f&on=cfg(unix)|b;f= => crate a,crate b,feature f,|(dev) 'cfg(unix)';;| =:dev:cfg(unix) :
+";
 
 /// What is printed for the kind of this name, in quotes, and which of cargo's kinds it is.
 struct Kinds;
@@ -99,14 +84,14 @@ impl Tell for Kinds {
     }
 }
 
-static KINDS: &[Row] = &[
-    ("normal", "'' normal"),
-    ("build", "'build' build"),
-    ("dev", "'dev' dev"),
-];
+static KINDS: &str = "
+normal => '' normal
+build => 'build' build
+dev => 'dev' dev
+";
 
 #[test]
 fn printed_texts(rt: HostRuntime) -> Result<(), Fail> {
-    hold::<OfGraph<Printed, Named>>(rt.alloc(), PRINTED)?;
-    hold::<Kinds>(rt.alloc(), KINDS)
+    hold_lines::<OfGraph<Printed, Named>>(rt.alloc(), PRINTED)?;
+    hold_lines::<Kinds>(rt.alloc(), KINDS)
 }

@@ -15,7 +15,7 @@ use krates::{
     DepKind, Edge, EdgeId, Error, Feature, IdError, Kid, NodeId, Package, PackageId, ParsedFeature,
     PkgSpec, Target, cm, laws, path,
 };
-use krates_samples::table::{Row, Tell, hold};
+use krates_samples::table::{Tell, hold_lines};
 use krates_text::text::Text;
 use std::alloc::Global;
 use std::collections::{BTreeMap, BTreeSet};
@@ -124,23 +124,20 @@ impl Tell for Named {
     }
 }
 
-static NAMES: &[Row] = &[
-    ("NodeId 3", "3"),
-    ("EdgeId 4", "4"),
-    ("graph::Graph", "2"),
-    ("index::CachingIndex", "1"),
-    ("resolve::Selection a b|b|c", "2"),
-    ("ParsedFeature a?/b", "weak"),
-    ("IdError a/b", "stable"),
-    ("cfg::CfgError cfg()", "syntax"),
-    ("path::parent /w/a", "/w"),
-    (
-        "cfg::builtin x86_64-pc-windows-msvc",
-        "x86_64-pc-windows-msvc",
-    ),
-    ("Target x", "x"),
-    ("PkgSpec e@1.0.0", "e"),
-];
+static NAMES: &str = "
+NodeId 3 => 3
+EdgeId 4 => 4
+graph::Graph => 2
+index::CachingIndex => 1
+resolve::Selection a b|b|c => 2
+ParsedFeature a?/b => weak
+IdError a/b => stable
+cfg::CfgError cfg() => syntax
+path::parent /w/a => /w
+cfg::builtin x86_64-pc-windows-msvc => x86_64-pc-windows-msvc
+Target x => x
+PkgSpec e@1.0.0 => e
+";
 
 /// Calls each law of builds and of queries.
 fn call_laws_of_builds() {
@@ -198,5 +195,5 @@ fn names_of_laws(_rt: HostRuntime) -> Result<(), Fail> {
 #[test]
 fn names_of_values_and_texts(rt: HostRuntime) -> Result<(), Fail> {
     assert!(rt; DepKind::Dev.is(DependencyKind::Development));
-    hold::<Named>(rt.alloc(), NAMES)
+    hold_lines::<Named>(rt.alloc(), NAMES)
 }

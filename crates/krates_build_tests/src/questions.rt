@@ -12,7 +12,7 @@ use krates_ids::Kid;
 use krates_questions::Need;
 use krates_resolve::{Document, Setting, admit};
 use krates_samples::documents::kid_of;
-use krates_samples::table::{Row, Tell, compare, hold};
+use krates_samples::table::{Tell, compare, hold_lines};
 use krates_text::text::Text;
 use std::test::Fail;
 
@@ -127,44 +127,29 @@ impl Tell for Answers {
     }
 }
 
-static ANSWERS: &[Row] = &[
-    (
-        "a f",
-        r#"root true, stands true, Available(NodePlace { index: 0 }), package a, node true, lists true ["b/g", "x"] of 2: b c"#,
-    ),
-    // a feature that the manifest lacks, and one that the node doesn't list
-    (
-        "a e",
-        "root true, stands true, Available(NodePlace { index: 0 }), package a, node true, lists true [] of 2: b c",
-    ),
-    (
-        "a g / without a",
-        "root true, stands false, Excluded, package a, node true, lists false [] of 2: b c",
-    ),
-    (
-        "n f",
-        "root false, stands false, NoNode, package n, node false, lists false [] of 0:",
-    ),
-    (
-        "q f",
-        "root false, stands false, NoPackage, package none, node true, lists false [] of 0:",
-    ),
-    // dependencies
-    ("a b dev", "wanted of 3, Some(Development)"),
-    ("a b build / ignore dev", "wanted of 3, Some(Build)"),
-    // what it is declared as doesn't depend on what is ignored
-    ("a b dev / ignore dev", "nothing of 3, Some(Development)"),
-    // listed, and not declared that way
-    ("a b normal", "undeclared of 3, None"),
-    ("a c normal cfg(windows)", "wanted of 1, Some(Normal)"),
-    // not listed for every target, or not at all
-    ("a c normal", "nothing of 1, None"),
-    ("b c normal", "nothing of 0, None"),
-];
+static ANSWERS: &str = r#"
+a f => root true, stands true, Available(NodePlace { index: 0 }), package a, node true, lists true ["b/g", "x"] of 2: b c
+// a feature that the manifest lacks, and one that the node doesn't list
+a e => root true, stands true, Available(NodePlace { index: 0 }), package a, node true, lists true [] of 2: b c
+a g / without a => root true, stands false, Excluded, package a, node true, lists false [] of 2: b c
+n f => root false, stands false, NoNode, package n, node false, lists false [] of 0:
+q f => root false, stands false, NoPackage, package none, node true, lists false [] of 0:
+// dependencies
+a b dev => wanted of 3, Some(Development)
+a b build / ignore dev => wanted of 3, Some(Build)
+// what it is declared as doesn't depend on what is ignored
+a b dev / ignore dev => nothing of 3, Some(Development)
+// listed, and not declared that way
+a b normal => undeclared of 3, None
+a c normal cfg(windows) => wanted of 1, Some(Normal)
+// not listed for every target, or not at all
+a c normal => nothing of 1, None
+b c normal => nothing of 0, None
+"#;
 
 #[test]
 fn what_there_is_for_crates_and_dependencies(rt: HostRuntime) -> Result<(), Fail> {
-    hold::<Answers>(rt.alloc(), ANSWERS)
+    hold_lines::<Answers>(rt.alloc(), ANSWERS)
 }
 
 #[test]

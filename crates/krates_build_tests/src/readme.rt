@@ -5,7 +5,7 @@ use krates::cm::MetadataCommand;
 use krates::derive::{CheckError, Derivation, Fact, Step, check, check_closed};
 use krates::{Builder, Cmd, Error, Kid, Krates, Metadata, NoneFilter};
 use krates_samples::documents::kid_of;
-use krates_samples::table::{Row, hold};
+use krates_samples::table::hold_lines;
 use krates_text::text::Text;
 use std::alloc::{AllocError, Global};
 use std::test::Fail;
@@ -63,24 +63,15 @@ impl Ask for Example {
     }
 }
 
-static TOLD: &[Row] = &[
-    (
-        "a b&dev|b",
-        "it is kept, since it is a root; something else follows",
-    ),
-    (
-        "a b&dev|b / ignore dev",
-        "it is kept, since it is a root; nothing else can be reached",
-    ),
-    (
-        "a b&dev|b / members b",
-        "that it is a root doesn't follow; something else follows",
-    ),
-];
+static TOLD: &str = "
+a b&dev|b => it is kept, since it is a root; something else follows
+a b&dev|b / ignore dev => it is kept, since it is a root; nothing else can be reached
+a b&dev|b / members b => that it is a root doesn't follow; something else follows
+";
 
 #[test]
 fn the_example_of_the_readme(rt: HostRuntime) -> Result<(), Fail> {
-    hold::<OfLine<Example>>(rt.alloc(), TOLD)
+    hold_lines::<OfLine<Example>>(rt.alloc(), TOLD)
 }
 
 /// The packages that the workspace of a manifest needs, with all its features, one a line.

@@ -12,7 +12,7 @@ use crate::of_graph::{OfGraph, Told};
 use krates::{DepKind, Krates, Package, laws};
 use krates_drawing::laws as drawing;
 use krates_samples::documents::{kind_named, section};
-use krates_samples::table::{Row, hold};
+use krates_samples::table::hold_lines;
 use krates_text::text::Text;
 use std::alloc::{AllocError, Global};
 use std::test::Fail;
@@ -71,27 +71,21 @@ impl Told<Package> for Beside {
     }
 }
 
-static BESIDE: &[Row] = &[
-    // what only a dev dependency brings is in neither
-    ("a b&dev|b / ask dev", "+a beside +a"),
-    ("a b&dev c|b c|c / ask dev", "+a+c beside +a+c"),
-    // a member that another crate needs for its tests
-    ("a b&dev|b / members a b / ask dev", "+a+b beside +a+b"),
-    // a reference leads to the crate without the kind, and the rebuild has no such edge
-    (
-        "a b&dev;x=b/y|b;y= / nodes a b&dev;x|b;y / ask dev",
-        "+a+b beside +a",
-    ),
-    // a member that isn't a root: it is found, and isn't kept again
-    (
-        "a b&dev|b / members a b / root a / ask dev",
-        "+a+b beside +a",
-    ),
-    // a root that isn't a member: it is kept again, and isn't found
-    ("a|b / members a / root b / ask dev", " beside +b"),
-];
+static BESIDE: &str = "
+// what only a dev dependency brings is in neither
+a b&dev|b / ask dev => +a beside +a
+a b&dev c|b c|c / ask dev => +a+c beside +a+c
+// a member that another crate needs for its tests
+a b&dev|b / members a b / ask dev => +a+b beside +a+b
+// a reference leads to the crate without the kind, and the rebuild has no such edge
+a b&dev;x=b/y|b;y= / nodes a b&dev;x|b;y / ask dev => +a+b beside +a
+// a member that isn't a root: it is found, and isn't kept again
+a b&dev|b / members a b / root a / ask dev => +a+b beside +a
+// a root that isn't a member: it is kept again, and isn't found
+a|b / members a / root b / ask dev =>  beside +b
+";
 
 #[test]
 fn filtered_beside_a_rebuild(rt: HostRuntime) -> Result<(), Fail> {
-    hold::<OfGraph<Beside>>(rt.alloc(), BESIDE)
+    hold_lines::<OfGraph<Beside>>(rt.alloc(), BESIDE)
 }

@@ -1,5 +1,5 @@
 -- What a verdict about a build says, by the numbers of the tables.
-use Rattle.std.specs.Prelude.{◌≡◌, ℕ, Bool, true, false, Option, Some, None, IsTrue, List, Contains}
+use Rattle.std.specs.Prelude.{◌≡◌, ◌↔◌, ℕ, Bool, true, false, Option, Some, None, IsTrue, List, Contains, slice_get, take}
 use Rattle.std.specs.BTreeSet.{BTreeSet, contains}
 use Rattle.std.specs.Ordering.{nat_cmp}
 use Rattle.krates_build_tables.specs.declared.tables.Tables.{Tables}
@@ -28,9 +28,13 @@ built_by (ScriptRun c at) = None
 built_by (ScriptCompiled c n) = Some c
 built_by (RunNeeded place from run) = None
 
--- the set has the number of each crate that one of the facts says is built
+-- one of the facts says that the crate with this number is built
+abbrev pub SaysBuilt : List FactModel → ℕ → Type 0
+SaysBuilt facts number = (f : FactModel) × Contains facts f × (built_by f ≡ Some number)
+
+-- the set has exactly the numbers of the crates that the facts say are built
 abbrev pub HasBuilt : BTreeSet ℕ → List FactModel → Type 0
-HasBuilt krates facts = (f : FactModel) (number : ℕ) → Contains facts f → built_by f ≡ Some number → IsTrue (contains nat_cmp krates number)
+HasBuilt krates facts = (number : ℕ) → IsTrue (contains nat_cmp krates number) ↔ SaysBuilt facts number
 
 -- whether a fact says that the document has no edge for a dependency that the build needs
 abbrev pub is_lost : FactModel → Bool
@@ -55,6 +59,13 @@ is_lost (RunNeeded place from run) = false
 -- none of the facts says so
 abbrev pub NoneLost : List FactModel → Type 0
 NoneLost facts = (f : FactModel) → Contains facts f → is_lost f ≡ true → ⊥
+
+-- the fact with this number says so, and none before it
+pub record IsLostAt (facts : List FactModel) (number : ℕ) : Type 0 where
+  pub fact : FactModel
+  pub here : slice_get facts number ≡ Some fact
+  pub lost : is_lost fact ≡ true
+  pub before : NoneLost (take number facts)
 
 -- The crates with these numbers are all that are built, and nothing is lost.
 pub record AreAll (t : Tables) (krates : BTreeSet ℕ) : Type 0 where

@@ -1,5 +1,11 @@
 //! From the bytes of a certificate to the line of its verdict.
 
+ghost use Rattle.std.specs.Prelude.{◌≡◌, Err, IfErr, IsUtf8, OnOk};
+ghost use Rattle.krates_cm.specs.Document.{metadata_view};
+ghost use Rattle.krates_units.specs.BuildSetting.{build_setting_view};
+ghost use Rattle.krates_build_verdict.specs.JudgedBytes.{AreHeld, BytesRefusal};
+ghost use Rattle.krates_build_verdict.specs.declared.refusal.BuildRefusal.TheVariants as refusals;
+
 use crate::machines::expect_build;
 use crate::refusal::BuildRefusal;
 use crate::subject::BuildSubject;
@@ -24,7 +30,13 @@ pub fn judge_bytes(
     metadata: &Metadata,
     setting: &BuildSetting,
     certificate: &[u8],
-) -> Result<String, BuildRefusal> {
+) -> Result<String, BuildRefusal>
+    ensures held { OnOk result (AreHeld (metadata_view metadata.now)
+        (build_setting_view setting.now) certificate.now) }
+    ensures refused { IfErr result (BytesRefusal (metadata_view metadata.now)
+        (build_setting_view setting.now) certificate.now) }
+    ensures no_text { (IsUtf8 certificate.now → ⊥) → result ≡ Err refusals.Utf8 }
+{
     let Ok(text) = str::from_utf8(certificate) else {
         return Err(BuildRefusal::Utf8);
     };

@@ -1,10 +1,12 @@
 //! Whether a certificate is of a build, by its words and its machines.
 
-ghost use Rattle.std.specs.Prelude.{◌≡◌, ◌↔◌, IsTrue, OnOk, map};
+ghost use Rattle.std.specs.Prelude.{◌≡◌, ◌↔◌, IfErr, IfOk, IsTrue, OnOk, length, map};
+ghost use Rattle.std.specs.List.{AllZip};
 ghost use Rattle.krates_cm.specs.Document.{text_view, texts_view};
 ghost use Rattle.krates_units.specs.BuildSetting.{build_setting_view};
 ghost use Rattle.krates_units.specs.Machines.{machine_view};
-ghost use Rattle.krates_units.specs.RustcLines.{IsPrinted};
+ghost use Rattle.krates_build_certificate.specs.BuildCertificateViews.{certificate_told, machine_told};
+ghost use Rattle.krates_build_verdict.specs.SameBuild.{Describes, IsOfBuild, MachineFails, MachineRefusal, MachinesRefusal, OtherBuildRefusal, OtherWords, machines_asked};
 ghost use Rattle.krates_words.specs.BuildSettingWords.{words_of_build};
 
 use crate::refusal::BuildRefusal;
@@ -19,8 +21,10 @@ pub(crate) fn expect_build(
     setting: &BuildSetting,
     certificate: &BuildCertificate,
 ) -> Result<(), BuildRefusal>
-    ensures words { OnOk result (texts_view certificate.now.setting
-        ≡ words_of_build (build_setting_view setting.now)) }
+    ensures of_build { OnOk result (IsOfBuild (build_setting_view setting.now)
+        (certificate_told certificate.now)) }
+    ensures refused { IfErr result (OtherBuildRefusal (build_setting_view setting.now)
+        (certificate_told certificate.now)) }
 {
     expect_words(alloc, setting, &certificate.setting)?;
     expect_machines(alloc, setting, &certificate.machines)
@@ -32,7 +36,10 @@ fn expect_words(
     setting: &BuildSetting,
     claimed: &[String],
 ) -> Result<(), BuildRefusal>
-    ensures { OnOk result (map text_view claimed.now ≡ words_of_build (build_setting_view setting.now)) }
+    ensures words { OnOk result (map text_view claimed.now
+        ≡ words_of_build (build_setting_view setting.now)) }
+    ensures refused { let claimed = map text_view claimed.now in
+        IfErr result (OtherWords (build_setting_view setting.now) claimed) }
 {
     let words = build_setting_words(alloc, setting)?;
     if has_words(claimed, &words) {
@@ -51,7 +58,9 @@ fn has_words(claimed: &[String], words: &[String]) -> bool
 }
 
 /// Copies of these words.
-fn copies(alloc: Global, words: &[String]) -> Result<Vec<String>, AllocError> {
+fn copies(alloc: Global, words: &[String]) -> Result<Vec<String>, AllocError>
+    ensures { IfOk result (λ copies. texts_view copies ≡ map text_view words.now) }
+{
     let mut copies = Vec::new(alloc);
     for word in words {
         copies.push(word.clone()?)?;
@@ -64,7 +73,12 @@ fn expect_machines(
     alloc: Global,
     setting: &BuildSetting,
     machines: &[MachineText],
-) -> Result<(), BuildRefusal> {
+) -> Result<(), BuildRefusal>
+    ensures described { let asked = machines_asked (build_setting_view setting.now) in
+        OnOk result (AllZip Describes (map machine_told machines.now) asked) }
+    ensures refused { let asked = machines_asked (build_setting_view setting.now) in
+        IfErr result (MachinesRefusal (map machine_told machines.now) asked) }
+{
     match machines {
         [host, targets @ ..] if targets.len() == setting.targets.len() => {
             expect_machine(alloc, &setting.host, host)?;
@@ -72,7 +86,7 @@ fn expect_machines(
         }
         _ => Err(BuildRefusal::Count {
             found: machines.len(),
-            wanted: setting.targets.len().saturating_add(1),
+            wanted: setting.targets.len() + 1,
         }),
     }
 }
@@ -82,16 +96,23 @@ fn expect_targets(
     alloc: Global,
     machines: &[Machine],
     texts: &[MachineText],
-) -> Result<(), BuildRefusal> {
-    for (machine, text) in machines.iter().zip(texts) {
-        expect_machine(alloc, machine, text)?;
+) -> Result<(), BuildRefusal>
+    requires { length texts.now ≡ length machines.now }
+    ensures described { OnOk result (AllZip Describes (map machine_told texts.now)
+        (map machine_view machines.now)) }
+    ensures refused { IfErr result (MachineFails (map machine_told texts.now)
+        (map machine_view machines.now)) }
+{
+    for (number, machine) in machines.iter().enumerate() {
+        expect_machine(alloc, machine, &texts[number])?;
     }
     Ok(())
 }
 
 /// Refuses another machine than this.
 fn expect_machine(alloc: Global, machine: &Machine, text: &MachineText) -> Result<(), BuildRefusal>
-    ensures { OnOk result (IsPrinted (text_view text.now.triple) (text_view text.now.cfg)
+    ensures described { OnOk result (Describes (machine_told text.now) (machine_view machine.now)) }
+    ensures refused { IfErr result (MachineRefusal (machine_told text.now)
         (machine_view machine.now)) }
 {
     let triple = String::from_str(alloc, machine.triple())?;

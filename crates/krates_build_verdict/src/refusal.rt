@@ -1,6 +1,8 @@
 //! Why there is no verdict about a build.
 
-ghost use Rattle.std.specs.Prelude.{◌≡◌};
+ghost use Rattle.std.specs.Prelude.{◌≡◌, IfOk, map, option_map, string_bytes};
+ghost use Rattle.krates_build_verdict.specs.ClaimRefusals.{TellsWord, place_of};
+ghost use Rattle.krates_build_verdict.specs.RefusalCauses.{DocumentErrorBecomes, HasRequestText, ObjectionBecomes, TextErrorBecomes};
 ghost use Rattle.krates_build_verdict.specs.declared.refusal.BuildRefusal.TheVariants.{Memory};
 
 use krates_build_certificate::BuildCertificateError;
@@ -93,7 +95,9 @@ impl BuildRefusal {
         number: usize,
         fault: NameFault,
         words: &[String],
-    ) -> BuildRefusal {
+    ) -> BuildRefusal
+        ensures { TellsWord part.now number (place_of fault) (map string_bytes words.now) result }
+    {
         let place = place_of(fault);
         match copied(words.get(place)) {
             Ok(text) => BuildRefusal::Unnamed {
@@ -106,7 +110,9 @@ impl BuildRefusal {
     }
 
     /// The refusal of a request that names nothing.
-    pub(crate) fn unanswered(alloc: Global, request: Unanswered<'_>) -> BuildRefusal {
+    pub(crate) fn unanswered(alloc: Global, request: Unanswered<'_>) -> BuildRefusal
+        ensures { HasRequestText result }
+    {
         match format!(in alloc; "{}", NoAnswer(request)) {
             Ok(text) => BuildRefusal::Unanswered(text),
             Err(_) => BuildRefusal::Memory,
@@ -115,7 +121,10 @@ impl BuildRefusal {
 }
 
 /// A copy of a text, if there is one.
-fn copied(text: Option<&String>) -> Result<Option<String>, AllocError> {
+fn copied(text: Option<&String>) -> Result<Option<String>, AllocError>
+    ensures { IfOk result (λ copy. option_map string_bytes copy
+        ≡ option_map (λ t. string_bytes t.now) text.entry) }
+{
     match text {
         Some(text) => Ok(Some(text.clone()?)),
         None => Ok(None),
@@ -123,7 +132,9 @@ fn copied(text: Option<&String>) -> Result<Option<String>, AllocError> {
 }
 
 /// The place of the first word that names nothing.
-fn place_of(fault: NameFault) -> usize {
+fn place_of(fault: NameFault) -> usize
+    ensures { result ≡ place_of fault }
+{
     match fault {
         NameFault::Missing(place)
         | NameFault::Form(place)
@@ -135,7 +146,8 @@ fn place_of(fault: NameFault) -> usize {
         | NameFault::Link(place)
         | NameFault::Lacking(place)
         | NameFault::Target(place)
-        | NameFault::Platform(place) => place,
+        | NameFault::Platform(place)
+        | NameFault::Further(place) => place,
     }
 }
 
@@ -218,6 +230,8 @@ impl fmt::Display for Objection {
 }
 
 impl From<BuildCertificateError> for BuildRefusal {
+    ghost from_gives = { TextErrorBecomes };
+
     fn from(cause: BuildCertificateError) -> BuildRefusal {
         if cause.is_memory() {
             return BuildRefusal::Memory;
@@ -227,6 +241,8 @@ impl From<BuildCertificateError> for BuildRefusal {
 }
 
 impl From<BuildCheckError> for BuildRefusal {
+    ghost from_gives = { ObjectionBecomes };
+
     fn from(cause: BuildCheckError) -> BuildRefusal {
         match cause {
             BuildCheckError::Memory => BuildRefusal::Memory,
@@ -236,6 +252,8 @@ impl From<BuildCheckError> for BuildRefusal {
 }
 
 impl From<Error> for BuildRefusal {
+    ghost from_gives = { DocumentErrorBecomes };
+
     fn from(cause: Error) -> BuildRefusal {
         match cause {
             Error::Memory => BuildRefusal::Memory,

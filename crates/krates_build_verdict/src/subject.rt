@@ -1,10 +1,13 @@
 //! What a certificate of a build is judged against, and how it is judged.
 
-ghost use Rattle.std.specs.Prelude.{IfOk, map};
-ghost use Rattle.krates_build_tables.specs.CrateParts.{AreTablesOf};
+ghost use Rattle.std.specs.Prelude.{IfErr, IfOk, map};
+ghost use Rattle.krates_cm.specs.Document.{texts_view};
+ghost use Rattle.krates_build_certificate.specs.BuildCertificateViews.{claim_told, step_told, told_closed, told_steps};
 ghost use Rattle.krates_build_verdict.specs.BuildVerdicts.{Holds};
+ghost use Rattle.krates_build_verdict.specs.ClaimRefusals.{ClaimRefusal};
+ghost use Rattle.krates_build_verdict.specs.JudgedBytes.{IsSubjectFor, SubjectRefusal};
+ghost use Rattle.krates_build_verdict.specs.SaidClaims.{AreNamesFor, ClaimSays};
 ghost use Rattle.krates_questions.specs.Lookup.{resolved_view};
-ghost use Rattle.krates_rules.specs.Resolved.{id_of};
 ghost use Rattle.krates_units.specs.BuildSetting.{build_setting_view};
 
 use crate::built_crates::built_crates;
@@ -39,9 +42,9 @@ impl<'d, 'a> BuildSubject<'d, 'a> {
         document: &'d Document<'a>,
         setting: &'a BuildSetting,
     ) -> Result<BuildSubject<'d, 'a>, BuildRefusal>
-        ensures { IfOk result (λ subject. AreTablesOf (resolved_view document.now)
-            (build_setting_view setting.now) (map id_of document.now.ids.now.table.ids.items)
-            subject.tables) }
+        ensures made { IfOk result (IsSubjectFor document.now (build_setting_view setting.now)) }
+        ensures refused { IfErr result (SubjectRefusal (resolved_view document.now)
+            (build_setting_view setting.now)) }
     {
         if let Some(request) = first_unanswered(alloc, document, setting)? {
             return Err(BuildRefusal::unanswered(alloc, request));
@@ -51,7 +54,9 @@ impl<'d, 'a> BuildSubject<'d, 'a> {
     }
 
     /// What the words of facts are read against. Time O(1).
-    pub fn names(&self) -> FactNames<'_, 'a> {
+    pub fn names(&self) -> FactNames<'_, 'a>
+        ensures { AreNamesFor self.now result }
+    {
         FactNames {
             ids: self.document.crate_ids(),
             tables: &self.tables,
@@ -70,7 +75,9 @@ impl<'d, 'a> BuildSubject<'d, 'a> {
         alloc: Global,
         claim: &'a BuildClaim,
     ) -> Result<BuildVerdict<'a>, BuildRefusal>
-        ensures { IfOk result (Holds self.now.tables) }
+        ensures holds { IfOk result (Holds self.now.tables) }
+        ensures says { IfOk result (ClaimSays self.now (claim_told claim.now)) }
+        ensures refused { IfErr result (ClaimRefusal self.now (claim_told claim.now)) }
     {
         match claim {
             BuildClaim::Steps(steps) => self.judge_steps(alloc, steps),
@@ -84,7 +91,9 @@ impl<'d, 'a> BuildSubject<'d, 'a> {
         alloc: Global,
         named: &'a [NamedStep],
     ) -> Result<BuildVerdict<'a>, BuildRefusal>
-        ensures { IfOk result (Holds self.now.tables) }
+        ensures holds { IfOk result (Holds self.now.tables) }
+        ensures says { IfOk result (ClaimSays self.now (told_steps (map step_told named.now))) }
+        ensures refused { IfErr result (ClaimRefusal self.now (told_steps (map step_told named.now))) }
     {
         laws::accepted_lists();
         let steps = steps_of(alloc, &self.names(), named)?;
@@ -104,7 +113,10 @@ impl<'d, 'a> BuildSubject<'d, 'a> {
         alloc: Global,
         named: &'a [Vec<String>],
     ) -> Result<BuildVerdict<'a>, BuildRefusal>
-        ensures { IfOk result (Holds self.now.tables) }
+        ensures holds { IfOk result (Holds self.now.tables) }
+        ensures says { IfOk result (ClaimSays self.now (told_closed (map texts_view named.now))) }
+        ensures refused { IfErr result (ClaimRefusal self.now
+            (told_closed (map texts_view named.now))) }
     {
         laws::closed_lists();
         let facts = facts_of(alloc, &self.names(), named)?;

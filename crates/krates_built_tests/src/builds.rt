@@ -1,6 +1,6 @@
 //! What a build of a small document derives, and the language in which a line asks for it.
 //!
-//! The first sections of a line are a document with the targets of its packages, as `krates_build_samples` reads it. The section `build` says
+//! The first sections of a line are a document with the targets of its packages, as `krates_samples::targets` reads it. The section `build` says
 //! what is built of it: the version of the resolver, and what is asked for, which is options of `cargo build` without `--`, each with `=` and
 //! its value. The host is `linux`, of which rustc says `unix` here, and `target` may be `windows` too.
 //!

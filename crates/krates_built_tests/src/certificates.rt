@@ -2,7 +2,7 @@
 
 use krates_build_certificate::{BuildCertificate, BuildCertificateError};
 use krates_cm_json::ToValue;
-use krates_samples::table::{Row, Tell, hold};
+use krates_samples::table::{Tell, hold_lines};
 use krates_text::text::Text;
 use std::alloc::AllocError;
 use std::test::Fail;
@@ -42,59 +42,29 @@ impl Tell for Again {
     }
 }
 
-static TEXTS: &[Row] = &[
-    // what is written is read as it was
-    (
-        r#"{"machines":[],"setting":[],"steps":[]}"#,
-        r#"{"machines":[],"setting":[],"steps":[]}"#,
-    ),
-    (
-        r#"{"facts":[],"machines":[],"setting":[]}"#,
-        r#"{"facts":[],"machines":[],"setting":[]}"#,
-    ),
-    // keys are written in order, others are skipped, and of a doubled key the last value counts
-    (
-        r#"{"by":"me","steps":[],"steps":[{"uses":[0,7],"fact":["met","path+file:///w/a#0.1.0","root"]}],"setting":["--resolver","2"],"machines":[{"triple":"linux","cfg":"unix\ntarget_os=\"linux\""}]}"#,
-        r#"{"machines":[{"cfg":"unix\ntarget_os=\"linux\"","triple":"linux"}],"setting":["--resolver","2"],"steps":[{"fact":["met","path+file:///w/a#0.1.0","root"],"uses":[0,7]}]}"#,
-    ),
-    (
-        r#"{"setting":[],"machines":[],"facts":[["met","a","root"],[]]}"#,
-        r#"{"facts":[["met","a","root"],[]],"machines":[],"setting":[]}"#,
-    ),
-    // steps count before facts
-    (
-        r#"{"setting":[],"machines":[],"facts":1,"steps":[]}"#,
-        r#"{"machines":[],"setting":[],"steps":[]}"#,
-    ),
-    // what isn't JSON
-    ("{", "not JSON, at line 1 column 1"),
-    // keys that are missing, and of another type
-    ("[]", "missing key: setting"),
-    (r#"{"setting":[]}"#, "missing key: machines"),
-    (r#"{"setting":[],"machines":[]}"#, "missing key: facts"),
-    (
-        r#"{"setting":"2","machines":[],"facts":[]}"#,
-        "wrong type at key: setting",
-    ),
-    (
-        r#"{"setting":[],"machines":[{"triple":"linux"}],"facts":[]}"#,
-        "missing key: cfg",
-    ),
-    (
-        r#"{"setting":[],"machines":[],"steps":[{"fact":[1],"uses":[]}]}"#,
-        "wrong type at key: fact",
-    ),
-    (
-        r#"{"setting":[],"machines":[],"steps":[{"fact":[],"uses":[-1]}]}"#,
-        "wrong type at key: uses",
-    ),
-    (
-        r#"{"setting":[],"machines":[],"facts":["met"]}"#,
-        "wrong type at key: facts",
-    ),
-];
+static TEXTS: &str = r#"
+// what is written is read as it was
+{"machines":[],"setting":[],"steps":[]} => {"machines":[],"setting":[],"steps":[]}
+{"facts":[],"machines":[],"setting":[]} => {"facts":[],"machines":[],"setting":[]}
+// keys are written in order, others are skipped, and of a doubled key the last value counts
+{"by":"me","steps":[],"steps":[{"uses":[0,7],"fact":["met","path+file:///w/a#0.1.0","root"]}],"setting":["--resolver","2"],"machines":[{"triple":"linux","cfg":"unix\ntarget_os=\"linux\""}]} => {"machines":[{"cfg":"unix\ntarget_os=\"linux\"","triple":"linux"}],"setting":["--resolver","2"],"steps":[{"fact":["met","path+file:///w/a#0.1.0","root"],"uses":[0,7]}]}
+{"setting":[],"machines":[],"facts":[["met","a","root"],[]]} => {"facts":[["met","a","root"],[]],"machines":[],"setting":[]}
+// steps count before facts
+{"setting":[],"machines":[],"facts":1,"steps":[]} => {"machines":[],"setting":[],"steps":[]}
+// what isn't JSON
+{ => not JSON, at line 1 column 1
+// keys that are missing, and of another type
+[] => missing key: setting
+{"setting":[]} => missing key: machines
+{"setting":[],"machines":[]} => missing key: facts
+{"setting":"2","machines":[],"facts":[]} => wrong type at key: setting
+{"setting":[],"machines":[{"triple":"linux"}],"facts":[]} => missing key: cfg
+{"setting":[],"machines":[],"steps":[{"fact":[1],"uses":[]}]} => wrong type at key: fact
+{"setting":[],"machines":[],"steps":[{"fact":[],"uses":[-1]}]} => wrong type at key: uses
+{"setting":[],"machines":[],"facts":["met"]} => wrong type at key: facts
+"#;
 
 #[test]
 fn build_certificates_are_written_and_read_or_refused(rt: HostRuntime) -> Result<(), Fail> {
-    hold::<Again>(rt.alloc(), TEXTS)
+    hold_lines::<Again>(rt.alloc(), TEXTS)
 }

@@ -6,108 +6,60 @@ use krates_build_checkers::{BuildCheckError, check_built, check_built_closed};
 use krates_build_facts::{BuildFact, BuildStep, PlacementNumber, PlatformNumber, UnitPlace};
 use krates_build_tables::{LinkPlace, TargetPlace};
 use krates_grounding::Derived;
-use krates_samples::table::{Row, hold};
+use krates_samples::table::hold_lines;
 use krates_text::text::Text;
 use krates_units::{Meeting, Mode, Side};
 use std::alloc::{AllocError, Global};
 use std::test::Fail;
 
 /// Steps about the one program: of each the facts that it follows from, and last the fact that it gives.
-static STEPS: &[Row] = &[
-    ("met", "accepted"),
-    ("met/met linked/linked other", "accepted"),
-    // what is asked for, and what it needs
-    (
-        "met/met linked/unit/unit linked needed/needed library",
-        "accepted",
-    ),
-    ("", "empty derivation"),
-    // `b` is no root
-    ("root", "step 0 does not follow"),
-    // nobody gave that `a` is met
-    ("met linked", "step 0 does not follow"),
-    ("met/unit/unit linked needed", "step 2 does not follow"),
-    // the rule wants a premise more, one less, or another one
-    ("met/linked", "step 1 does not follow"),
-    ("met/active/met active linked", "step 2 does not follow"),
-    ("active/active linked", "step 1 does not follow"),
-    // in another order
-    (
-        "met/met linked/unit/linked unit needed",
-        "step 3 does not follow",
-    ),
-    // it is given already
-    ("met/met", "step 1 does not follow"),
-    // no rule leads from there to it
-    ("met/met linked/met other", "step 2 does not follow"),
-];
+static STEPS: &str = "
+met => accepted
+met/met linked/linked other => accepted
+// what is asked for, and what it needs
+met/met linked/unit/unit linked needed/needed library => accepted
+ => empty derivation
+// `b` is no root
+root => step 0 does not follow
+// nobody gave that `a` is met
+met linked => step 0 does not follow
+met/unit/unit linked needed => step 2 does not follow
+// the rule wants a premise more, one less, or another one
+met/linked => step 1 does not follow
+met/active/met active linked => step 2 does not follow
+active/active linked => step 1 does not follow
+// in another order
+met/met linked/unit/linked unit needed => step 3 does not follow
+// it is given already
+met/met => step 1 does not follow
+// no rule leads from there to it
+met/met linked/met other => step 2 does not follow
+";
 
 /// Lists of facts about it: all that follow are nine.
-static LISTS: &[Row] = &[
-    (
-        "met active unit linked other used below needed library",
-        "closed",
-    ),
-    // nor does the order matter, or a fact more that leads to no other
-    (
-        "library needed below used other linked unit active met root",
-        "closed",
-    ),
-    // without any of them
-    ("", "open list"),
-    (
-        "active unit linked other used below needed library",
-        "open list",
-    ),
-    (
-        "met unit linked other used below needed library",
-        "open list",
-    ),
-    (
-        "met active linked other used below needed library",
-        "open list",
-    ),
-    (
-        "met active unit other used below needed library",
-        "open list",
-    ),
-    (
-        "met active unit linked used below needed library",
-        "open list",
-    ),
-    (
-        "met active unit linked other below needed library",
-        "open list",
-    ),
-    (
-        "met active unit linked other used needed library",
-        "open list",
-    ),
-    (
-        "met active unit linked other used below library",
-        "open list",
-    ),
-    (
-        "met active unit linked other used below needed",
-        "open list",
-    ),
-];
+static LISTS: &str = "
+met active unit linked other used below needed library => closed
+// nor does the order matter, or a fact more that leads to no other
+library needed below used other linked unit active met root => closed
+// without any of them
+ => open list
+active unit linked other used below needed library => open list
+met unit linked other used below needed library => open list
+met active linked other used below needed library => open list
+met active unit other used below needed library => open list
+met active unit linked used below needed library => open list
+met active unit linked other below needed library => open list
+met active unit linked other used needed library => open list
+met active unit linked other used below library => open list
+met active unit linked other used below needed => open list
+";
 
 /// A document and what is asked for: what is derived is closed, and each fact's own steps are accepted.
-static DERIVED: &[Row] = &[
-    (
-        "a b?;x=dep:b|b / targets a:bin b:lib / build 2 features=x",
-        "closed",
-    ),
-    (
-        "a b&build c|b|c;f= / targets a:bin,custom-build b:lib c:lib / build 2 target=windows features=c/f",
-        "closed",
-    ),
-    (
-        "a b|b / targets a:bin,custom-build b:lib,custom-build,links / build 2",
-        "closed",
-    ),
-];
+static DERIVED: &str = "
+a b?;x=dep:b|b / targets a:bin b:lib / build 2 features=x => closed
+a b&build c|b|c;f= / targets a:bin,custom-build b:lib c:lib / build 2 target=windows features=c/f => closed
+a b|b / targets a:bin,custom-build b:lib,custom-build,links / build 2 => closed
+";
 
 /// The only link.
 const LINK: LinkPlace = LinkPlace { krate: 0, index: 0 };
@@ -234,15 +186,15 @@ impl ToldOfDerived for Answers {
 
 #[test]
 fn steps_are_checked(rt: HostRuntime) -> Result<(), Fail> {
-    hold::<OfProgram<OfTables<Steps>>>(rt.alloc(), STEPS)
+    hold_lines::<OfProgram<OfTables<Steps>>>(rt.alloc(), STEPS)
 }
 
 #[test]
 fn lists_of_facts_are_checked(rt: HostRuntime) -> Result<(), Fail> {
-    hold::<OfProgram<OfTables<Lists>>>(rt.alloc(), LISTS)
+    hold_lines::<OfProgram<OfTables<Lists>>>(rt.alloc(), LISTS)
 }
 
 #[test]
 fn what_is_derived_is_accepted(rt: HostRuntime) -> Result<(), Fail> {
-    hold::<OfBuild<OfDerived<Answers>>>(rt.alloc(), DERIVED)
+    hold_lines::<OfBuild<OfDerived<Answers>>>(rt.alloc(), DERIVED)
 }

@@ -7,7 +7,7 @@ use crate::of_build::{
 use krates_build_facts::BuildFact;
 use krates_build_naming::{FactNames, fact_named, words_of};
 use krates_grounding::Derived;
-use krates_samples::table::{Row, hold};
+use krates_samples::table::{Row, hold, hold_lines};
 use krates_text::text::Text;
 use std::alloc::{AllocError, Global};
 use std::test::Fail;
@@ -27,43 +27,33 @@ static WRITTEN: &[Row] = &[(
 )];
 
 /// Words, of which `A` and `B` are the ids of the crates; and the fact that they name, or the fault.
-static READ: &[Row] = &[
-    ("met A root", "Met(0, Root)"),
-    ("met B dependency and more", "Met(1, Dependency)"),
-    ("activated B host", "Activated(1, Host)"),
-    (
-        "linked_feature A root std",
-        "LinkedFeature(0, Root, \"std\")",
-    ),
-    (
-        "linked_reference A root weak b f",
-        "LinkedReference(0, Root, Weak(\"b\", \"f\"))",
-    ),
-    (
-        "activated_reference A host dep b -",
-        "ActivatedReference(0, Host, Krate(\"b\"))",
-    ),
-    (
-        "linked A B normal * b",
-        "Linked(LinkPlace { krate: 0, index: 0 })",
-    ),
-    // words that aren't there, or name nothing
-    ("", "Form(0)"),
-    ("Met A root", "Form(0)"),
-    ("met", "Missing(1)"),
-    ("met a root", "Crate(1)"),
-    ("met A", "Missing(2)"),
-    ("met A host", "Meeting(2)"),
-    ("activated A root", "Side(2)"),
-    ("linked_reference A root krate b -", "Reference(3)"),
-    ("linked B A normal * a", "Link(1)"),
-    ("linked A B dev * b", "Link(1)"),
-    ("linked A B normal cfg(unix) b", "Link(1)"),
-    ("lost A normal * c", "Lacking(1)"),
-    ("compiled A lib a build linux targets", "Target(1)"),
-    ("compiled A bin a check linux targets", "Mode(4)"),
-    ("compiled A bin a build windows targets", "Platform(5)"),
-];
+static READ: &str = r#"
+met A root => Met(0, Root)
+met B dependency => Met(1, Dependency)
+activated B host => Activated(1, Host)
+linked_feature A root std => LinkedFeature(0, Root, "std")
+linked_reference A root weak b f => LinkedReference(0, Root, Weak("b", "f"))
+activated_reference A host dep b  => ActivatedReference(0, Host, Krate("b"))
+linked A B normal * b => Linked(LinkPlace { krate: 0, index: 0 })
+// words that aren't there, or name nothing
+ => Form(0)
+Met A root => Form(0)
+met => Missing(1)
+met a root => Crate(1)
+met A => Missing(2)
+met A host => Meeting(2)
+activated A root => Side(2)
+linked_reference A root krate b - => Reference(3)
+activated_reference A host dep b - => Reference(3)
+linked B A normal * a => Link(1)
+linked A B dev * b => Link(1)
+linked A B normal cfg(unix) b => Link(1)
+lost A normal * c => Lacking(1)
+met B dependency and more => Further(3)
+compiled A lib a build linux targets => Target(1)
+compiled A bin a check linux targets => Mode(4)
+compiled A bin a build windows targets => Platform(5)
+"#;
 
 /// What the words of facts are read against.
 fn names_in<'a, 's>(of: Told<'a, 's>) -> FactNames<'s, 'a> {
@@ -141,5 +131,5 @@ fn facts_have_words(rt: HostRuntime) -> Result<(), Fail> {
 
 #[test]
 fn words_name_facts(rt: HostRuntime) -> Result<(), Fail> {
-    hold::<OfProgram<OfTables<Named>>>(rt.alloc(), READ)
+    hold_lines::<OfProgram<OfTables<Named>>>(rt.alloc(), READ)
 }

@@ -3,7 +3,6 @@
 
 use crate::builds::{Told, setting_of};
 use krates_build_facts::BuildFact;
-use krates_build_samples::targets::document_of;
 use krates_build_tables::tables_of::tables_of;
 use krates_built::{Units, units_of};
 use krates_cm::Metadata;
@@ -11,6 +10,7 @@ use krates_document::admission::admit;
 use krates_grounding::Derived;
 use krates_questions::Document;
 use krates_samples::table::Tell;
+use krates_samples::targets::document_of;
 use krates_text::text::Text;
 use krates_units::BuildSetting;
 use std::alloc::AllocError;

@@ -4,7 +4,7 @@ use crate::builds::machine_of;
 use crate::of_build::{OfBuild, ToldOfBuild};
 use krates_build_tables::FeatureReference;
 use krates_questions::Document;
-use krates_samples::table::{Row, Tell, hold};
+use krates_samples::table::{Tell, hold_lines};
 use krates_text::features::ParsedFeature;
 use krates_text::text::Text;
 use krates_units::BuildSetting;
@@ -12,15 +12,15 @@ use std::test::Fail;
 
 /// A reference, and a name; the feature of the dependency of that name that it names, and whether it turns that on (Cargo Book,
 /// "Features", "Dependency features").
-static REFERENCES: &[Row] = &[
-    ("b/f b", "f, on"),
-    ("b?/f b", "f"),
-    ("dep:b b", ""),
-    ("b b", ""),
-    ("b/f c", ""),
-    ("b?/f c", ""),
-    ("b/f/g b", "f/g, on"),
-];
+static REFERENCES: &str = "
+b/f b => f, on
+b?/f b => f
+dep:b b =>
+b b =>
+b/f c =>
+b?/f c =>
+b/f/g b => f/g, on
+";
 
 /// What a reference names.
 struct Named;
@@ -41,15 +41,15 @@ impl Tell for Named {
 
 #[test]
 fn references_are_read(rt: HostRuntime) -> Result<(), Fail> {
-    hold::<Named>(rt.alloc(), REFERENCES)
+    hold_lines::<Named>(rt.alloc(), REFERENCES)
 }
 
 /// Two machines, and whether they are the same.
-static MACHINES: &[Row] = &[
-    ("linux linux", "true"),
-    ("linux windows", "false"),
-    ("windows windows", "true"),
-];
+static MACHINES: &str = "
+linux linux => true
+linux windows => false
+windows windows => true
+";
 
 /// Whether two machines are the same.
 struct Same;
@@ -66,11 +66,14 @@ impl Tell for Same {
 
 #[test]
 fn machines_are_the_same(rt: HostRuntime) -> Result<(), Fail> {
-    hold::<Same>(rt.alloc(), MACHINES)
+    hold_lines::<Same>(rt.alloc(), MACHINES)
 }
 
 /// A document, and its folder and root.
-static ROOTS: &[Row] = &[("a", "/w"), ("a|b / members a b / root b", "/w b")];
+static ROOTS: &str = "
+a => /w
+a|b / members a b / root b => /w b
+";
 
 /// What a document says of itself.
 struct Rooted;
@@ -92,5 +95,5 @@ impl ToldOfBuild<BuildSetting> for Rooted {
 
 #[test]
 fn documents_have_roots(rt: HostRuntime) -> Result<(), Fail> {
-    hold::<OfBuild<Rooted>>(rt.alloc(), ROOTS)
+    hold_lines::<OfBuild<Rooted>>(rt.alloc(), ROOTS)
 }

@@ -5,7 +5,7 @@ use krates_build_tables::Unanswered;
 use krates_build_tables::unanswered::first_unanswered;
 use krates_questions::Document;
 use krates_samples::documents;
-use krates_samples::table::{Row, Tell, hold};
+use krates_samples::table::{Tell, hold_lines};
 use krates_text::text::Text;
 use krates_units::BuildSetting;
 use std::test::Fail;
@@ -17,92 +17,80 @@ static WORKSPACE: &str =
 
 /// What is asked in the folder of `a` with the first resolver: `a` has to have each feature, selected or not, but for what is named of
 /// another member that is selected.
-static OF_THE_FOLDER: &[Row] = &[
-    ("root a / build 1", ""),
-    ("root a / build 1 features=x", ""),
-    ("root a / build 1 features=nosuch", "feature nosuch"),
-    ("root a / build 1 features=x,y", "feature y"),
-    ("root a / build 1 features=default", "feature default"),
-    ("root a / build 1 workspace features=x,y", "feature y"),
-    ("root a / build 1 package=b features=y", "feature y"),
-    ("root a / build 1 package=b features=x", ""),
-    ("root a / build 1 package=dep features=x", ""),
-    (
-        "root a / build 1 package=dep features=nosuch",
-        "feature nosuch",
-    ),
-    ("root a / build 1 package=dep all-features", ""),
-    ("root a / build 1 package=dep no-default-features", ""),
-    // an optional dependency is a feature if `dep:` doesn't hide it
-    ("root a / build 1 features=opt,hid", ""),
-    ("root a / build 1 features=hidden", "feature hidden"),
-    ("root a / build 1 features=dep", "feature dep"),
-    ("root a / build 1 features=dep:opt", "feature dep:opt"),
-    // a feature of any dependency that is declared, and has it
-    (
-        "root a / build 1 features=dep/f,opt/f,opt?/f,hidden/f,devd/f",
-        "",
-    ),
-    ("root a / build 1 features=nodep/f", "feature nodep/f"),
-    ("root a / build 1 features=dep/f,dep/g", "feature dep/g"),
-    ("root a / build 1 features=opt?/g", "feature opt?/g"),
-    ("root a / build 1 features=hidden/g", "feature hidden/g"),
-    ("root a / build 1 features=devd/g", "feature devd/g"),
-    ("root a / build 1 package=b features=dep/g", "feature dep/g"),
-    ("root a / build 1 package=dep features=dep/f", ""),
-    // a feature of a member
-    ("root a / build 1 features=a/x", "feature a/x"),
-    ("root a / build 1 features=b/y", "feature b/y"),
-    ("root a / build 1 package=b features=b/y", ""),
-    ("root a / build 1 package=b features=b?/y", ""),
-    ("root a / build 1 package=a,b features=x,b/y", ""),
-    (
-        "root a / build 1 package=b features=b/nosuch",
-        "feature b/nosuch",
-    ),
-];
+static OF_THE_FOLDER: &str = "
+root a / build 1 =>
+root a / build 1 features=x =>
+root a / build 1 features=nosuch => feature nosuch
+root a / build 1 features=x,y => feature y
+root a / build 1 features=default => feature default
+root a / build 1 workspace features=x,y => feature y
+root a / build 1 package=b features=y => feature y
+root a / build 1 package=b features=x =>
+root a / build 1 package=dep features=x =>
+root a / build 1 package=dep features=nosuch => feature nosuch
+root a / build 1 package=dep all-features =>
+root a / build 1 package=dep no-default-features =>
+// an optional dependency is a feature if `dep:` doesn't hide it
+root a / build 1 features=opt,hid =>
+root a / build 1 features=hidden => feature hidden
+root a / build 1 features=dep => feature dep
+root a / build 1 features=dep:opt => feature dep:opt
+// a feature of any dependency that is declared, and has it
+root a / build 1 features=dep/f,opt/f,opt?/f,hidden/f,devd/f =>
+root a / build 1 features=nodep/f => feature nodep/f
+root a / build 1 features=dep/f,dep/g => feature dep/g
+root a / build 1 features=opt?/g => feature opt?/g
+root a / build 1 features=hidden/g => feature hidden/g
+root a / build 1 features=devd/g => feature devd/g
+root a / build 1 package=b features=dep/g => feature dep/g
+root a / build 1 package=dep features=dep/f =>
+// a feature of a member
+root a / build 1 features=a/x => feature a/x
+root a / build 1 features=b/y => feature b/y
+root a / build 1 package=b features=b/y =>
+root a / build 1 package=b features=b?/y =>
+root a / build 1 package=a,b features=x,b/y =>
+root a / build 1 package=b features=b/nosuch => feature b/nosuch
+";
 
 /// What is asked where the folder has no package, or with a later resolver: some member that is selected has to have each feature.
-static OF_MEMBERS: &[Row] = &[
-    ("build 1", ""),
-    ("build 1 features=x,y,default", ""),
-    ("build 1 features=x,nosuch", "feature nosuch"),
-    ("build 1 package=b features=y", ""),
-    ("build 1 package=b features=x", "feature x"),
-    ("build 1 package=a,b features=x,y", ""),
-    ("root a / build 2 features=x", ""),
-    ("root a / build 2 features=y", "feature y"),
-    ("root a / build 2 workspace features=x,y", ""),
-    // one that takes its optional dependency's name has to have the feature, even if another has it
-    ("build 1 features=opt", ""),
-    ("build 1 features=hidden", "feature hidden"),
-    ("build 1 package=b features=hidden", ""),
-    ("build 1 features=dep", "feature dep"),
-    ("build 1 features=dep:opt", "feature dep:opt"),
-    ("build 1 features=dep/f,opt/f,opt?/f,hidden/f,devd/f", ""),
-    ("build 1 features=nodep/f", "feature nodep/f"),
-    ("build 1 package=b features=dep/f", "feature dep/f"),
-    ("build 1 features=dep/g", "feature dep/g"),
-    ("build 1 features=dep?/g", "feature dep?/g"),
-    ("root a / build 2 features=opt/g", "feature opt/g"),
-    (
-        "root a / build 2 workspace features=devd/g",
-        "feature devd/g",
-    ),
-    ("build 1 features=a/x,b/y,b?/y,a/opt", ""),
-    ("build 1 features=a/nosuch", "feature a/nosuch"),
-    ("build 1 features=a/hidden", "feature a/hidden"),
-    ("root a / build 2 features=b/y", "feature b/y"),
-    // where no member is selected, none takes features
-    ("build 1 package=dep", ""),
-    ("build 1 package=dep features=x", "feature x"),
-    ("build 1 package=dep features=dep/f", "feature dep/f"),
-    ("root a / build 2 package=dep features=x", "feature x"),
-    ("build 1 package=dep,a features=x", ""),
-    ("build 1 package=dep all-features", "flag"),
-    ("root a / build 2 package=dep no-default-features", "flag"),
-    ("build 1 package=dep,a all-features", ""),
-];
+static OF_MEMBERS: &str = "
+build 1 =>
+build 1 features=x,y,default =>
+build 1 features=x,nosuch => feature nosuch
+build 1 package=b features=y =>
+build 1 package=b features=x => feature x
+build 1 package=a,b features=x,y =>
+root a / build 2 features=x =>
+root a / build 2 features=y => feature y
+root a / build 2 workspace features=x,y =>
+// one that takes its optional dependency's name has to have the feature, even if another has it
+build 1 features=opt =>
+build 1 features=hidden => feature hidden
+build 1 package=b features=hidden =>
+build 1 features=dep => feature dep
+build 1 features=dep:opt => feature dep:opt
+build 1 features=dep/f,opt/f,opt?/f,hidden/f,devd/f =>
+build 1 features=nodep/f => feature nodep/f
+build 1 package=b features=dep/f => feature dep/f
+build 1 features=dep/g => feature dep/g
+build 1 features=dep?/g => feature dep?/g
+root a / build 2 features=opt/g => feature opt/g
+root a / build 2 workspace features=devd/g => feature devd/g
+build 1 features=a/x,b/y,b?/y,a/opt =>
+build 1 features=a/nosuch => feature a/nosuch
+build 1 features=a/hidden => feature a/hidden
+root a / build 2 features=b/y => feature b/y
+// where no member is selected, none takes features
+build 1 package=dep =>
+build 1 package=dep features=x => feature x
+build 1 package=dep features=dep/f => feature dep/f
+root a / build 2 package=dep features=x => feature x
+build 1 package=dep,a features=x =>
+build 1 package=dep all-features => flag
+root a / build 2 package=dep no-default-features => flag
+build 1 package=dep,a all-features =>
+";
 
 /// A package with dependencies under another name, for a machine, and for building. One name leads to two packages, one on each kind of
 /// machine; the feature that an optional dependency brings by itself is one of `dep`, but `dep:` hides that of another. The document
@@ -111,54 +99,54 @@ static DEPENDENCIES: &str =
     "a ren&as=d win&on=cfg(windows) bld&build multi@1.0.0&crates.io&on=cfg(unix)&req=^1 multi@2.0.0&crates.io&on=cfg(windows)&req=^2 dep gone?;gone=dep:gone|ren;f=|win;f=|bld;f=|multi@1.0.0&crates.io;f= both=|multi@2.0.0&crates.io;g= both=|dep;f= o=dep:o hid=dep:h / root a / targets ren:lib win:lib bld:lib multi:lib dep:lib / nodes a ren&as=d win&on=cfg(windows) bld&build multi@1.0.0&crates.io&on=cfg(unix) multi@2.0.0&crates.io&on=cfg(windows) dep|ren|win|bld|multi@1.0.0&crates.io|multi@2.0.0&crates.io|dep";
 
 /// What is asked there of dependencies, whatever the resolver: each package that a name leads to has to have the feature.
-static OF_DEPENDENCIES: &[Row] = &[
-    ("build 1 features=d/f,d?/f,win/f,bld/f", ""),
-    ("build 2 features=d/f,d?/f,win/f,bld/f", ""),
-    ("build 1 features=d/g", "feature d/g"),
-    ("build 2 features=d?/g", "feature d?/g"),
-    ("build 2 features=ren/f", "feature ren/f"),
-    ("build 1 features=win/g", "feature win/g"),
-    ("build 2 features=win?/g", "feature win?/g"),
-    ("build 2 features=bld/g", "feature bld/g"),
-    ("build 1 features=multi/both", ""),
-    ("build 1 features=multi/f", "feature multi/f"),
-    ("build 2 features=multi/f", "feature multi/f"),
-    ("build 2 features=multi/g", "feature multi/g"),
-    ("build 1 features=dep/o,dep/hid", ""),
-    ("build 1 features=dep/h", "feature dep/h"),
-    ("build 2 features=dep/o,dep/h", "feature dep/h"),
-    ("build 2 features=dep/default", "feature dep/default"),
-    ("build 2 features=dep/", "feature dep/"),
-    // of what the document doesn't have, any feature may be asked for
-    ("build 1 features=gone/f,gone?/f", ""),
-    ("build 2 features=gone/f,gone?/f", ""),
-    // a second slash is refused, of whatever it is
-    ("build 1 features=dep/f/g", "feature dep/f/g"),
-    ("build 2 features=gone/f/g", "feature gone/f/g"),
-    ("build 2 features=dep/f/", "feature dep/f/"),
-    ("build 2 features=a/x/y", "feature a/x/y"),
-    ("build 2 features=x/y/z", "feature x/y/z"),
-];
+static OF_DEPENDENCIES: &str = "
+build 1 features=d/f,d?/f,win/f,bld/f =>
+build 2 features=d/f,d?/f,win/f,bld/f =>
+build 1 features=d/g => feature d/g
+build 2 features=d?/g => feature d?/g
+build 2 features=ren/f => feature ren/f
+build 1 features=win/g => feature win/g
+build 2 features=win?/g => feature win?/g
+build 2 features=bld/g => feature bld/g
+build 1 features=multi/both =>
+build 1 features=multi/f => feature multi/f
+build 2 features=multi/f => feature multi/f
+build 2 features=multi/g => feature multi/g
+build 1 features=dep/o,dep/hid =>
+build 1 features=dep/h => feature dep/h
+build 2 features=dep/o,dep/h => feature dep/h
+build 2 features=dep/default => feature dep/default
+build 2 features=dep/ => feature dep/
+// of what the document doesn't have, any feature may be asked for
+build 1 features=gone/f,gone?/f =>
+build 2 features=gone/f,gone?/f =>
+// a second slash is refused, of whatever it is
+build 1 features=dep/f/g => feature dep/f/g
+build 2 features=gone/f/g => feature gone/f/g
+build 2 features=dep/f/ => feature dep/f/
+build 2 features=a/x/y => feature a/x/y
+build 2 features=x/y/z => feature x/y/z
+";
 
 /// Packages that are asked for.
-static PACKAGES: &[Row] = &[
-    ("build 1 package=a", ""),
-    ("build 1 package=dep", ""),
-    ("build 1 package=a,nosuch,none", "package nosuch"),
-    ("build 1 package=a@0.1.0", ""),
-    ("build 1 package=a@9.0.0", "package a@9.0.0"),
-    ("build 1 package=nosuch features=none", "package nosuch"),
-];
+static PACKAGES: &str = "
+build 1 package=a =>
+build 1 package=dep =>
+build 1 package=a,nosuch,none => package nosuch
+build 1 package=a@0.1.0 =>
+build 1 package=a@9.0.0 => package a@9.0.0
+build 1 package=nosuch features=none => package nosuch
+";
 
 /// What is asked of a workspace that has no default members, and of one that has no members.
-static UNSELECTED: &[Row] = &[
-    ("a;x= / build 2", "selection"),
-    ("a;x= / build 2 features=x", "selection"),
-    ("a;x= / build 2 workspace features=x", ""),
-    ("a;x= / build 2 package=a features=x", ""),
-    ("a / members / build 2", "selection"),
-    ("a / members / build 2 workspace", "selection"),
-];
+static UNSELECTED: &str = "
+a;x= / build 2 => selection
+a;x= / build 2 features=x => selection
+a;x= / build 2 workspace features=x =>
+a;x= / build 2 package=a features=x =>
+a / members / build 2 => selection
+a / members / build 2 workspace => selection
+";
 
 /// The first request of a build that names nothing in the document.
 struct First;
@@ -219,25 +207,25 @@ impl Tell for WithoutDefaults {
 
 #[test]
 fn features_of_the_folder_are_named(rt: HostRuntime) -> Result<(), Fail> {
-    hold::<OfWorkspace>(rt.alloc(), OF_THE_FOLDER)
+    hold_lines::<OfWorkspace>(rt.alloc(), OF_THE_FOLDER)
 }
 
 #[test]
 fn features_of_members_are_named(rt: HostRuntime) -> Result<(), Fail> {
-    hold::<OfWorkspace>(rt.alloc(), OF_MEMBERS)
+    hold_lines::<OfWorkspace>(rt.alloc(), OF_MEMBERS)
 }
 
 #[test]
 fn features_of_dependencies_are_named(rt: HostRuntime) -> Result<(), Fail> {
-    hold::<OfDependencies>(rt.alloc(), OF_DEPENDENCIES)
+    hold_lines::<OfDependencies>(rt.alloc(), OF_DEPENDENCIES)
 }
 
 #[test]
 fn packages_are_named(rt: HostRuntime) -> Result<(), Fail> {
-    hold::<OfWorkspace>(rt.alloc(), PACKAGES)
+    hold_lines::<OfWorkspace>(rt.alloc(), PACKAGES)
 }
 
 #[test]
 fn packages_are_selected(rt: HostRuntime) -> Result<(), Fail> {
-    hold::<WithoutDefaults>(rt.alloc(), UNSELECTED)
+    hold_lines::<WithoutDefaults>(rt.alloc(), UNSELECTED)
 }

@@ -4,29 +4,23 @@ use crate::builds::Told;
 use crate::of_build::{OfBuild, OfDerived, ToldOfDerived};
 use krates_build_facts::{BuildFact, BuildStep};
 use krates_grounding::Derived;
-use krates_samples::table::{Row, hold};
+use krates_samples::table::hold_lines;
 use krates_text::text::Text;
 use krates_units::Meeting;
 use std::alloc::{AllocError, Global};
 use std::test::Fail;
 
 /// A document, and what is asked for; and how many steps derive each unit.
-static WHY: &[Row] = &[
-    // what is asked for needs no other
-    ("a / targets a:bin / build 2", "1, "),
-    // a is met, its dependency exists, a is compiled, it needs b, b is compiled
-    ("a b|b / targets a:bin b:lib / build 2", "1, 5, "),
-    // and on either layer: x is asked for, it is enabled, it lists b, b is turned on
-    (
-        "a b?;x=dep:b|b / targets a:bin b:lib / build 2 features=x",
-        "1, 13, ",
-    ),
-    // each has its own
-    (
-        "a b|b c|c / targets a:bin b:lib c:lib / build 2",
-        "1, 5, 9, ",
-    ),
-];
+static WHY: &str = "
+// what is asked for needs no other
+a / targets a:bin / build 2 => 1,
+// a is met, its dependency exists, a is compiled, it needs b, b is compiled
+a b|b / targets a:bin b:lib / build 2 => 1, 5,
+// and on either layer: x is asked for, it is enabled, it lists b, b is turned on
+a b?;x=dep:b|b / targets a:bin b:lib / build 2 features=x => 1, 13,
+// each has its own
+a b|b c|c / targets a:bin b:lib c:lib / build 2 => 1, 5, 9,
+";
 
 /// Whether one of these steps gives the fact.
 fn is_given(fact: &BuildFact<'_>, steps: &[BuildStep<'_>]) -> bool {
@@ -106,5 +100,5 @@ impl ToldOfDerived for Why {
 
 #[test]
 fn units_follow_by_steps(rt: HostRuntime) -> Result<(), Fail> {
-    hold::<OfBuild<OfDerived<Why>>>(rt.alloc(), WHY)
+    hold_lines::<OfBuild<OfDerived<Why>>>(rt.alloc(), WHY)
 }

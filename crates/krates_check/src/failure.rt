@@ -16,6 +16,12 @@ pub(crate) enum CheckFailure {
     /// The certificate doesn't hold of the build, or isn't read.
     #[error("{0}")]
     Build(#[from] BuildRefusal),
+    /// The certificate is one by krates, and is judged by build.
+    #[error("this is a certificate by krates: write '--by krates' too")]
+    OfKrates,
+    /// The certificate is one by build, and is judged by krates.
+    #[error("this is a certificate by build: leave '--by krates' out, or write '--by build'")]
+    OfBuild,
     /// Memory ran out.
     #[error("out of memory")]
     Memory,

@@ -1,13 +1,16 @@
 //! `krates_check --metadata FILE [OPTIONS]`: checks the certificate in standard input against a document, without the search that found
-//! what it says and without a graph. With `--by build` the certificate is one of what cargo builds. `krates_check --help` lists the options.
+//! what it says and without a graph. It is one of what cargo builds, or with `--by krates` of the graph of the Rust crate krates.
+//! `krates_check --help` lists the options.
 //!
 //! The status is 0 where the certificate holds, which is printed with what it says; 1 where it doesn't, or where there is nothing to check;
 //! and 2 where the words are wrong.
 #![tactic(auto)]
 
 mod failure;
+mod kinds;
 
 use crate::failure::CheckFailure;
+use crate::kinds::{is_by_build, is_by_krates};
 use krates_build_verdict::judge_bytes;
 use krates_cm::Metadata;
 use krates_host::build::build_setting;
@@ -43,6 +46,7 @@ fn by_krates(
     choice.targets = targets::targets_of(inputs, &choice)?;
     let certificate = inputs.bytes_in_standard_input("a certificate")?;
     let metadata = document::in_file(inputs, file)?;
+    said::note_krates(inputs.rt);
     let told = run_under(
         inputs.rt.alloc(),
         &choice,
@@ -51,8 +55,11 @@ fn by_krates(
         &mut inputs.rt.stdout(),
     );
     metadata.let_go();
-    told?;
-    Ok(ExitCode::SUCCESS)
+    match told {
+        Ok(()) => Ok(ExitCode::SUCCESS),
+        Err(_) if is_by_build(inputs.rt.alloc(), &certificate) => Err(CheckFailure::OfBuild),
+        Err(refusal) => Err(CheckFailure::Refused(refusal)),
+    }
 }
 
 /// Checks a certificate about a build against the document in a file.
@@ -61,7 +68,11 @@ fn by_build(inputs: &Inputs<'_>, words: &BuildWords, file: &str) -> Result<ExitC
     let metadata = document::in_file(inputs, file)?;
     let told = judged(inputs, words, &metadata, &certificate);
     metadata.let_go();
-    Ok(print(inputs.rt, told?.as_str(), true))
+    match told {
+        Ok(line) => Ok(print(inputs.rt, line.as_str(), true)),
+        Err(_) if is_by_krates(inputs.rt.alloc(), &certificate) => Err(CheckFailure::OfKrates),
+        Err(failure) => Err(failure),
+    }
 }
 
 /// The line of the verdict about a build of a document.
@@ -72,7 +83,7 @@ fn judged(
     certificate: &[u8],
 ) -> Result<String, CheckFailure> {
     let build = build_setting(inputs, words, metadata)?;
-    build.note_resolver(inputs.rt);
+    build.note(inputs.rt)?;
     Ok(judge_bytes(inputs.rt.alloc(), metadata, &build.setting, certificate)?)
 }
 

@@ -10,8 +10,11 @@ use crate::machines::{DescribedMachine, DescribedMachines, host_of, targets_of};
 use crate::resolver::{ResolverSource, resolver_of};
 use crate::said;
 use krates_cm::Metadata;
+use krates_shown::Shown;
+use krates_text::text::Text;
 use krates_units::BuildSetting;
-use krates_words::{BuildWords, resolver_name};
+use krates_words::{BuildWords, build_setting_words, resolver_name};
+use std::alloc::{AllocError, Global};
 
 /// What a build is asked for, and what says which resolver it has.
 #[derive(Debug, Drop)]
@@ -51,16 +54,74 @@ pub fn build_setting(
 }
 
 impl AskedBuild {
-    /// Says which resolver the workspace has, where no word does.
-    pub fn note_resolver(&self, rt: &HostRuntime) {
-        if self.resolver_source == ResolverSource::Manifest {
-            let version = resolver_name(self.setting.resolver);
+    /// Says by which rules an answer is: those of a build, with its resolver and what says so, the machine that builds, the machines that it is for,
+    /// and the options that say what else it is asked for. The only error is running out of memory. Time O(length of what it is asked for).
+    pub fn note(&self, rt: &HostRuntime) -> Result<(), Failure> {
+        let text = self.note_text(rt.alloc())?;
+        said::note(rt, text);
+        Ok(())
+    }
+
+    /// Says that the build of another document has another resolver, if it has. Time O(1).
+    pub fn note_other(&self, rt: &HostRuntime, other: &AskedBuild) {
+        if self.setting.resolver != other.setting.resolver {
+            let version = resolver_name(other.setting.resolver);
+            let source = source_text(other.resolver_source);
             said::note(
                 rt,
-                format_args!(
-                    "the workspace's Cargo.toml says resolver {version}; --resolver sets another"
-                ),
+                format_args!("by build of the other document: resolver {version} ({source})"),
             );
+        }
+    }
+
+    /// The text of the note.
+    fn note_text(&self, alloc: Global) -> Result<String, AllocError> {
+        let words = build_setting_words(alloc, &self.setting)?;
+        let mut text = Text::new(alloc);
+        write!(
+            text,
+            "by build: resolver {} ({}), ",
+            resolver_name(self.setting.resolver),
+            source_text(self.resolver_source)
+        );
+        push_machines(&mut text, &self.setting);
+        push_options(&mut text, words.get(NAMED..).unwrap_or(&[]));
+        text.whole()
+    }
+}
+
+/// How many of the words that mean a build say its rules, its resolver and the machine that builds, which a note has in its own words.
+const NAMED: usize = 3;
+
+/// What says which resolver a build has.
+fn source_text(source: ResolverSource) -> &'static str {
+    match source {
+        ResolverSource::Words => "of --resolver",
+        ResolverSource::Manifest => "of Cargo.toml; --resolver sets another",
+    }
+}
+
+/// Adds which machine builds, and for which.
+fn push_machines(text: &mut Text, setting: &BuildSetting) {
+    let host = Shown(setting.host.triple());
+    if setting.targets.is_empty() {
+        write!(text, "built on and for {host}");
+        return;
+    }
+    write!(text, "built on {host} for");
+    for (number, target) in setting.targets.iter().enumerate() {
+        let before = if number == 0 { " " } else { ", " };
+        write!(text, "{before}{}", Shown(target.triple()));
+    }
+}
+
+/// Adds the options among these words, without the machines.
+fn push_options(text: &mut Text, words: &[String]) {
+    let mut before = ", with ";
+    for word in words {
+        if !word.starts_with("--target=") {
+            write!(text, "{before}{}", Shown(word.as_str()));
+            before = " ";
         }
     }
 }

@@ -19,6 +19,14 @@ pub fn note(rt: &HostRuntime, text: impl Display + Drop) {
     say(rt, "note", YELLOW, text);
 }
 
+/// Says by which rules an answer is that is by krates.
+pub fn note_krates(rt: &HostRuntime) {
+    note(
+        rt,
+        "by krates: the graph of the Rust crate krates, not what cargo builds",
+    );
+}
+
 /// Says why the words are wrong, or which words there are.
 pub fn wrong(rt: &HostRuntime, text: &str) {
     match text.strip_prefix("error: ") {

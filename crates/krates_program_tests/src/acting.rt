@@ -155,10 +155,10 @@ fn document_for(rt: &HostRuntime, asked: &mut Asked) -> Result<Metadata, Failure
     }
 }
 
-/// Looks up what a build is asked for, if the answer is about one.
+/// Looks up what a build is asked for, if the answer is about one, and says it.
 fn described(inputs: &Inputs<'_>, rules: &Rules, document: &Metadata) -> Result<(), Failure> {
     if let Rules::Build(words) = rules {
-        drop(build_setting(inputs, words, document)?);
+        build_setting(inputs, words, document)?.note(inputs.rt)?;
     }
     Ok(())
 }

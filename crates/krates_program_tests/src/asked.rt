@@ -80,10 +80,25 @@ fn told_of(alloc: Global, answer: Result<Report, ReportError>) -> Result<String,
     }
 }
 
+/// The words of a line that is about documents: by krates, whose graph these examples are about.
+pub(crate) fn words_by_krates(alloc: Global, line: &str) -> Result<Vec<String>, Fail> {
+    let mut words = words_of(alloc, line)?;
+    words.push(String::from_str(alloc, "--by=krates")?)?;
+    Ok(words)
+}
+
+/// The words of a line, and the documents after `<`. Where there are none, the words are as they stand there.
+fn words_and_documents(alloc: Global, line: &str) -> Result<(Vec<String>, &str), Fail> {
+    match line.split_once(" < ") {
+        Some((words, documents)) => Ok((words_by_krates(alloc, words)?, documents)),
+        None => Ok((words_of(alloc, line)?, "")),
+    }
+}
+
 /// The answer to the words of a line, about the documents after `<`, with `//` between them.
 pub(crate) fn answered_of(alloc: Global, line: &str) -> Result<String, Fail> {
-    let (words, documents) = line.split_once(" < ").unwrap_or((line, ""));
-    match asked_of(alloc, &words_of(alloc, words)?) {
+    let (words, documents) = words_and_documents(alloc, line)?;
+    match asked_of(alloc, &words) {
         Ok(mut asked) => printed_of(alloc, &mut asked, documents),
         Err(error) => Ok(format!(in alloc; "{error}")?),
     }

@@ -1,7 +1,6 @@
 //! Certificates as `cargo krates` writes them, and what the program that checks them says.
 
-use crate::asked::{Answered, add_targets, answered_of, document_of};
-use crate::listing::words_of;
+use crate::asked::{Answered, add_targets, answered_of, document_of, words_by_krates};
 use krates_samples::table::{Question, Row, hold};
 use krates_verdict::run_under;
 use krates_words::{Choice, Rules, check_words_of};
@@ -44,10 +43,10 @@ fn written<R: Read + Drop>(
     }
 }
 
-/// What the checker says of the certificate that comes in under the words of a line, about the document after `<`.
+/// What the checker says by krates of the certificate that comes in under the words of a line, about the document after `<`.
 fn checked<R: Read + Drop>(alloc: Global, line: &str, input: R) -> Result<String, Fail> {
     let (words, document) = line.split_once(" < ").unwrap_or((line, ""));
-    match check_words_of(alloc, &words_of(alloc, words)?) {
+    match check_words_of(alloc, &words_by_krates(alloc, words)?) {
         Ok(mut asked) => match &mut asked.rules {
             Rules::Krates(choice) => written(alloc, choice, document, input),
             Rules::Build(_) => Err(Fail::new("by build")),

@@ -157,20 +157,49 @@ static BY_RUSTC: &[Row] = &[
     ),
     // by build, the host that it names is a machine that it has to describe
     (
-        "RUSTC=./rustc krates list --by build --resolver 2 --metadata ROOM/document.json",
+        "RUSTC=./rustc krates list --resolver 2 --metadata ROOM/document.json",
         "error: unknown target `odd`: rustc doesn't describe it\n",
     ),
     (
-        "RUSTC=./silent krates list --by build --resolver 2 --metadata ROOM/document.json",
+        "RUSTC=./silent krates list --resolver 2 --metadata ROOM/document.json",
         "error: `./silent -vV` prints no line that begins with `host: `\n",
     ),
     (
-        "RUSTC=./crash krates list --by build --resolver 2 --metadata ROOM/document.json",
+        "RUSTC=./crash krates list --resolver 2 --metadata ROOM/document.json",
         "error: `./crash` failed (signal: 6 (SIGABRT)): no manifest\n",
     ),
     (
-        "RUSTC=./refuse krates list --by build --resolver 2 --metadata ROOM/document.json",
+        "RUSTC=./refuse krates list --resolver 2 --metadata ROOM/document.json",
         "error: `./refuse` failed (exit status: 101): no manifest\n",
+    ),
+];
+
+/// What is said of a build, whose machines are described by files. The workspace of `document.json` has no manifest, that of `here.json` has one.
+static BY_BUILD: &[Row] = &[
+    (
+        "krates list --by build --host odd --host-cfg ROOM/odd.cfg --metadata ROOM/here.json",
+        "described\nnote: by build: resolver 2 (of Cargo.toml; --resolver sets another), built on and for odd\nstatus 0",
+    ),
+    (
+        "krates list --by build --host odd --host-cfg ROOM/odd.cfg --metadata ROOM/document.json",
+        "error: /w/Cargo.toml: No such file or directory (os error 2); say by --resolver 1, 2 or 3 which resolver the workspace has\n",
+    ),
+    (
+        "krates list --resolver 2 --host odd --host-cfg ROOM/odd.cfg --metadata ROOM/document.json",
+        "described\nnote: by build: resolver 2 (of --resolver), built on and for odd\nstatus 0",
+    ),
+    (
+        "krates list --by build --resolver 1 --host odd --host-cfg ROOM/odd.cfg --target odd --cfg ROOM/odd.cfg --target other --cfg ROOM/odd.cfg --metadata ROOM/document.json",
+        "described\nnote: by build: resolver 1 (of --resolver), built on odd for odd, other\nstatus 0",
+    ),
+    (
+        "krates list --resolver 3 -p a -F x,y --no-default-features --tests --host odd --host-cfg ROOM/odd.cfg --target odd --cfg ROOM/odd.cfg --metadata ROOM/document.json",
+        "described\nnote: by build: resolver 3 (of --resolver), built on odd for odd, with --package=a --tests --features=x --features=y --no-default-features\nstatus 0",
+    ),
+    // what is written with others' characters
+    (
+        "krates list --resolver 2 --host o\u{202e}d --host-cfg ROOM/odd.cfg -F x\u{1b}[2K --metadata ROOM/document.json",
+        "described\nnote: by build: resolver 2 (of --resolver), built on and for o\\u{202e}d, with --features=x\\u{1b}[2K\nstatus 0",
     ),
 ];
 
@@ -262,10 +291,18 @@ fn rustc_of(line: &str) -> (&str, &str) {
     }
 }
 
-/// Adds the words of a line.
+/// Whether a line says by which rules it is, or which resolver a build has.
+fn says_rules(line: &str) -> bool {
+    line.contains("--by ") || line.contains("--resolver ")
+}
+
+/// Adds the words of a line. If it says no rules, it is by krates.
 fn add_words(alloc: Global, command: &mut Command, room: &str, line: &str) -> Result<(), Fail> {
     for word in &words_of(alloc, line)? {
         command.arg(word.replace(alloc, "ROOM", room)?.as_str())?;
+    }
+    if !says_rules(line) {
+        command.arg("--by=krates")?;
     }
     Ok(())
 }
@@ -363,10 +400,21 @@ fn make_rustc(rt: &HostRuntime, place: &Place, name: &str) -> Result<(), Fail> {
     Ok(fs::set_permissions(rt, path.as_str(), Permissions::from_mode(0o755))?)
 }
 
+/// Writes a document whose workspace is here, and the manifest of that workspace.
+fn make_workspace(rt: &HostRuntime, place: &Place) -> Result<(), Fail> {
+    let root = format!(in rt.alloc(); "\"workspace_root\":\"{}\"", place.room)?;
+    let document = DOCUMENT.replace(rt.alloc(), "\"workspace_root\":\"/w\"", root.as_str())?;
+    place.write(rt, "here.json", document.as_str())?;
+    place.write(rt, "Cargo.toml", "[workspace]\nresolver = \"2\"\n")?;
+    Ok(())
+}
+
 /// Writes the files that are read, and those that are run.
 fn make_files(rt: &HostRuntime, place: &Place) -> Result<(), Fail> {
     place.write(rt, "document.json", DOCUMENT)?;
     place.write(rt, "marked.json", "\u{feff}{}")?;
+    place.write(rt, "odd.cfg", "target_arch=\"odd\"\nunix\n")?;
+    make_workspace(rt, place)?;
     for name in &RUSTCS {
         make_rustc(rt, place, *name)?;
     }
@@ -380,6 +428,7 @@ fn hold_with_files(rt: &HostRuntime, place: &Place) -> Result<(), Fail> {
     hold_in(rt, place, CHECKED)?;
     hold_in(rt, place, BY_CARGO)?;
     hold_in(rt, place, BY_RUSTC)?;
+    hold_in(rt, place, BY_BUILD)?;
     hold_in(rt, place, TO_NOBODY)?;
     Ok(fs::remove_dir_all(rt, place.room.as_str())?)
 }

@@ -12,6 +12,8 @@ mod acting;
 #[cfg(test)]
 mod asked;
 #[cfg(test)]
+mod by_build;
+#[cfg(test)]
 mod by_cargo;
 #[cfg(test)]
 mod calls;

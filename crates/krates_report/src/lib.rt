@@ -7,7 +7,6 @@ pub mod bill;
 pub mod builds;
 pub mod crate_name;
 pub mod difference;
-mod dump;
 pub mod duplicates;
 pub mod error;
 pub mod json;

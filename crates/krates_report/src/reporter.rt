@@ -9,18 +9,14 @@ use crate::answer::{Answer, pretty, printed};
 use crate::bill::Bill;
 use crate::builds::{builds, built};
 use crate::difference::Difference;
-use crate::dump::{push_answers, push_graph};
 use crate::duplicates::Duplicates;
 use crate::error::ReportError;
 use crate::kept::{List, UsedKrates};
-use crate::lines::Lines;
 use crate::tree::Tree;
 use crate::why::{Certainty, ExplainedFeatures, Why};
 use krates::derive::{Derivation, Fact};
 use krates::resolve::Setting;
-use krates::{
-    Builder, Kid, KrateMatch, Krates, Metadata, Node, NodeId, OnFilter, Package, PackageId,
-};
+use krates::{Builder, Kid, KrateMatch, Krates, Metadata, Node, NodeId, OnFilter, Package};
 use krates_answers::builds::Builds;
 use krates_answers::direct_links::DirectLinks;
 use krates_answers::kept::kept_crates;
@@ -137,15 +133,6 @@ fn members_of(alloc: Global, krates: &Krates) -> Result<Vec<NodeId>, AllocError>
     Ok(members)
 }
 
-/// The ids of the packages, in the order of the document.
-fn ids_of(alloc: Global, packages: &[Package]) -> Result<Vec<PackageId>, AllocError> {
-    let mut ids = Vec::new(alloc);
-    for pkg in packages {
-        ids.push(pkg.id.clone()?)?;
-    }
-    Ok(ids)
-}
-
 /// Answers what is asked of the graph of krates, over the documents that it is given.
 #[derive(Clone, Copy)]
 pub struct Reporter<'a> {
@@ -190,16 +177,13 @@ impl Reporter<'_> {
     /// What is printed of one document.
     fn of_one(&self, metadata: Metadata) -> Result<Report, ReportError> {
         match &self.asked.word {
-            Word::List { .. } | Word::Duplicates | Word::Licences | Word::Graph => {
-                self.of_graph(metadata)
-            }
+            Word::List { .. } | Word::Duplicates | Word::Licences => self.of_graph(metadata),
             Word::Tree { .. }
             | Word::Dependents { .. }
             | Word::Why { .. }
             | Word::Features { .. }
             | Word::Certify { .. } => self.of_divided(metadata),
             Word::Uses | Word::Sbom => self.of_builds(metadata),
-            Word::Queries => self.queries(metadata),
             Word::Unreachable { spec, .. } => self.unreachable(metadata, spec.as_str()),
             Word::Diff { .. } => {
                 metadata.let_go();
@@ -285,23 +269,6 @@ impl Reporter<'_> {
         self.shown(Difference::between(self.alloc, first, &second))
     }
 
-    /// What each query answers.
-    fn queries(&self, metadata: Metadata) -> Result<Report, ReportError> {
-        match ids_of(self.alloc, &metadata.packages) {
-            Ok(ids) => self.queries_of(metadata, &ids),
-            Err(AllocError) => {
-                metadata.let_go();
-                Err(ReportError::Memory)
-            }
-        }
-    }
-
-    /// The same, where the packages of the document have these ids.
-    fn queries_of(&self, metadata: Metadata, ids: &[PackageId]) -> Result<Report, ReportError> {
-        let krates = self.built(metadata)?;
-        self.query_lines(&krates, ids)
-    }
-
     /// Whether it is certain that a package isn't reached.
     fn unreachable(&self, metadata: Metadata, spec: &str) -> Result<Report, ReportError> {
         let answer = self.unreachable_in(&metadata, spec);
@@ -318,8 +285,7 @@ impl Reporter<'_> {
 
 /// What is printed of what was built. Nothing large is owned here, so that no refusal has to drop it.
 impl Reporter<'_> {
-    /// The answer to a word about the graph alone: the kept crates, the names that several of them have, their licences, or
-    /// the drawn graph, number by number.
+    /// The answer to a word about the graph alone: the kept crates, the names that several of them have, or their licences.
     fn in_graph(&self, krates: &Krates) -> Result<Report, ReportError> {
         match &self.asked.word {
             Word::List { ids, .. } => {
@@ -330,12 +296,11 @@ impl Reporter<'_> {
                 }))
             }
             Word::Duplicates => self.duplicates_in(krates),
-            Word::Licences => {
+            // the word `licences`
+            _ => {
                 let crates = kept_crates(self.alloc, krates)?;
                 self.shown(licences(self.alloc, &crates))
             }
-            // the word `graph`
-            _ => self.graph_lines(krates),
         }
     }
 
@@ -344,13 +309,6 @@ impl Reporter<'_> {
         let crates = kept_crates(self.alloc, krates)?;
         let dependents = DirectLinks::dependents(self.alloc, krates)?;
         self.shown(Duplicates::of(self.alloc, crates, dependents))
-    }
-
-    /// The drawn graph, number by number.
-    fn graph_lines(&self, krates: &Krates) -> Result<Report, ReportError> {
-        let mut lines = Lines::new(self.alloc);
-        push_graph(&mut lines, krates.graph());
-        Ok(Report::yes(lines.whole()?))
     }
 
     /// The answer to a word about one crate: the tree of what it needs or of those that need it, why it is kept, its enabled features,
@@ -440,13 +398,6 @@ impl Reporter<'_> {
         let certificate = self.certificate(divided, spec)?;
         let text = pretty(self.alloc, certificate.to_value(self.alloc))?;
         Ok(Report::yes(text))
-    }
-
-    /// What each query answers, where packages have these ids.
-    fn query_lines(&self, krates: &Krates, ids: &[PackageId]) -> Result<Report, ReportError> {
-        let mut lines = Lines::new(self.alloc);
-        push_answers(self.alloc, &mut lines, krates, ids)?;
-        Ok(Report::yes(lines.whole()?))
     }
 
     /// Whether it is certain that a package isn't reached.

@@ -10,3 +10,4 @@ pub mod settings;
 pub mod stand_in;
 pub mod starving;
 pub mod table;
+pub mod targets;

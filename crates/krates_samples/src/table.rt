@@ -1,4 +1,4 @@
-//! Tables of worked examples, which one function walks.
+//! Tables of worked examples, which one function walks: one text with a line for each, or rows where a text has ends of lines.
 
 use crate::failures::Failures;
 use krates_text::text::Text;
@@ -28,7 +28,39 @@ impl<T: Tell> Question for T {
     }
 }
 
-/// Compares the answer to each line with the one that is known; fails where some differ, and names each of their lines.
+/// The question and the known answer of a line of a table that is one text: `question => answer`, or `question =>` where the answer is
+/// empty. None where the line is empty, or begins with `// ` and says something of those below it. A line without an answer has one that nothing
+/// gives.
+pub fn row_of(line: &str) -> Option<(&str, &str)> {
+    if line.is_empty() || line.starts_with("// ") {
+        return None;
+    }
+    match line.split_once(" =>") {
+        Some((question, answer)) => Some((question, answer.strip_prefix(' ').unwrap_or(answer))),
+        None => Some((line, "an answer, which this line lacks")),
+    }
+}
+
+/// An answer without the blanks at its end, which a table that is one text can't show.
+pub fn trimmed(alloc: Global, told: Result<String, Fail>) -> Result<String, Fail> {
+    let told = told?;
+    Ok(String::from_str(alloc, told.trim_end())?)
+}
+
+/// Compares the answer to each line of a table that is one text, as `row_of` reads them, with the one that is known; fails where some
+/// differ, and names each of their lines. Blanks at the end of an answer don't count.
+pub fn hold_lines<Q: Question>(alloc: Global, table: &str) -> Result<(), Fail> {
+    let mut failures = Failures::new(alloc);
+    for line in table.lines() {
+        if let Some((line, answer)) = row_of(line) {
+            failures.compare(line, trimmed(alloc, Q::told(alloc, line)), answer)?;
+        }
+    }
+    failures.reported()
+}
+
+/// Compares the answer to each line with the one that is known; fails where some differ, and names each of their lines. For texts with
+/// ends of lines, or other characters that a table in one text can't show.
 pub fn hold<Q: Question>(alloc: Global, rows: &[Row]) -> Result<(), Fail> {
     let mut failures = Failures::new(alloc);
     for &(line, answer) in rows {

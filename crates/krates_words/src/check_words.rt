@@ -49,7 +49,9 @@ fn command_line<'w>(alloc: Global) -> Result<Command<'w>, AllocError> {
     push_groups(alloc, &mut args, &FOR_CERTIFICATES)?;
     Command::new(alloc, "krates_check")
         .version(VERSION)
-        .about("Checks a certificate of which crates a workspace needs, or of what cargo builds")
+        .about(
+            "Checks a certificate of what cargo builds, or with --by krates of which crates a workspace needs",
+        )
         .after_help(EXPLANATION)
         .no_binary_name(true)
         .arg_required_else_help(true)

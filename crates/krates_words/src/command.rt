@@ -1,13 +1,14 @@
 //! The command line, as `clap` reads it.
 
 use crate::known::{KnownWord, WORDS};
-use crate::known_options::{BY_EITHER, BY_KRATES, CARGO_OPTIONS, Group, KnownOption, Takes};
+use crate::known_options::{CARGO_OPTIONS, FOR_ANSWERS, Group, KnownOption, Takes};
 use crate::rules;
 use clap::builder::ValueParser;
 use clap::{Arg, ArgAction, Command};
 use std::alloc::{AllocError, Global};
 
 static EXPLANATION: &str = "\
+Without options it is about what `cargo build` would build here; --by krates answers for the graph of the Rust crate krates.
 SPEC names a package as cargo's -p does: serde, serde@1.0.152, or its id.
 `cargo krates WORD --help` lists the options of a word.";
 
@@ -56,7 +57,7 @@ fn program<'w>(alloc: Global) -> Result<Command<'w>, AllocError> {
     Ok(
         named
             .version(VERSION)
-            .about("Which crates a workspace needs, and why")
+            .about("Which crates cargo builds in a workspace, and why")
             .after_help(EXPLANATION)
             .no_binary_name(true)
             .subcommand_required(true)
@@ -90,17 +91,8 @@ impl KnownWord {
             options: self.own,
         };
         own.push_args(alloc, &mut args)?;
-        push_groups(alloc, &mut args, self.groups())?;
+        push_groups(alloc, &mut args, &FOR_ANSWERS)?;
         Ok(args)
-    }
-
-    /// What all words take that answer by the same rules.
-    fn groups(&self) -> &'static [Group] {
-        if self.has_rules {
-            &BY_EITHER
-        } else {
-            &BY_KRATES
-        }
     }
 }
 

@@ -48,8 +48,6 @@ fn word(alloc: Global, name: &str, found: &ArgMatches<'_>) -> Result<Word, Words
         "licences" => Ok(Word::Licences),
         "uses" => Ok(Word::Uses),
         "sbom" => Ok(Word::Sbom),
-        "graph" => Ok(Word::Graph),
-        "queries" => Ok(Word::Queries),
         "diff" => Ok(Word::Diff {
             other: required(alloc, found, "FILE")?,
         }),

@@ -118,19 +118,10 @@ const PACKAGE: KnownOption = KnownOption {
     name: "package",
     short: Some('p'),
     takes: Takes::Each("SPEC|PATH"),
-    help: "Start from the packages that SPEC fits; by krates from the member in the directory PATH,{n}which is absolute; may be repeated",
-};
-
-const MEMBER: KnownOption = KnownOption {
-    name: "package",
-    short: Some('p'),
-    takes: Takes::Each("PATH"),
-    help: "Start from the member in this directory, an absolute path; may be repeated",
+    help: "Start from the packages that SPEC fits; with --by krates from the member in the directory PATH,{n}which is absolute; may be repeated",
 };
 
 const OF_PACKAGES: [KnownOption; 2] = [WORKSPACE, PACKAGE];
-
-const OF_MEMBERS: [KnownOption; 2] = [WORKSPACE, MEMBER];
 
 const LIB: KnownOption = KnownOption {
     name: "lib",
@@ -180,28 +171,28 @@ const EDGES: KnownOption = KnownOption {
     name: "edges",
     short: Some('e'),
     takes: Takes::Edges,
-    help: "By krates: follow these kinds of dependencies, with commas between them:{n}normal, build, dev, all; or all but no-normal, no-build, no-dev",
+    help: "With --by krates: follow these kinds of dependencies, with commas between them:{n}normal, build, dev, all; or all but no-normal, no-build, no-dev",
 };
 
 const IGNORE_KIND: KnownOption = KnownOption {
     name: "ignore-kind",
     short: None,
     takes: Takes::Kind,
-    help: "By krates: follow no dependencies of this kind: normal, build, dev; may be repeated",
+    help: "With --by krates: follow no dependencies of this kind: normal, build, dev; may be repeated",
 };
 
 const EXCLUDE: KnownOption = KnownOption {
     name: "exclude",
     short: None,
     takes: Takes::Each("SPEC"),
-    help: "By krates: leave out the packages that this fits, as serde@1.0.152; may be repeated",
+    help: "With --by krates: leave out the packages that this fits, as serde@1.0.152; may be repeated",
 };
 
 const ALL_NAMED: KnownOption = KnownOption {
     name: "all-named",
     short: None,
     takes: Takes::Nothing,
-    help: "By krates: let dep:NAME and NAME/FEATURE mean every dependency of that name",
+    help: "With --by krates: let dep:NAME and NAME/FEATURE mean every dependency of that name",
 };
 
 const OF_DEPENDENCIES: [KnownOption; 4] = [EDGES, IGNORE_KIND, EXCLUDE, ALL_NAMED];
@@ -234,7 +225,7 @@ const TARGET: KnownOption = KnownOption {
     name: "target",
     short: None,
     takes: Takes::Each("TRIPLE"),
-    help: "Keep only what is needed at this target; may be repeated",
+    help: "Answer for a build for this target, by default the machine that builds;{n}with --by krates keep only what passes for it, by default all; may be repeated",
 };
 
 const CFG: KnownOption = KnownOption {
@@ -259,8 +250,6 @@ const HOST_CFG: KnownOption = KnownOption {
 };
 
 const OF_MACHINES: [KnownOption; 4] = [TARGET, CFG, HOST, HOST_CFG];
-
-const OF_TARGETS: [KnownOption; 2] = [TARGET, CFG];
 
 const OF_CARGO: [KnownOption; 4] = [
     KnownOption {
@@ -296,47 +285,47 @@ pub(crate) static CARGO_OPTIONS: [KnownOption; 4] = OF_CARGO;
 pub(crate) static OF_BUILDS: [OwnOption; 11] = [
     OwnOption {
         option: RESOLVER,
-        refusal: "'--resolver <VERSION>' is known by build alone: write '--by build' too",
+        refusal: "'--resolver <VERSION>' is known by build alone: leave '--by krates' out",
     },
     OwnOption {
         option: LIB,
-        refusal: "'--lib' is known by build alone: write '--by build' too",
+        refusal: "'--lib' is known by build alone: leave '--by krates' out",
     },
     OwnOption {
         option: BINS,
-        refusal: "'--bins' is known by build alone: write '--by build' too",
+        refusal: "'--bins' is known by build alone: leave '--by krates' out",
     },
     OwnOption {
         option: TESTS,
-        refusal: "'--tests' is known by build alone: by krates, tests count without '--ignore-kind dev'",
+        refusal: "'--tests' is known by build alone: leave '--by krates' out; by krates, tests count without '--ignore-kind dev'",
     },
     OwnOption {
         option: EXAMPLES,
-        refusal: "'--examples' is known by build alone: by krates, examples count without '--ignore-kind dev'",
+        refusal: "'--examples' is known by build alone: leave '--by krates' out; by krates, examples count without '--ignore-kind dev'",
     },
     OwnOption {
         option: BENCHES,
-        refusal: "'--benches' is known by build alone: by krates, benchmarks count without '--ignore-kind dev'",
+        refusal: "'--benches' is known by build alone: leave '--by krates' out; by krates, benchmarks count without '--ignore-kind dev'",
     },
     OwnOption {
         option: ALL_TARGETS,
-        refusal: "'--all-targets' is known by build alone: by krates, all targets count without '--ignore-kind dev'",
+        refusal: "'--all-targets' is known by build alone: leave '--by krates' out; by krates, all targets count without '--ignore-kind dev'",
     },
     OwnOption {
         option: HOST,
-        refusal: "'--host <TRIPLE>' is known by build alone: by krates, '--target <TRIPLE>' keeps what that machine needs",
+        refusal: "'--host <TRIPLE>' is known by build alone: leave '--by krates' out; by krates, '--target <TRIPLE>' keeps what that machine needs",
     },
     OwnOption {
         option: HOST_CFG,
-        refusal: "'--host-cfg <FILE>' is known by build alone: by krates, '--target <TRIPLE>' and '--cfg <FILE>' describe a machine",
+        refusal: "'--host-cfg <FILE>' is known by build alone: leave '--by krates' out; by krates, '--target <TRIPLE>' and '--cfg <FILE>' describe a machine",
     },
     OwnOption {
         option: SIDE,
-        refusal: "'--side <SIDE>' is known by build alone: write '--by build' too",
+        refusal: "'--side <SIDE>' is known by build alone: leave '--by krates' out",
     },
     OwnOption {
         option: UNITS,
-        refusal: "'--units' is known by build alone: write '--by build' too",
+        refusal: "'--units' is known by build alone: leave '--by krates' out",
     },
 ];
 
@@ -344,19 +333,19 @@ pub(crate) static OF_BUILDS: [OwnOption; 11] = [
 pub(crate) static OF_KRATES: [OwnOption; 4] = [
     OwnOption {
         option: EDGES,
-        refusal: "'--edges <KINDS>' is known by krates alone: by build, '--lib' and '--bins' need no dev dependencies",
+        refusal: "'--edges <KINDS>' is known by krates alone: write '--by krates' too; by build, dev dependencies count where '--tests', '--examples', '--benches' or '--all-targets' asks for them",
     },
     OwnOption {
         option: IGNORE_KIND,
-        refusal: "'--ignore-kind <KIND>' is known by krates alone: by build, '--lib' and '--bins' need no dev dependencies",
+        refusal: "'--ignore-kind <KIND>' is known by krates alone: write '--by krates' too; by build, dev dependencies count where '--tests', '--examples', '--benches' or '--all-targets' asks for them",
     },
     OwnOption {
         option: EXCLUDE,
-        refusal: "'--exclude <SPEC>' is known by krates alone: by build, name by '--package <SPEC>' what is built",
+        refusal: "'--exclude <SPEC>' is known by krates alone: write '--by krates' too; by build, name by '--package <SPEC>' what is built",
     },
     OwnOption {
         option: ALL_NAMED,
-        refusal: "'--all-named' is known by krates alone: by build, names mean what they mean to cargo; leave it out",
+        refusal: "'--all-named' is known by krates alone: write '--by krates' too; by build, names mean what they mean to cargo",
     },
 ];
 
@@ -421,7 +410,7 @@ pub(crate) const ALL: KnownOption = KnownOption {
     name: "all",
     short: None,
     takes: Takes::Nothing,
-    help: "Certify all that is kept, in place of one crate",
+    help: "Certify all that is built, in place of one crate",
 };
 
 const RULES: Group = Group {
@@ -469,31 +458,14 @@ const IN_PLACE_OF_CARGO: Group = Group {
     options: &[METADATA],
 };
 
-/// What each word takes that answers by either rules.
-pub(crate) static BY_EITHER: [Group; 9] = [
+/// What each word takes.
+pub(crate) static FOR_ANSWERS: [Group; 9] = [
     RULES,
     PACKAGES,
     TARGET_KINDS,
     DEPENDENCIES,
     FEATURES,
     MACHINES,
-    TOLD_TO_CARGO,
-    IN_PLACE_OF_CARGO,
-    LIMITS,
-];
-
-/// What each word takes that answers by the rules of krates alone.
-pub(crate) static BY_KRATES: [Group; 7] = [
-    Group {
-        heading: Some("Which packages"),
-        options: &OF_MEMBERS,
-    },
-    DEPENDENCIES,
-    FEATURES,
-    Group {
-        heading: Some("Which machines"),
-        options: &OF_TARGETS,
-    },
     TOLD_TO_CARGO,
     IN_PLACE_OF_CARGO,
     LIMITS,

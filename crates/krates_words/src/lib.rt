@@ -97,10 +97,6 @@ pub enum Word {
     },
     /// A bill of materials.
     Sbom,
-    /// The graph, for scripts.
-    Graph,
-    /// What the queries answer, for scripts.
-    Queries,
     /// A certificate that someone else can check.
     Certify {
         /// The package specification or id of the crate that it is about; `None` where it is about all that is kept: `--all`.

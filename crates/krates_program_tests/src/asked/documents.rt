@@ -1,4 +1,4 @@
-//! What `cargo krates` says of whole documents: differences, bills of materials, lines for scripts.
+//! What `cargo krates` says of whole documents: differences and bills of materials.
 
 use crate::asked::Answered;
 use krates_samples::table::{Row, hold};
@@ -44,21 +44,8 @@ static BILLS: &[Row] = &[
     ),
 ];
 
-/// The drawn graph, and what its queries answer.
-static SCRIPTS: &[Row] = &[
-    (
-        "graph < a b;f=b/y|b;y=",
-        "node 0 crate path+file:///w/a#0.1.0\nnode 1 crate path+file:///w/b#0.1.0\nnode 2 feature path+file:///w/a#0.1.0/f\nnode 3 feature path+file:///w/b#0.1.0/y\nmap 0 0 1\nedge 0 0 1 dep normal -\nedge 1 0 3 feature\nedge 2 2 0 feature\nedge 3 2 3 feature\nedge 4 3 1 feature\n",
-    ),
-    (
-        "queries < a",
-        "len 1\nroot /w\nmember crate path+file:///w/a#0.1.0\nkrate path+file:///w/a#0.1.0\nkrate 0 path+file:///w/a#0.1.0 path+file:///w/a#0.1.0\nabove 0 0 path+file:///w/a#0.1.0\nreached 0\nfiltered normal path+file:///w/a#0.1.0\nfiltered build path+file:///w/a#0.1.0\nfiltered dev path+file:///w/a#0.1.0\nnumber path+file:///w/a#0.1.0 0\nnode_of path+file:///w/a#0.1.0 crate path+file:///w/a#0.1.0\nfeatures path+file:///w/a#0.1.0\nfound path+file:///w/a#0.1.0 0 crate path+file:///w/a#0.1.0\nnamed a 0 path+file:///w/a#0.1.0\nmatching a 0 path+file:///w/a#0.1.0\n",
-    ),
-];
-
 #[test]
-fn differences_bills_and_lines_for_scripts(rt: HostRuntime) -> Result<(), Fail> {
+fn differences_and_bills(rt: HostRuntime) -> Result<(), Fail> {
     hold::<Answered>(rt.alloc(), DIFFERENCES)?;
-    hold::<Answered>(rt.alloc(), BILLS)?;
-    hold::<Answered>(rt.alloc(), SCRIPTS)
+    hold::<Answered>(rt.alloc(), BILLS)
 }

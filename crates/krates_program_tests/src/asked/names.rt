@@ -114,7 +114,7 @@ static NAMES: &[Row] = &[
 static WORDS: &[Row] = &[
     (
         "",
-        "Which crates a workspace needs, and why\n\nUsage: cargo krates <WORD>\n\nWords:\n  list         The crates that are kept, a line for each\n  tree         What the workspace or a crate needs, as a tree\n  dependents   Which crates need a crate, all the way up\n  why          Why a crate is kept, step by step from the workspace\n  features     Which features of a crate are enabled, each with a reason\n  duplicates   Which names are kept in several versions, and who needs each\n  licences     Under which licences the crates are, and which state none [alias: licenses]\n  uses         Which crates are shipped, and which are for building or development alone\n  diff         What another document keeps that this one doesn't, and the other way round\n  sbom         A bill of materials: CycloneDX 1.5, as JSON\n  graph        The graph that is drawn, number by number, to compare it by a script\n  queries      What each query of the graph answers, to compare it by a script\n  unreachable  Whether it is certain that nothing needs a crate\n  certify      A certificate, as JSON, that someone else can check against the document\n  help         Print this message or the help of the given subcommand(s)\n\nOptions:\n  -h, --help     Print help\n  -V, --version  Print version\n\nSPEC names a package as cargo's -p does: serde, serde@1.0.152, or its id.\n`cargo krates WORD --help` lists the options of a word.\n",
+        "Which crates cargo builds in a workspace, and why\n\nUsage: cargo krates <WORD>\n\nWords:\n  list         The crates that are built, a line for each\n  tree         What the workspace or a crate needs, as a tree\n  dependents   Which crates need a crate, all the way up\n  why          Why a crate is built, step by step from the workspace\n  features     Which features of a crate are enabled, each with a reason\n  duplicates   Which names are built in several versions, and who needs each\n  licences     Under which licences the crates are, and which state none [alias: licenses]\n  uses         Which crates are shipped, and which are for building or development alone\n  diff         What is built of another document and not of this one, and the other way round\n  sbom         A bill of materials: CycloneDX 1.5, as JSON\n  unreachable  Whether it is certain that a crate isn't built\n  certify      A certificate, as JSON, that someone else can check against the document\n  help         Print this message or the help of the given subcommand(s)\n\nOptions:\n  -h, --help     Print help\n  -V, --version  Print version\n\nWithout options it is about what `cargo build` would build here; --by krates answers for the graph of the Rust crate krates.\nSPEC names a package as cargo's -p does: serde, serde@1.0.152, or its id.\n`cargo krates WORD --help` lists the options of a word.\n",
     ),
     (
         "lst",
@@ -133,7 +133,7 @@ static WORDS: &[Row] = &[
         "error: a value is required for '--target <TRIPLE>' but none was supplied\n\nFor more information, try '--help'.\n",
     ),
     (
-        "list --exclude a@",
+        "list --by krates --exclude a@",
         "error: invalid value 'a@' for '--exclude <SPEC>': package spec cannot end with ':'\n\nFor more information, try '--help'.\n",
     ),
     (
@@ -145,7 +145,7 @@ static WORDS: &[Row] = &[
         "error: <SPEC> can't stand beside '--all'\n\nFor more information, try '--help'.\n",
     ),
     (
-        "list --package w/b",
+        "list --by krates --package w/b",
         "error: invalid value 'w/b' for '--package <PATH>': it has to be an absolute path\n\nFor more information, try '--help'.\n",
     ),
     (
@@ -178,55 +178,68 @@ static WORDS: &[Row] = &[
     ),
     // what only the other rules know
     (
-        "list --lib",
-        "error: '--lib' is known by build alone: write '--by build' too\n\nFor more information, try '--help'.\n",
+        "list --by krates --lib",
+        "error: '--lib' is known by build alone: leave '--by krates' out\n\nFor more information, try '--help'.\n",
     ),
     (
-        "list --side host",
-        "error: '--side <SIDE>' is known by build alone: write '--by build' too\n\nFor more information, try '--help'.\n",
+        "list --side host --by krates",
+        "error: '--side <SIDE>' is known by build alone: leave '--by krates' out\n\nFor more information, try '--help'.\n",
     ),
     (
-        "list -F x --metadata F",
+        "list --tests --by krates",
+        "error: '--tests' is known by build alone: leave '--by krates' out; by krates, tests count without '--ignore-kind dev'\n\nFor more information, try '--help'.\n",
+    ),
+    (
+        "list -F x --metadata F --by krates",
         "error: '--features' can't stand beside '--metadata <FILE>': by krates, it is for cargo\n\nFor more information, try '--help'.\n",
     ),
-    ("--version", "cargo-krates 0.22.0\n"),
     (
-        "graph --json",
-        "error: unexpected argument '--json' found\n\nUsage: cargo krates graph [OPTIONS]\n\nFor more information, try '--help'.\n",
+        "list --all-named",
+        "error: '--all-named' is known by krates alone: write '--by krates' too; by build, names mean what they mean to cargo\n\nFor more information, try '--help'.\n",
     ),
+    (
+        "list --ignore-kind dev",
+        "error: '--ignore-kind <KIND>' is known by krates alone: write '--by krates' too; by build, dev dependencies count where '--tests', '--examples', '--benches' or '--all-targets' asks for them\n\nFor more information, try '--help'.\n",
+    ),
+    ("--version", "cargo-krates 0.22.0\n"),
 ];
 
-/// The words with which cargo is run.
+/// The words with which cargo is run. By build all features are needed, and those that are named.
 static CARGO: &[Row] = &[
-    ("list", "metadata --format-version 1"),
-    (
-        "tree -F a,b --features c",
-        "metadata --format-version 1 --features a,b c",
-    ),
-    (
-        "tree --all-features --locked",
-        "metadata --format-version 1 --all-features --locked",
-    ),
-    (
-        "list --no-default-features --offline --frozen",
-        "metadata --format-version 1 --no-default-features --frozen --offline",
-    ),
-    (
-        "why b --manifest-path /w/a/Cargo.toml",
-        "metadata --format-version 1 --manifest-path /w/a/Cargo.toml",
-    ),
-    (
-        "why b --manifest-path a/Cargo.toml --locked",
-        "metadata --format-version 1 --manifest-path a/Cargo.toml --locked",
-    ),
-    // by build all features are needed, and those that are named
+    ("list", "metadata --format-version 1 --all-features"),
     (
         "list --by build",
         "metadata --format-version 1 --all-features",
     ),
     (
-        "list --by build -F x --no-default-features --locked",
+        "tree -F a,b --features c",
+        "metadata --format-version 1 --all-features --features a,b c",
+    ),
+    (
+        "list -F x --no-default-features --locked",
         "metadata --format-version 1 --all-features --features x --locked",
+    ),
+    (
+        "why b --manifest-path a/Cargo.toml --locked",
+        "metadata --format-version 1 --manifest-path a/Cargo.toml --all-features --locked",
+    ),
+    // by krates it is asked for what is written
+    ("list --by krates", "metadata --format-version 1"),
+    (
+        "tree --by krates -F a,b --features c",
+        "metadata --format-version 1 --features a,b c",
+    ),
+    (
+        "tree --by krates --all-features --locked",
+        "metadata --format-version 1 --all-features --locked",
+    ),
+    (
+        "list --by krates --no-default-features --offline --frozen",
+        "metadata --format-version 1 --no-default-features --frozen --offline",
+    ),
+    (
+        "why b --by krates --manifest-path /w/a/Cargo.toml",
+        "metadata --format-version 1 --manifest-path /w/a/Cargo.toml",
     ),
 ];
 

@@ -1,7 +1,7 @@
 //! What `cargo krates` prints of texts that someone else wrote: names, ids, paths, licences, features and targets with characters in them that
 //! end a line, move the cursor or turn the direction, in each answer and each error.
 
-use crate::asked::{choice_of, replaced, told_of};
+use crate::asked::{choice_of, replaced, told_of, words_by_krates};
 use crate::listing::words_of;
 use krates::Metadata;
 use krates::cm::MetadataCommand;
@@ -42,10 +42,19 @@ fn hostile_document(alloc: Global, line: &str) -> Result<Metadata, Fail> {
     Ok(MetadataCommand::parse(alloc, json.as_str())?)
 }
 
-/// The words of a line.
-fn hostile_words(alloc: Global, line: &str) -> Result<Vec<String>, Fail> {
+/// The words of a line that has no documents, or by krates of one that has some.
+fn words_for(alloc: Global, line: &str, has_documents: bool) -> Result<Vec<String>, Fail> {
+    if has_documents {
+        words_by_krates(alloc, line)
+    } else {
+        words_of(alloc, line)
+    }
+}
+
+/// These words, with the text for its mark.
+fn hostile_words(alloc: Global, line: &[String]) -> Result<Vec<String>, Fail> {
     let mut words = Vec::new(alloc);
-    for word in &words_of(alloc, line)? {
+    for word in line {
         words.push(word.replace(alloc, "¤", HOSTILE)?)?;
     }
     Ok(words)
@@ -66,7 +75,8 @@ fn printed_of(alloc: Global, asked: &Asked, documents: &str) -> Result<String, F
 /// What is printed for the words of a line, about the documents after `<`.
 fn printed(alloc: Global, line: &str) -> Result<String, Fail> {
     let (words, documents) = line.split_once(" < ").unwrap_or((line, "a"));
-    match asked_of(alloc, &hostile_words(alloc, words)?) {
+    let words = words_for(alloc, words, line.contains(" < "))?;
+    match asked_of(alloc, &hostile_words(alloc, &words)?) {
         Ok(asked) => printed_of(alloc, &asked, documents),
         Err(error) => Ok(format!(in alloc; "{error}")?),
     }
@@ -140,14 +150,6 @@ static LINES: &[Row] = &[
         "unreachable path+file:///w/b¤#0.1.0 < a b¤|b¤",
         "no: b¤ v0.1.0 (/w/b¤) is kept; `why` says why\n",
     ),
-    (
-        "graph < a b¤&on=¤;f¤=b¤/y¤|b¤;y¤=",
-        "node 0 crate path+file:///w/a#0.1.0\nnode 1 crate path+file:///w/b¤#0.1.0\nnode 2 feature path+file:///w/a#0.1.0/f¤\nnode 3 feature path+file:///w/b¤#0.1.0/y¤\nmap 0 0 1\nedge 0 0 1 dep normal ¤\nedge 1 0 3 feature\nedge 2 2 0 feature\nedge 3 2 3 feature\nedge 4 3 1 feature\n",
-    ),
-    (
-        "queries < a¤ / members a¤",
-        "len 1\nroot /w/¤\nmember crate path+file:///w/a¤#0.1.0\nkrate path+file:///w/a¤#0.1.0\nkrate 0 path+file:///w/a¤#0.1.0 path+file:///w/a¤#0.1.0\nabove 0 0 path+file:///w/a¤#0.1.0\nreached 0\nfiltered normal path+file:///w/a¤#0.1.0\nfiltered build path+file:///w/a¤#0.1.0\nfiltered dev path+file:///w/a¤#0.1.0\nnumber path+file:///w/a¤#0.1.0 0\nnode_of path+file:///w/a¤#0.1.0 crate path+file:///w/a¤#0.1.0\nfeatures path+file:///w/a¤#0.1.0\nfound path+file:///w/a¤#0.1.0 0 crate path+file:///w/a¤#0.1.0\nnamed a¤ 0 path+file:///w/a¤#0.1.0\nmatching a¤ 0 path+file:///w/a¤#0.1.0\n",
-    ),
 ];
 
 /// JSON keeps the texts as they are.
@@ -198,11 +200,11 @@ static ERRORS: &[Row] = &[
         "error: invalid value '@¤' for '--target <TRIPLE>': it can't begin with '@' or '-'\n\nFor more information, try '--help'.\n",
     ),
     (
-        "list --package ¤",
+        "list --by krates --package ¤",
         "error: invalid value '¤' for '--package <PATH>': it has to be an absolute path\n\nFor more information, try '--help'.\n",
     ),
     (
-        "list --exclude ¤",
+        "list --by krates --exclude ¤",
         "error: invalid value '¤' for '--exclude <SPEC>': found an invalid character for the package name\n\nFor more information, try '--help'.\n",
     ),
     (

@@ -7,7 +7,7 @@ use Rattle.krates_build_verdict.proofs.BuiltCrates.{none_built}
 use Rattle.krates_build_verdict.proofs.built_crates.built_crates.Goals as goal
 
 pub loop-fact-init : goal.loop-fact-init
-loop-fact-init c = none_built c.new-krates.result
+loop-fact-init c = none_built c.new-krates.result c.new-krates.ensures.empty
 
 pub loop-fact-preserved : goal.loop-fact-preserved
 loop-fact-preserved c = subst (HasBuilt c.put_built.new.krates) (sym (map_more fact_view c.args.facts.now c.loop-fact.fact-index _ c.loop-fact-test.true)) (c.in_ok-put_built.ensures _ c.loop-fact.invariant)

@@ -1,0 +1,7 @@
+//! What `cargo krates` answers by what cargo builds, where the answer is known.
+
+mod answered;
+mod certified;
+mod kept;
+mod reasons;
+mod refused;
