@@ -51,7 +51,7 @@ fuser 0.4.1 (git+https://github.com/cberner/fuser?branch=master#b2e7622942e52a28
 ahash 0.7.6 (registry+https://github.com/rust-lang/crates.io-index) => opaque, as written: ahash | 0.7.6 | registry+https://github.com/rust-lang/crates.io-index
 cli-top 0.1.0 (path+file:///w/old/ws-cli) => opaque, as written: cli-top | 0.1.0 | path+file:///w/old/ws-cli
 a 0.1.0 (git+https://x.org/a?rev=%2f#b#c) => opaque, as written: a | 0.1.0 | git+https://x.org/a?rev=%2f#b
-a 0.1.0 () => opaque, as written: a | 0.1.0 |
+a 0.1.0 () => opaque, as written: a | 0.1.0 | $
 // texts that aren't ids, and why
 a 0.1.0 ( => bad opaque id: a 0.1.0 (
 a 0.1.0 => bad opaque id: a 0.1.0
@@ -61,7 +61,7 @@ a/b => bad stable id: a/b
 x#1/2 => bad stable id: x#1/2
 x/y#1?2 => bad stable id: x/y#1?2
 x#1 => bad stable id: x#1
- => bad stable id:
+ => bad stable id: $
 git+https://x.org/y?branch=c%41#n@1.0.0 => bad escape: git+https://x.org/y?branch=c%41#n@1.0.0
 git+https://x.org/y?branch=c%41d#n@1.0.0 => bad escape: git+https://x.org/y?branch=c%41d#n@1.0.0
 git+https://x.org/y?branch=c%2#n@1.0.0 => bad escape: git+https://x.org/y?branch=c%2#n@1.0.0

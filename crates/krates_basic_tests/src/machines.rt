@@ -50,28 +50,28 @@ t;k=" => line 1 is no cfg of rustc
 /// A target text, and the triples of the machines above at which it holds: those of the Cargo Book's section "Platform specific
 /// dependencies" first.
 static HELD: &str = r#"
-cfg(windows) => x86_64-pc-windows-msvc
-cfg(unix) => x86_64-unknown-linux-gnu x86_64-apple-darwin
+cfg(windows) => x86_64-pc-windows-msvc $
+cfg(unix) => x86_64-unknown-linux-gnu x86_64-apple-darwin $
 cfg(target_arch = "x86") =>
-cfg(target_arch = "x86_64") => x86_64-unknown-linux-gnu x86_64-pc-windows-msvc x86_64-apple-darwin
-x86_64-pc-windows-msvc => x86_64-pc-windows-msvc
-x86_64-unknown-linux-gnu => x86_64-unknown-linux-gnu
-cfg(not(unix)) => x86_64-pc-windows-msvc wasm32-unknown-unknown
-cfg(all(unix, target_os = "macos")) => x86_64-apple-darwin
-cfg(any(windows, target_family = "wasm")) => x86_64-pc-windows-msvc wasm32-unknown-unknown
+cfg(target_arch = "x86_64") => x86_64-unknown-linux-gnu x86_64-pc-windows-msvc x86_64-apple-darwin $
+x86_64-pc-windows-msvc => x86_64-pc-windows-msvc $
+x86_64-unknown-linux-gnu => x86_64-unknown-linux-gnu $
+cfg(not(unix)) => x86_64-pc-windows-msvc wasm32-unknown-unknown $
+cfg(all(unix, target_os = "macos")) => x86_64-apple-darwin $
+cfg(any(windows, target_family = "wasm")) => x86_64-pc-windows-msvc wasm32-unknown-unknown $
 // what rustc prints holds, whatever the profile of the build
-cfg(debug_assertions) => x86_64-unknown-linux-gnu x86_64-pc-windows-msvc x86_64-apple-darwin wasm32-unknown-unknown
-cfg(target_feature = "sse3") => x86_64-pc-windows-msvc x86_64-apple-darwin
-cfg(panic = "abort") => wasm32-unknown-unknown
-cfg(target_env = "") => x86_64-apple-darwin wasm32-unknown-unknown
-cfg(target_has_atomic = "128") => x86_64-pc-windows-msvc x86_64-apple-darwin
+cfg(debug_assertions) => x86_64-unknown-linux-gnu x86_64-pc-windows-msvc x86_64-apple-darwin wasm32-unknown-unknown $
+cfg(target_feature = "sse3") => x86_64-pc-windows-msvc x86_64-apple-darwin $
+cfg(panic = "abort") => wasm32-unknown-unknown $
+cfg(target_env = "") => x86_64-apple-darwin wasm32-unknown-unknown $
+cfg(target_has_atomic = "128") => x86_64-pc-windows-msvc x86_64-apple-darwin $
 // a key is no word, and a pair isn't compared by its key or by its string alone
 cfg(target_os) =>
 cfg(unix = "") =>
 cfg(target_os = "unix") =>
-cfg(true) => x86_64-unknown-linux-gnu x86_64-pc-windows-msvc x86_64-apple-darwin wasm32-unknown-unknown
+cfg(true) => x86_64-unknown-linux-gnu x86_64-pc-windows-msvc x86_64-apple-darwin wasm32-unknown-unknown $
 cfg(any()) =>
-cfg(all()) => x86_64-unknown-linux-gnu x86_64-pc-windows-msvc x86_64-apple-darwin wasm32-unknown-unknown
+cfg(all()) => x86_64-unknown-linux-gnu x86_64-pc-windows-msvc x86_64-apple-darwin wasm32-unknown-unknown $
 // what isn't an expression is a triple
 cfg(unix =>
 unix =>
@@ -97,56 +97,56 @@ linux => true
 /// for, has dev dependencies and runs programs.
 static ASKED: &str = r#"
 // where no kind is asked for, libraries and programs are
-"kind":["lib"]| => library linkable build; tests use dev
-"kind":["bin"]| => build; tests use dev
-"kind":["example"]| => ; builds use dev tests use dev
-"kind":["test"]| => ; builds use dev tests use dev tests run
-"kind":["bench"]| => ; tests use dev tests run
-"kind":["custom-build"]| => script ; tests use dev
+"kind":["lib"]| => library linkable build; tests use dev $
+"kind":["bin"]| => build; tests use dev $
+"kind":["example"]| => ; builds use dev tests use dev $
+"kind":["test"]| => ; builds use dev tests use dev tests run $
+"kind":["bench"]| => ; tests use dev tests run $
+"kind":["custom-build"]| => script ; tests use dev $
 // forms of a library
-"kind":["cdylib"]| => library build; tests use dev
-"kind":["staticlib"]| => library build; tests use dev
-"kind":["staticlib","rlib"]| => library linkable build; tests use dev
-"kind":["dylib"]| => library linkable build; tests use dev
-"kind":["proc-macro"]| => library linkable macro build; tests use dev
+"kind":["cdylib"]| => library build; tests use dev $
+"kind":["staticlib"]| => library build; tests use dev $
+"kind":["staticlib","rlib"]| => library linkable build; tests use dev $
+"kind":["dylib"]| => library linkable build; tests use dev $
+"kind":["proc-macro"]| => library linkable macro build; tests use dev $
 // an example may be a procedural macro, and a program isn't one whatever its forms
-"kind":["example"],"crate_types":["proc-macro"]|examples => macro build; builds use dev tests use dev
-"kind":["bin"],"crate_types":["proc-macro"]| => build; tests use dev
+"kind":["example"],"crate_types":["proc-macro"]|examples => macro build; builds use dev tests use dev $
+"kind":["bin"],"crate_types":["proc-macro"]| => build; tests use dev $
 // each flag asks for its kind alone
-"kind":["lib"]|lib => library linkable build; tests use dev
-"kind":["bin"]|lib => ; tests use dev
-"kind":["bin"]|bins => build; tests use dev
-"kind":["lib"]|bins => library linkable ; tests use dev
-"kind":["example"]|examples => build; builds use dev tests use dev
+"kind":["lib"]|lib => library linkable build; tests use dev $
+"kind":["bin"]|lib => ; tests use dev $
+"kind":["bin"]|bins => build; tests use dev $
+"kind":["lib"]|bins => library linkable ; tests use dev $
+"kind":["example"]|examples => build; builds use dev tests use dev $
 // `--tests` asks for what has `test = true`
-"kind":["lib"],"test":true|tests => library linkable test; tests use dev
-"kind":["lib"],"test":false|tests => library linkable ; tests use dev
-"kind":["test"],"test":true|tests => test; builds use dev tests use dev tests run
-"kind":["example"],"test":true|tests => test; builds use dev tests use dev
-"kind":["bench"],"test":false|tests => ; tests use dev tests run
+"kind":["lib"],"test":true|tests => library linkable test; tests use dev $
+"kind":["lib"],"test":false|tests => library linkable ; tests use dev $
+"kind":["test"],"test":true|tests => test; builds use dev tests use dev tests run $
+"kind":["example"],"test":true|tests => test; builds use dev tests use dev $
+"kind":["bench"],"test":false|tests => ; tests use dev tests run $
 // `--benches` asks for libraries, programs and benchmarks
-"kind":["bench"],"test":false|benches => test; tests use dev tests run
-"kind":["lib"],"test":false|benches => library linkable test; tests use dev
-"kind":["bin"],"test":false|benches => test; tests use dev
-"kind":["test"],"test":true|benches => ; builds use dev tests use dev tests run
+"kind":["bench"],"test":false|benches => test; tests use dev tests run $
+"kind":["lib"],"test":false|benches => library linkable test; tests use dev $
+"kind":["bin"],"test":false|benches => test; tests use dev $
+"kind":["test"],"test":true|benches => ; builds use dev tests use dev tests run $
 // `--all-targets` asks for all, in both modes
-"kind":["lib"],"test":true|all => library linkable build test; tests use dev
-"kind":["bin"],"test":false|all => build test; tests use dev
-"kind":["example"],"test":false|all => build; builds use dev tests use dev
-"kind":["test"],"test":true|all => test; builds use dev tests use dev tests run
-"kind":["bench"],"test":false|all => test; tests use dev tests run
+"kind":["lib"],"test":true|all => library linkable build test; tests use dev $
+"kind":["bin"],"test":false|all => build test; tests use dev $
+"kind":["example"],"test":false|all => build; builds use dev tests use dev $
+"kind":["test"],"test":true|all => test; builds use dev tests use dev tests run $
+"kind":["bench"],"test":false|all => test; tests use dev tests run $
 "#;
 
 /// Flags, and whether they ask for some kind of target, and for one that has dev dependencies.
 static FLAGS: &str = "
  =>
-lib => kinds
-bins => kinds
-lib bins => kinds
-examples => kinds dev
-tests => kinds dev
-benches => kinds dev
-all => kinds dev
+lib => kinds $
+bins => kinds $
+lib bins => kinds $
+examples => kinds dev $
+tests => kinds dev $
+benches => kinds dev $
+all => kinds dev $
 ";
 
 /// The machine of a line.

@@ -3,7 +3,7 @@
 use krates_cm::Package;
 use krates_cm_json::FromValue;
 use krates_samples::failures::Failures;
-use krates_samples::table::{Question, compare, row_of, trimmed};
+use krates_samples::table::{Question, compare, row_of};
 use serde_json::Value;
 use std::alloc::Global;
 use std::fmt::Debug;
@@ -36,11 +36,7 @@ pub(crate) fn hold_within<Q: Question>(
     let mut failures = Failures::new(alloc);
     for line in table.lines() {
         if let Some((line, answer)) = row_of(line) {
-            failures.compare(
-                line,
-                trimmed(alloc, told_within::<Q>(alloc, around, line)),
-                answer,
-            )?;
+            failures.compare(line, told_within::<Q>(alloc, around, line), answer)?;
         }
     }
     failures.reported()

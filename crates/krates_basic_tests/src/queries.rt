@@ -62,15 +62,15 @@ const TARGET: (&str, &str) = (r#"{"name":"t","src_path":"s","kind":["#, "]}");
 
 /// The kinds of a target, and which tests say yes.
 static KINDS: &str = r#"
-"lib" => lib
+"lib" => lib $
 "rlib","dylib","cdylib","staticlib" =>
-"bin" => bin
-"example" => example
-"test" => test
-"bench" => bench
-"custom-build" => custom-build
-"proc-macro" => proc-macro
-"test","lib","bin" => lib bin test
+"bin" => bin $
+"example" => example $
+"test" => test $
+"bench" => bench $
+"custom-build" => custom-build $
+"proc-macro" => proc-macro $
+"test","lib","bin" => lib bin test $
 "#;
 
 /// The source of a package as JSON, and of what kind it is, and whether the package is local.

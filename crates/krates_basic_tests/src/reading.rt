@@ -17,17 +17,17 @@ use std::test::Fail;
 /// JSON that is read as an id, or why it isn't.
 static IDS: &str = r#"
 "a 0.1.0" => PackageId { repr: "a 0.1.0" }
-null => wrong type at key:
-1 => wrong type at key:
-[] => wrong type at key:
+null => wrong type at key: $
+1 => wrong type at key: $
+[] => wrong type at key: $
 "#;
 
 /// The same of a source.
 static SOURCES: &str = r#"
 "a 0.1.0" => Source { repr: "a 0.1.0" }
-null => wrong type at key:
-1 => wrong type at key:
-[] => wrong type at key:
+null => wrong type at key: $
+1 => wrong type at key: $
+[] => wrong type at key: $
 "#;
 
 /// The same of what a resolved dependency is needed for.
@@ -37,7 +37,7 @@ static KINDS: &str = r#"
 {"kind":"normal","other":[1]} => DepKindInfo { kind: Normal, target: None }
 {"kind":"dev","target":"cfg(unix)"} => DepKindInfo { kind: Development, target: Some("cfg(unix)") }
 {"kind":"dev","kind":"build"} => DepKindInfo { kind: Build, target: None }
-[] => wrong type at key:
+[] => wrong type at key: $
 {"kind":1} => wrong type at key: kind
 {"kind":"Dev"} => bad dependency kind
 {"target":[]} => wrong type at key: target

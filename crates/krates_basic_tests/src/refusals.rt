@@ -36,9 +36,9 @@ Memory => out of memory
 
 /// Those whose cause comes from the library, and how what each prints begins.
 static OF_CAUSES: &str = "
-Io => failed to start `cargo metadata`:
-Utf8 => cannot convert the stdout of `cargo metadata`:
-ErrUtf8 => cannot convert the stderr of `cargo metadata`:
+Io => failed to start `cargo metadata`: $
+Utf8 => cannot convert the stdout of `cargo metadata`: $
+ErrUtf8 => cannot convert the stderr of `cargo metadata`: $
 ";
 
 /// The failure where there is no refusal of this name.

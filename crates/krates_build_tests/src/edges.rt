@@ -179,18 +179,18 @@ impl Told<Package> for Filtered {
 }
 
 static FILTERED: &str = "
-a b c&dev|b|c d|d / ask dev => a b
+a b c&dev|b|c d|d / ask dev => a b $
 // a feature leads on where its crate's dependency doesn't
-a b&dev;x=b/y|b;y= / ask dev => a b
-a a&dev / ask dev => a
+a b&dev;x=b/y|b;y= / ask dev => a b $
+a a&dev / ask dev => a $
 // each kind, and what is needed beyond it
-a b c&dev d&build|b|c e|d e|e / ask normal => a c d
-a b c&dev d&build|b|c e|d e|e / ask build => a b c e
-a b c&dev d&build|b|c e|d e|e / ask dev => a b d e
+a b c&dev d&build|b|c e|d e|e / ask normal => a c d $
+a b c&dev d&build|b|c e|d e|e / ask build => a b c e $
+a b c&dev d&build|b|c e|d e|e / ask dev => a b d e $
 // the way to a feature is of the kind too
-a b&build&with=y|b;y= / ask build => a
-a b&build&with=y|b;y= / ask normal => a b
-a b&with=y|b;y= / ask normal => a
+a b&build&with=y|b;y= / ask build => a $
+a b&build&with=y|b;y= / ask normal => a b $
+a b&with=y|b;y= / ask normal => a $
 ";
 
 #[test]

@@ -135,28 +135,28 @@ a b|b|c|d / nodes a b|b|c|d => ab>, closure cd
 a b;x=|b|c / nodes a b;x|b => ab>:, closure c
 a b&dev|b|c => ab>, closure c
 // no room for a kept package: nothing was reported
-a z|c|z => out of memory, closure
+a z|c|z => out of memory, closure $
 // no room is needed for a package that isn't kept
 a|z => a, closure z
 // whatever the refusal, the closure wasn't called
-a|c / no graph => no resolution graph was provided, closure
-a|c / members a &id=x / no graph => no resolution graph was provided, closure
-a|c / members a &id=x => invalid package id: x, closure
-a|a|c / nodes => doubled id: path+file:///w/a#0.1.0, closure
-a b|c / nodes a b => lost package: path+file:///w/b#0.1.0, closure
-a|c / members => no root crates available, closure
-a|c / nodes a|a => doubled id: path+file:///w/a#0.1.0, closure
-a b|b|c / nodes a b b|b => doubled id: path+file:///w/b#0.1.0, closure
+a|c / no graph => no resolution graph was provided, closure $
+a|c / members a &id=x / no graph => no resolution graph was provided, closure $
+a|c / members a &id=x => invalid package id: x, closure $
+a|a|c / nodes => doubled id: path+file:///w/a#0.1.0, closure $
+a b|c / nodes a b => lost package: path+file:///w/b#0.1.0, closure $
+a|c / members => no root crates available, closure $
+a|c / nodes a|a => doubled id: path+file:///w/a#0.1.0, closure $
+a b|b|c / nodes a b b|b => doubled id: path+file:///w/b#0.1.0, closure $
 // two commits of one source
-fuser&id=fuser~0.4.1~(git+https://github.com/cberner/fuser?branch=master#b2e7622942e52a28ffa85cdaf48e28e982bb6923)|fuser&id=fuser~0.4.1~(git+https://github.com/cberner/fuser?branch=master#3900e8ae5bd5e8e9bb0b0bd2a4b4ee3d7f0c2d11)|c / nodes => doubled id: fuser 0.4.1 (git+https://github.com/cberner/fuser?branch=master#3900e8ae5bd5e8e9bb0b0bd2a4b4ee3d7f0c2d11), closure
-a|c / nodes a b@1 => invalid package id: path+file:///w/b#b@1, closure
+fuser&id=fuser~0.4.1~(git+https://github.com/cberner/fuser?branch=master#b2e7622942e52a28ffa85cdaf48e28e982bb6923)|fuser&id=fuser~0.4.1~(git+https://github.com/cberner/fuser?branch=master#3900e8ae5bd5e8e9bb0b0bd2a4b4ee3d7f0c2d11)|c / nodes => doubled id: fuser 0.4.1 (git+https://github.com/cberner/fuser?branch=master#3900e8ae5bd5e8e9bb0b0bd2a4b4ee3d7f0c2d11), closure $
+a|c / nodes a b@1 => invalid package id: path+file:///w/b#b@1, closure $
 // a feature that is required and isn't listed, with a package that nobody needs and without
-a b;x=b/nope|b => lost feature: nope of path+file:///w/b#0.1.0, closure
-a b;x=b/nope|b|c => lost feature: nope of path+file:///w/b#0.1.0, closure
+a b;x=b/nope|b => lost feature: nope of path+file:///w/b#0.1.0, closure $
+a b;x=b/nope|b|c => lost feature: nope of path+file:///w/b#0.1.0, closure $
 // two versions, of which the least lists it: the other is reported, and where the name means both, nothing is
 a d?;x=d/j|d@0.10.0;j=|d@0.9.0 / nodes a d@0.10.0 d@0.9.0;x|d@0.10.0;j|d@0.9.0 => ad>::::, closure d
-a d?;x=d/j|d@0.10.0;j=|d@0.9.0 / nodes a d@0.10.0 d@0.9.0;x|d@0.10.0;j|d@0.9.0 / names all => lost feature: j of path+file:///w/d#d@0.9.0, closure
-a d?;x=d/j|c|d@0.10.0;j=|d@0.9.0 / nodes a d@0.10.0 d@0.9.0;x|d@0.10.0;j|d@0.9.0 / names all => lost feature: j of path+file:///w/d#d@0.9.0, closure
+a d?;x=d/j|d@0.10.0;j=|d@0.9.0 / nodes a d@0.10.0 d@0.9.0;x|d@0.10.0;j|d@0.9.0 / names all => lost feature: j of path+file:///w/d#d@0.9.0, closure $
+a d?;x=d/j|c|d@0.10.0;j=|d@0.9.0 / nodes a d@0.10.0 d@0.9.0;x|d@0.10.0;j|d@0.9.0 / names all => lost feature: j of path+file:///w/d#d@0.9.0, closure $
 ";
 
 /// The crates that are found by the name in the section `ask`.

@@ -33,13 +33,13 @@ impl Told<Package> for Dependents {
 
 static DEPENDENTS: &str = "
 // by a normal edge, and by edges that say their kind and target
-a b|b / of b => a,
-a c|b c&dev|c|d c&build&on=cfg(unix) / members a b d / of c => a, b(dev), d(build) 'cfg(unix)',
+a b|b / of b => a, $
+a c|b c&dev|c|d c&build&on=cfg(unix) / members a b d / of c => a, b(dev), d(build) 'cfg(unix)', $
 // by an edge that requires a feature, and, of two edges, by the least
-a b&with=f|b;f= / of b => a,
-a b b&dev|b / nodes a b&normal&dev|b / of b => a,
+a b&with=f|b;f= / of b => a, $
+a b b&dev|b / nodes a b&normal&dev|b / of b => a, $
 // of both crates of a name, the lower version as a text first
-a d|d@0.10.0|d@0.9.0 / nodes a d@0.10.0 d@0.9.0|d@0.10.0|d@0.9.0 / of d => a, a,
+a d|d@0.10.0|d@0.9.0 / nodes a d@0.10.0 d@0.9.0|d@0.10.0|d@0.9.0 / of d => a, a, $
 // nobody, and no crate of the name
 a b|b / of a =>
 a b|b / of c =>
@@ -65,14 +65,14 @@ impl Told<Package> for ForTests {
 static FOR_TESTS: &str = "
 a b|b =>
 // what a test needs, and what that needs
-a b&dev|b c|c => b, c,
+a b&dev|b c|c => b, c, $
 // but not what is needed otherwise too
-a b&dev d|b c d|c|d => b, c,
-a b&dev c|b c|c => b,
+a b&dev d|b c d|c|d => b, c, $
+a b&dev c|b c|c => b, $
 // a member counts as needed, though another needs it only for its tests
 a b&dev|b c|c / members a b =>
 // what a build script needs isn't a test's
-a b&build c&dev|b|c => c,
+a b&build c&dev|b|c => c, $
 ";
 
 /// Where a package is from.
@@ -106,8 +106,8 @@ impl Told<Package> for Shipped {
 
 static SHIPPED: &str = r#"
 // at a target that rustc describes
-a b&on=cfg(windows) c&dev|b d&crates.io|c|d&crates.io / ignore dev all / for x86_64-pc-windows-gnu;target_family="windows" => 0 a here 1, 1 b here 2, 2 d registry 3,
-a b&on=cfg(windows) c&dev|b d&crates.io|c|d&crates.io / ignore dev all / for x86_64-unknown-freebsd;target_family="unix" => 0 a here 1,
+a b&on=cfg(windows) c&dev|b d&crates.io|c|d&crates.io / ignore dev all / for x86_64-pc-windows-gnu;target_family="windows" => 0 a here 1, 1 b here 2, 2 d registry 3, $
+a b&on=cfg(windows) c&dev|b d&crates.io|c|d&crates.io / ignore dev all / for x86_64-unknown-freebsd;target_family="unix" => 0 a here 1, $
 "#;
 
 #[test]

@@ -44,19 +44,19 @@ impl ToldOfSelection for Stepped {
 
 static STEPS: &str = "
 // the root, the edge that it needs, and the crate that this leads to
-a b|b => 1 crate 0; 5 edge 0.0.0 <0; 5 crate 1 <1;
+a b|b => 1 crate 0; 5 edge 0.0.0 <0; 5 crate 1 <1; $
 // the same, where the dependency is listed twice for the same
-a b|b / nodes a b&normal&normal|b => 1 crate 0; 5 edge 0.0.0 <0; 5 crate 1 <1;
+a b|b / nodes a b&normal&normal|b => 1 crate 0; 5 edge 0.0.0 <0; 5 crate 1 <1; $
 // a feature that the declared dependency lists, and one that this names
-a b&with=x|b;x=y y= => 1 crate 0; 5 edge 0.0.0 <0; 5 crate 1 <1; 6 feature 0 <1; 3 feature 1 <3;
+a b&with=x|b;x=y y= => 1 crate 0; 5 edge 0.0.0 <0; 5 crate 1 <1; 6 feature 0 <1; 3 feature 1 <3; $
 // a feature requires an optional edge, and over that another enables `j` weakly
-a b?;b=dep:b w=b?/j|b;j= => 1 crate 0; 1 feature 0; 1 feature 1; 4 edge 0.0.0 <1; 5 crate 1 <3; 7 toggled 2 by 0 <2 <3; 7 feature 2 <5;
+a b?;b=dep:b w=b?/j|b;j= => 1 crate 0; 1 feature 0; 1 feature 1; 4 edge 0.0.0 <1; 5 crate 1 <3; 7 toggled 2 by 0 <2 <3; 7 feature 2 <5; $
 // the same, where the weak reference comes first and waits
-a b?;a=b?/j b=dep:b|b;j= => 1 crate 0; 1 feature 0; 1 feature 1; 4 edge 0.0.0 <2; 5 crate 1 <3; 7 toggled 2 by 0 <1 <3; 7 feature 2 <5;
+a b?;a=b?/j b=dep:b|b;j= => 1 crate 0; 1 feature 0; 1 feature 1; 4 edge 0.0.0 <2; 5 crate 1 <3; 7 toggled 2 by 0 <1 <3; 7 feature 2 <5; $
 // a strong reference requires the edge itself
-a b?;s=b/j|b;j= => 1 crate 0; 1 feature 0; 4 edge 0.0.0 <1; 5 crate 1 <2; 4 toggled 1 by 0 <1 <2; 7 feature 1 <4;
+a b?;s=b/j|b;j= => 1 crate 0; 1 feature 0; 4 edge 0.0.0 <1; 5 crate 1 <2; 4 toggled 1 by 0 <1 <2; 7 feature 1 <4; $
 // a strong reference to a dependency whose edge is kept already
-a b;s=b/j|b;j= => 1 crate 0; 1 feature 0; 5 edge 0.0.0 <0; 5 crate 1 <2; 4 toggled 1 by 0 <1 <2; 7 feature 1 <4;
+a b;s=b/j|b;j= => 1 crate 0; 1 feature 0; 5 edge 0.0.0 <0; 5 crate 1 <2; 4 toggled 1 by 0 <1 <2; 7 feature 1 <4; $
 ";
 
 #[test]

@@ -25,30 +25,30 @@ use std::test::Fail;
 /// positions, and those that are built twice with different features.
 static BUILT: &str = "
 // what a build script needs is needed by what its crate is built for
-a b&build c|b|c;f= / targets a:bin,custom-build b:lib c:lib / build 2 target=windows features=c/f => a@host, a@windows, b@host, c@windows, | a@windows>b@host build, a@windows>c@windows, | 1>2, 1>3, |
+a b&build c|b|c;f= / targets a:bin,custom-build b:lib c:lib / build 2 target=windows features=c/f => a@host, a@windows, b@host, c@windows, | a@windows>b@host build, a@windows>c@windows, | 1>2, 1>3, | $
 // for each machine
-a b|b / targets a:bin b:lib / build 2 target=linux target=windows => a@linux, a@windows, b@linux, b@windows, | a@linux>b@linux, a@windows>b@windows, | 0>2, 1>3, |
+a b|b / targets a:bin b:lib / build 2 target=linux target=windows => a@linux, a@windows, b@linux, b@windows, | a@linux>b@linux, a@windows>b@windows, | 0>2, 1>3, | $
 // a build script that is run for what is on the host, with the features of that side alone
-a b m|m b&with=f|b c?&build;f=dep:c|c / targets a:bin m:proc-macro b:lib,custom-build c:lib / build 2 => a@linux, b@host, b@linux, c@host, m@host, | a@linux>b@linux, a@linux>m@host, b@host>c@host build, m@host>b@host, | 0>2, 0>4, 1>3, 4>1, | b,
+a b m|m b&with=f|b c?&build;f=dep:c|c / targets a:bin m:proc-macro b:lib,custom-build c:lib / build 2 => a@linux, b@host, b@linux, c@host, m@host, | a@linux>b@linux, a@linux>m@host, b@host>c@host build, m@host>b@host, | 0>2, 0>4, 1>3, 4>1, | b, $
 // by the first resolver features are one set
-a b m|m b&with=f|b c?&build;f=dep:c|c / targets a:bin m:proc-macro b:lib,custom-build c:lib / build 1 => a@linux, b@host, b@linux, c@host, m@host, | a@linux>b@linux, a@linux>m@host, b@host>c@host build, b@linux>c@host build, m@host>b@host, | 0>2, 0>4, 1>3, 2>3, 4>1, |
+a b m|m b&with=f|b c?&build;f=dep:c|c / targets a:bin m:proc-macro b:lib,custom-build c:lib / build 1 => a@linux, b@host, b@linux, c@host, m@host, | a@linux>b@linux, a@linux>m@host, b@host>c@host build, b@linux>c@host build, m@host>b@host, | 0>2, 0>4, 1>3, 2>3, 4>1, | $
 // a library and the build script of its own crate are no links
-a / targets a:lib,bin,custom-build / build 2 => a@host, a@linux, | | |
+a / targets a:lib,bin,custom-build / build 2 => a@host, a@linux, | | | $
 ";
 
 /// The same build as it is asked for, and what each crate is used for that it builds with all targets; and the crates that it doesn't build as it
 /// is asked for.
 static USES: &str = "
-a b&build c d&dev|b|c|d|e / targets a:bin,custom-build,test b:lib c:lib d:lib e:lib / build 2 => a shipped, b build, c shipped, d tests, | d, e,
-a b&on=cfg(windows)|b / targets a:bin b:lib / build 2 => a shipped, | b,
+a b&build c d&dev|b|c|d|e / targets a:bin,custom-build,test b:lib c:lib d:lib e:lib / build 2 => a shipped, b build, c shipped, d tests, | d, e, $
+a b&on=cfg(windows)|b / targets a:bin b:lib / build 2 => a shipped, | b, $
 // what is built for both is shipped
-a b b&build|b / nodes a b&normal&build|b / targets a:bin,custom-build b:lib / build 2 => a shipped, b shipped, |
+a b b&build|b / nodes a b&normal&build|b / targets a:bin,custom-build b:lib / build 2 => a shipped, b shipped, | $
 ";
 
 /// A document and what is asked for, as in `builds`; and of each crate that is built, for which sides it is built, what this build alone says it
 /// is used for, and where its feature `f` is enabled and its dependencies `c` are turned on: `^` says that this is on the host's side.
 static SIDES: &str = "
-a b m|m b&with=f|b c?&build;f=dep:c|c / targets a:bin m:proc-macro b:lib,custom-build c:lib / build 2 => a targets shipped, b targets host shipped f^ c^, c host build, m host build,
+a b m|m b&with=f|b c?&build;f=dep:c|c / targets a:bin m:proc-macro b:lib,custom-build c:lib / build 2 => a targets shipped, b targets host shipped f^ c^, c host build, m host build, $
 ";
 
 /// Writes a crate and what it is built for.

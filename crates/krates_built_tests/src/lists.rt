@@ -10,19 +10,19 @@ use std::test::Fail;
 
 /// A document and what is asked for, as in `builds`; and each list in its order, or the refusal.
 static LISTS: &str = "
-a b&build c|b|c;f= / targets a:bin,custom-build b:lib c:lib / build 2 target=windows features=c/f => c/f, | a Bin@windows, b Lib@host, c Lib@windows, | a script, | a@windows, | a@host>b@host, a@windows>c@windows, |
-a b|b / targets a:bin,custom-build b:lib,custom-build,links / build 2 => | a Bin@linux, b Lib@linux, | a script, b script, | a@linux, b@linux, | a@linux>b@linux, | a@linux>b@linux,
+a b&build c|b|c;f= / targets a:bin,custom-build b:lib c:lib / build 2 target=windows features=c/f => c/f, | a Bin@windows, b Lib@host, c Lib@windows, | a script, | a@windows, | a@host>b@host, a@windows>c@windows, | $
+a b|b / targets a:bin,custom-build b:lib,custom-build,links / build 2 => | a Bin@linux, b Lib@linux, | a script, b script, | a@linux, b@linux, | a@linux>b@linux, | a@linux>b@linux, $
 // a request that names nothing is refused, as cargo does
 a;x= / targets a:bin / build 2 features=x,y => no package that is asked for has the feature `y`
 a / targets a:bin / build 2 package=b => no package fits `b`
 // what the document lacks is named: the first by crate and place
 a b c|b|c / nodes a|b|c / targets a:bin b:lib c:lib / build 2 => the document has no edge for `b`, on which path+file:///w/a#0.1.0 depends
 // a lost dependency that the build doesn't need is none
-a b?|b / nodes a|b / targets a:bin b:lib / build 2 => | a Bin@linux, | | | |
+a b?|b / nodes a|b / targets a:bin b:lib / build 2 => | a Bin@linux, | | | | $
 // one build script, with the dependencies of the side that cargo meets first (tried: it depends on the name of the member `o`)
 o p&build|p a?&build;on=dep:a|a;x= / members o p / targets o:lib,custom-build p:lib,custom-build a:lib / build 2 features=a/x => what the build script of path+file:///w/p#0.1.0 depends on is a matter of cargo's order
 // with one set of features there is one answer
-o p&build|p a?&build;on=dep:a|a;x= / members o p / targets o:lib,custom-build p:lib,custom-build a:lib / build 1 features=a/x => a/x, | a Lib@host, o Lib@linux, p Lib@host, p Lib@linux, | o script, p script, p script^, | o@linux, p@host, p@linux, | o@host>p@host, p@host>a@host, |
+o p&build|p a?&build;on=dep:a|a;x= / members o p / targets o:lib,custom-build p:lib,custom-build a:lib / build 1 features=a/x => a/x, | a Lib@host, o Lib@linux, p Lib@host, p Lib@linux, | o script, p script, p script^, | o@linux, p@host, p@linux, | o@host>p@host, p@host>a@host, | $
 ";
 
 /// Writes what is between lists.

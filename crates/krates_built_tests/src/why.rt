@@ -13,13 +13,13 @@ use std::test::Fail;
 /// A document, and what is asked for; and how many steps derive each unit.
 static WHY: &str = "
 // what is asked for needs no other
-a / targets a:bin / build 2 => 1,
+a / targets a:bin / build 2 => 1, $
 // a is met, its dependency exists, a is compiled, it needs b, b is compiled
-a b|b / targets a:bin b:lib / build 2 => 1, 5,
+a b|b / targets a:bin b:lib / build 2 => 1, 5, $
 // and on either layer: x is asked for, it is enabled, it lists b, b is turned on
-a b?;x=dep:b|b / targets a:bin b:lib / build 2 features=x => 1, 13,
+a b?;x=dep:b|b / targets a:bin b:lib / build 2 features=x => 1, 13, $
 // each has its own
-a b|b c|c / targets a:bin b:lib c:lib / build 2 => 1, 5, 9,
+a b|b c|c / targets a:bin b:lib c:lib / build 2 => 1, 5, 9, $
 ";
 
 /// Whether one of these steps gives the fact.

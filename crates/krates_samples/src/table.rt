@@ -29,31 +29,34 @@ impl<T: Tell> Question for T {
 }
 
 /// The question and the known answer of a line of a table that is one text: `question => answer`, or `question =>` where the answer is
-/// empty. None where the line is empty, or begins with `// ` and says something of those below it. A line without an answer has one that nothing
-/// gives.
+/// empty. A `$` behind a blank isn't of the answer: it shows where one ends that ends in a blank. None where the line is empty, or begins
+/// with `// ` and says something of those below it. A line without an answer has one that nothing gives.
 pub fn row_of(line: &str) -> Option<(&str, &str)> {
     if line.is_empty() || line.starts_with("// ") {
         return None;
     }
     match line.split_once(" =>") {
-        Some((question, answer)) => Some((question, answer.strip_prefix(' ').unwrap_or(answer))),
+        Some((question, written)) => Some((question, answer_of(written))),
         None => Some((line, "an answer, which this line lacks")),
     }
 }
 
-/// An answer without the blanks at its end, which a table that is one text can't show.
-pub fn trimmed(alloc: Global, told: Result<String, Fail>) -> Result<String, Fail> {
-    let told = told?;
-    Ok(String::from_str(alloc, told.trim_end())?)
+/// The answer that is written behind the arrow of a line.
+fn answer_of(written: &str) -> &str {
+    let written = written.strip_prefix(' ').unwrap_or(written);
+    match written.strip_suffix('$') {
+        Some(answer) if answer.ends_with(' ') => answer,
+        _ => written,
+    }
 }
 
 /// Compares the answer to each line of a table that is one text, as `row_of` reads them, with the one that is known; fails where some
-/// differ, and names each of their lines. Blanks at the end of an answer don't count.
+/// differ, and names each of their lines.
 pub fn hold_lines<Q: Question>(alloc: Global, table: &str) -> Result<(), Fail> {
     let mut failures = Failures::new(alloc);
     for line in table.lines() {
         if let Some((line, answer)) = row_of(line) {
-            failures.compare(line, trimmed(alloc, Q::told(alloc, line)), answer)?;
+            failures.compare(line, Q::told(alloc, line), answer)?;
         }
     }
     failures.reported()
