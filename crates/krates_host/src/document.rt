@@ -67,8 +67,7 @@ fn of_cargo(inputs: &Inputs<'_>, words: &CargoWords) -> Result<Metadata, Failure
 /// The document in what cargo printed.
 fn read(alloc: Global, output: &Output) -> Result<Metadata, Failure> {
     if !output.status.success() {
-        let program = String::from_str(alloc, "cargo metadata")?;
-        return Err(Failure::of_program(alloc, program, output)?);
+        return Err(Failure::of_program(alloc, "cargo metadata", output)?);
     }
     let found = MetadataCommand::interpret(alloc, true, &output.stdout, &output.stderr);
     Ok(found?)

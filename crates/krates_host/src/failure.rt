@@ -131,18 +131,24 @@ impl Failure {
     /// The failure of a program that ended with one. Of what it wrote to standard error, U+FFFD stands for what isn't UTF-8.
     pub(crate) fn of_program(
         alloc: Global,
-        program: String,
+        program: &str,
         output: &Output,
     ) -> Result<Failure, AllocError> {
-        let errors = String::from_utf8_lossy(alloc, &output.stderr)?;
-        let text = errors.trim();
-        let text = text.strip_prefix("error: ").unwrap_or(text);
+        let reason = reason_in(alloc, &output.stderr)?;
         Ok(Failure::ProgramFailed {
-            program,
+            program: String::from_str(alloc, program)?,
             status: output.status,
-            reason: Reason(String::from_str(alloc, text)?),
+            reason,
         })
     }
+}
+
+/// What a program wrote to standard error, without the word for an error at its beginning.
+fn reason_in(alloc: Global, errors: &[u8]) -> Result<Reason, AllocError> {
+    let errors = String::from_utf8_lossy(alloc, errors)?;
+    let text = errors.trim();
+    let text = text.strip_prefix("error: ").unwrap_or(text);
+    Ok(Reason(String::from_str(alloc, text)?))
 }
 
 /// Why the manifest of a workspace doesn't say which resolver the workspace has.

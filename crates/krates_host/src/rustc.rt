@@ -18,10 +18,20 @@ pub(crate) fn description(
     flags: &[String],
 ) -> Result<String, Failure> {
     let rustc = program(inputs.rt)?;
-    let mut command = description_command(inputs.alloc(), rustc.as_str(), triple, flags)?;
+    description_by(inputs, rustc.as_str(), triple, flags)
+}
+
+/// What this rustc prints for a target, under these flags.
+fn description_by(
+    inputs: &Inputs<'_>,
+    rustc: &str,
+    triple: &str,
+    flags: &[String],
+) -> Result<String, Failure> {
+    let mut command = description_command(inputs.alloc(), rustc, triple, flags)?;
     let output = inputs.printed_by(&mut command, WITHOUT_RUSTC)?;
     if output.status.success() {
-        text_of(inputs.alloc(), rustc.as_str(), output.stdout)
+        text_of(inputs.alloc(), rustc, output.stdout)
     } else {
         Err(refusal(inputs.alloc(), rustc, triple, &output)?)
     }
@@ -30,15 +40,28 @@ pub(crate) fn description(
 /// The triple of the machine for which rustc itself is built.
 pub(crate) fn host(inputs: &Inputs<'_>) -> Result<String, Failure> {
     let rustc = program(inputs.rt)?;
-    let mut command = version_command(inputs.alloc(), rustc.as_str())?;
+    let text = version(inputs, rustc.as_str())?;
+    host_in(inputs.alloc(), rustc.as_str(), text.as_str())
+}
+
+/// What this rustc prints about itself.
+fn version(inputs: &Inputs<'_>, rustc: &str) -> Result<String, Failure> {
+    let mut command = version_command(inputs.alloc(), rustc)?;
     let output = inputs.printed_by(&mut command, WITHOUT_RUSTC)?;
-    if !output.status.success() {
-        return Err(Failure::of_program(inputs.alloc(), rustc, &output)?);
+    if output.status.success() {
+        text_of(inputs.alloc(), rustc, output.stdout)
+    } else {
+        Err(Failure::of_program(inputs.alloc(), rustc, &output)?)
     }
-    let text = text_of(inputs.alloc(), rustc.as_str(), output.stdout)?;
+}
+
+/// The triple in what this rustc prints about itself.
+fn host_in(alloc: Global, rustc: &str, text: &str) -> Result<String, Failure> {
     match text.lines().find_map(|line| line.strip_prefix("host: ")) {
-        Some(triple) => Ok(String::from_str(inputs.alloc(), triple)?),
-        None => Err(Failure::NoHost { program: rustc }),
+        Some(triple) => Ok(String::from_str(alloc, triple)?),
+        None => Err(Failure::NoHost {
+            program: String::from_str(alloc, rustc)?,
+        }),
     }
 }
 
@@ -100,7 +123,7 @@ fn version_command(alloc: Global, program: &str) -> Result<Command, AllocError>
 /// Why rustc didn't describe a target: it doesn't know it, as its first error says; or it failed in another way.
 fn refusal(
     alloc: Global,
-    program: String,
+    program: &str,
     triple: &str,
     output: &Output,
 ) -> Result<Failure, AllocError> {
