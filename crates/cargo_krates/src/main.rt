@@ -16,24 +16,43 @@ use krates_shown::ShownValue;
 use krates_words::{Asked, BuildWords, Choice, Rules, Word, asked_of};
 use std::process::ExitCode;
 
-/// The answer to the question.
-fn answer_of(rt: &HostRuntime, mut asked: Asked) -> Result<Report, AnswerFailure> {
+/// The answer to the question. What is looked up for it is put into the question.
+fn answer_of(rt: &HostRuntime, asked: &mut Asked) -> Result<Report, AnswerFailure> {
     let inputs = Inputs {
         rt,
         max_bytes: asked.max_bytes,
     };
     prepare(&inputs, &mut asked.rules)?;
-    let other = document::other(&inputs, &asked.word)?;
-    let document = document::document(&inputs, &asked)?;
+    of_documents(&inputs, asked)
+}
+
+/// The answer about the documents that the question names.
+fn of_documents(inputs: &Inputs<'_>, asked: &Asked) -> Result<Report, AnswerFailure> {
+    let other = document::other(inputs, &asked.word)?;
+    match document::document(inputs, asked) {
+        Ok(document) => answer_about(inputs, asked, document, other),
+        Err(failure) => {
+            drop(other);
+            Err(AnswerFailure::Host(failure))
+        }
+    }
+}
+
+/// The answer about a document, and about another one where two are compared.
+fn answer_about(
+    inputs: &Inputs<'_>,
+    asked: &Asked,
+    document: Metadata,
+    other: Option<Metadata>,
+) -> Result<Report, AnswerFailure> {
     match &asked.rules {
         Rules::Krates(choice) => {
-            said::note_krates(rt);
-            note_host(rt, choice);
-            note_exclusions(rt, choice, &document.packages);
-            Ok(Reporter::new(rt.alloc(), &asked, choice).answer(document, other)?)
+            note_krates(inputs.rt, choice, &document.packages);
+            let reporter = Reporter::new(inputs.rt.alloc(), asked, choice);
+            Ok(reporter.answer(document, other)?)
         }
         Rules::Build(words) => {
-            let answer = by_build(&inputs, &asked, words, (&document, other.as_ref()));
+            let answer = by_build(inputs, asked, words, (&document, other.as_ref()));
             document.let_go();
             drop(other);
             answer
@@ -103,6 +122,13 @@ fn by_two(
     }
 }
 
+/// Says by which rules the answer is, and what these leave out or don't.
+fn note_krates(rt: &HostRuntime, choice: &Choice, packages: &[Package]) {
+    said::note_krates(rt);
+    note_host(rt, choice);
+    note_exclusions(rt, choice, packages);
+}
+
 /// Says what targets alone leave out.
 fn note_host(rt: &HostRuntime, choice: &Choice) {
     if !choice.triples.is_empty() {
@@ -124,7 +150,7 @@ fn note_exclusions(rt: &HostRuntime, choice: &Choice, packages: &[Package]) {
 }
 
 /// Prints the answer to the question, or says why there is none.
-fn print_answer(rt: &HostRuntime, asked: Asked) -> ExitCode {
+fn print_answer(rt: &HostRuntime, asked: &mut Asked) -> ExitCode {
     match answer_of(rt, asked) {
         Ok(answer) => print(rt, answer.text.as_str(), answer.is_yes),
         Err(failure) => {
@@ -137,7 +163,7 @@ fn print_answer(rt: &HostRuntime, asked: Asked) -> ExitCode {
 /// Does what the words say.
 fn run(rt: &HostRuntime, words: &[String]) -> ExitCode {
     match asked_of(rt.alloc(), words) {
-        Ok(asked) => print_answer(rt, asked),
+        Ok(mut asked) => print_answer(rt, &mut asked),
         Err(error) => refuse_asked(rt, &error),
     }
 }
