@@ -12,7 +12,7 @@ use std::alloc::{AllocError, Global};
 /// O(n e) for n crates and e links.
 pub(crate) fn bill_of<'d>(
     alloc: Global,
-    build: &Build<'d, '_>,
+    build: &'d Build<'_>,
     used: &[UsedCrate],
 ) -> Result<Bill<'d>, AllocError> {
     let crates = build.crates(alloc)?;
@@ -41,7 +41,7 @@ fn uses_of(alloc: Global, used: &[UsedCrate]) -> Result<Vec<Use>, AllocError> {
 }
 
 /// For which sides each crate is built.
-fn sides_of(alloc: Global, build: &Build<'_, '_>) -> Result<Vec<BuiltFor>, AllocError> {
+fn sides_of(alloc: Global, build: &Build<'_>) -> Result<Vec<BuiltFor>, AllocError> {
     let mut sides = Vec::new(alloc);
     for number in &build.numbers {
         sides.push(BuiltFor {
@@ -53,7 +53,7 @@ fn sides_of(alloc: Global, build: &Build<'_, '_>) -> Result<Vec<BuiltFor>, Alloc
 }
 
 /// Each crate with those that it needs.
-fn materials<'d>(alloc: Global, build: &Build<'d, '_>) -> Result<Vec<Material<'d>>, AllocError> {
+fn materials<'d>(alloc: Global, build: &'d Build<'_>) -> Result<Vec<Material<'d>>, AllocError> {
     let links = build.dependencies(alloc)?;
     let mut materials = Vec::new(alloc);
     for krate in build.crates(alloc)? {

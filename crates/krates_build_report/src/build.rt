@@ -17,46 +17,50 @@ use std::alloc::{AllocError, Global};
 /// What cargo builds of a document. The crates that it builds are at positions from 0 on, in the order of their ids; what is built
 /// both for the host and for another machine has one position.
 #[derive(Drop)]
-pub struct Build<'d, 'a> {
+pub struct Build<'a> {
     /// The document.
-    pub document: &'d Document<'a>,
+    pub document: Document<'a>,
     /// What is built.
-    pub units: &'d Units<'a>,
+    pub units: Units<'a>,
     /// The crates that are built, each with what for.
     pub built: BuiltCrates,
     /// The number of the crate at each position, ascending.
     pub numbers: Vec<usize>,
 }
 
-impl<'d, 'a> Build<'d, 'a> {
+impl<'a> Build<'a> {
     /// What these units are of. The only error is running out of memory. Time O(n log n) for n units.
     pub fn of(
         alloc: Global,
-        document: &'d Document<'a>,
-        units: &'d Units<'a>,
-    ) -> Result<Build<'d, 'a>, AllocError> {
-        let built = BuiltCrates::of(alloc, units)?;
-        let numbers = built.krates(alloc)?;
-        Ok(Build {
-            document,
-            units,
-            built,
-            numbers,
-        })
+        document: Document<'a>,
+        units: Units<'a>,
+    ) -> Result<Build<'a>, AllocError> {
+        match crates_of(alloc, &units) {
+            Ok((built, numbers)) => Ok(Build {
+                document,
+                units,
+                built,
+                numbers,
+            }),
+            Err(error) => {
+                drop((document, units));
+                Err(error)
+            }
+        }
     }
 
     /// The tables by which it is numbered.
-    pub(crate) fn tables(&self) -> &'d Tables<'a> {
+    pub(crate) fn tables(&self) -> &Tables<'a> {
         self.units.tables()
     }
 
     /// The id of the crate with that number.
-    pub(crate) fn id(&self, number: usize) -> Option<&'d Kid> {
+    pub(crate) fn id(&self, number: usize) -> Option<&Kid> {
         self.document.crate_ids().get(number)
     }
 
     /// The package of the crate with that number.
-    pub(crate) fn package(&self, number: usize) -> Option<&'d Package> {
+    pub(crate) fn package(&self, number: usize) -> Option<&Package> {
         self.document.package_of(self.id(number)?)
     }
 
@@ -83,7 +87,7 @@ impl<'d, 'a> Build<'d, 'a> {
     }
 
     /// The crates that are built, each at its position. The only error is running out of memory. Time O(n log n) for n crates.
-    pub fn crates(&self, alloc: Global) -> Result<Vec<KrateMatch<'d, Package>>, AllocError> {
+    pub fn crates(&self, alloc: Global) -> Result<Vec<KrateMatch<'_, Package>>, AllocError> {
         let mut crates = Vec::new(alloc);
         for number in &self.numbers {
             if let Some(found) = self.found(*number) {
@@ -94,7 +98,7 @@ impl<'d, 'a> Build<'d, 'a> {
     }
 
     /// The crate with that number, at its position.
-    pub(crate) fn found(&self, number: usize) -> Option<KrateMatch<'d, Package>> {
+    pub(crate) fn found(&self, number: usize) -> Option<KrateMatch<'_, Package>> {
         let node_id = self.position(number)?;
         let kid = self.id(number)?;
         let krate = self.package(number)?;
@@ -106,7 +110,7 @@ impl<'d, 'a> Build<'d, 'a> {
     }
 
     /// The crate at this position.
-    fn at(&self, position: NodeId) -> Option<KrateMatch<'d, Package>> {
+    fn at(&self, position: NodeId) -> Option<KrateMatch<'_, Package>> {
         match self.numbers.get(position.index()) {
             Some(number) => self.found(*number),
             None => None,
@@ -114,7 +118,7 @@ impl<'d, 'a> Build<'d, 'a> {
     }
 
     /// What the crate at one position needs of the one at another.
-    pub(crate) fn edge(&self, parent: NodeId, child: NodeId) -> Option<DependencyEdge<'d>> {
+    pub(crate) fn edge(&self, parent: NodeId, child: NodeId) -> Option<DependencyEdge<'_>> {
         match (self.at(parent), self.at(child)) {
             (Some(parent), Some(child)) => Some(DependencyEdge { parent, child }),
             _ => None,
@@ -141,7 +145,7 @@ impl<'d, 'a> Build<'d, 'a> {
     }
 
     /// The packages that aren't built, in the order of their ids.
-    fn others(&self, alloc: Global) -> Result<Vec<&'d Package>, AllocError> {
+    fn others(&self, alloc: Global) -> Result<Vec<&Package>, AllocError> {
         let mut others = Vec::new(alloc);
         for number in 0..self.document.crate_ids().len() {
             if self.position(number).is_none() {
@@ -166,7 +170,7 @@ impl<'d, 'a> Build<'d, 'a> {
     }
 
     /// The one package that a word means, built or not, as `Packages::any` reads it.
-    pub(crate) fn any(&self, alloc: Global, word: &str) -> Result<&'d Package, NamingError> {
+    pub(crate) fn any<'s>(&'s self, alloc: Global, word: &str) -> Result<&'s Package, NamingError> {
         let kept = self.crates(alloc)?;
         let others = self.others(alloc)?;
         let packages = Packages {
@@ -187,7 +191,7 @@ impl<'d, 'a> Build<'d, 'a> {
     /// Which position leads to which, by what the crates that are built need.
     pub(crate) fn dependencies(&self, alloc: Global) -> Result<DirectLinks, AllocError> {
         let mut pairs = Vec::new(alloc);
-        for link in build_links(alloc, self.units)? {
+        for link in build_links(alloc, &self.units)? {
             if let Some(pair) = self.pair(link.from.krate, link.to.krate) {
                 pairs.push(pair)?;
             }
@@ -198,7 +202,7 @@ impl<'d, 'a> Build<'d, 'a> {
     /// Which position is needed by which.
     pub(crate) fn dependents(&self, alloc: Global) -> Result<DirectLinks, AllocError> {
         let mut pairs = Vec::new(alloc);
-        for link in build_links(alloc, self.units)? {
+        for link in build_links(alloc, &self.units)? {
             if let Some(pair) = self.pair(link.to.krate, link.from.krate) {
                 pairs.push(pair)?;
             }
@@ -213,7 +217,7 @@ impl<'d, 'a> Build<'d, 'a> {
         is_above: bool,
     ) -> Result<DirectLinks, AllocError> {
         let mut pairs = Vec::new(alloc);
-        for link in build_links(alloc, self.units)? {
+        for link in build_links(alloc, &self.units)? {
             let (from, to) = (link.from.krate, link.to.krate);
             let pair = if is_above {
                 self.pair(to, from)
@@ -276,6 +280,13 @@ impl<'d, 'a> Build<'d, 'a> {
         }
         None
     }
+}
+
+/// The crates of which these are the units, each with what for, and their numbers.
+fn crates_of(alloc: Global, units: &Units<'_>) -> Result<(BuiltCrates, Vec<usize>), AllocError> {
+    let built = BuiltCrates::of(alloc, units)?;
+    let numbers = built.krates(alloc)?;
+    Ok((built, numbers))
 }
 
 /// Adds an item that borrows.

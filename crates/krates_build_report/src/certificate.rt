@@ -69,7 +69,7 @@ fn machine_text(
 /// follows.
 pub(crate) fn certificate_of(
     alloc: Global,
-    build: &Build<'_, '_>,
+    build: &Build<'_>,
     certified: Certified<'_>,
     spec: Option<&String>,
 ) -> Result<BuildCertificate, BuildReportError> {
@@ -87,7 +87,7 @@ pub(crate) fn certificate_of(
 /// What says that the package is built that a word means, if it is.
 fn fact_about<'a>(
     alloc: Global,
-    build: &Build<'_, 'a>,
+    build: &Build<'a>,
     spec: &str,
 ) -> Result<Option<BuildFact<'a>>, BuildReportError> {
     let package = build.any(alloc, spec)?;
@@ -100,7 +100,7 @@ fn fact_about<'a>(
 /// The steps that lead to a fact.
 fn steps_to<'a>(
     alloc: Global,
-    build: &Build<'_, 'a>,
+    build: &Build<'a>,
     fact: &BuildFact<'a>,
 ) -> Result<Vec<NamedStep>, BuildReportError> {
     let Some(steps) = build.units.derived().why(alloc, fact)? else {
@@ -135,7 +135,7 @@ fn named_step<'a>(
 }
 
 /// The words of all that follows, as the checker of closed lists wants it.
-fn all_words(alloc: Global, build: &Build<'_, '_>) -> Result<Vec<Vec<String>>, BuildReportError> {
+fn all_words(alloc: Global, build: &Build<'_>) -> Result<Vec<Vec<String>>, BuildReportError> {
     let names = names_in(build);
     let facts = build.units.derived().facts(alloc)?;
     let mut named = Vec::new(alloc);
@@ -158,7 +158,7 @@ fn named_fact(
 }
 
 /// What the words of facts are read against.
-fn names_in<'s, 'd, 'a>(build: &'s Build<'d, 'a>) -> FactNames<'s, 'a> {
+fn names_in<'s, 'a>(build: &'s Build<'a>) -> FactNames<'s, 'a> {
     FactNames {
         ids: build.document.crate_ids(),
         tables: build.tables(),

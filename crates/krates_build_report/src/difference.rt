@@ -39,8 +39,8 @@ impl<'d> OnlyHere<'d> {
     /// What is built here and not there.
     fn of(
         alloc: Global,
-        here: &Build<'d, '_>,
-        there: &Build<'d, '_>,
+        here: &'d Build<'_>,
+        there: &'d Build<'_>,
     ) -> Result<OnlyHere<'d>, AllocError> {
         let crates = lacking(alloc, here, there)?;
         let dependencies = lost_dependencies(alloc, here, there)?;
@@ -65,8 +65,8 @@ impl<'d> BuildDifference<'d> {
     /// What differs between two builds. The only error is running out of memory. Time O(n e) for n crates and e links or features of both.
     pub(crate) fn between(
         alloc: Global,
-        first: &Build<'d, '_>,
-        second: &Build<'d, '_>,
+        first: &'d Build<'_>,
+        second: &'d Build<'_>,
     ) -> Result<BuildDifference<'d>, AllocError> {
         let OnlyHere {
             crates: removed,
@@ -96,8 +96,8 @@ impl<'d> BuildDifference<'d> {
 /// The crates that one build has and the other lacks, by number.
 fn lacking<'d>(
     alloc: Global,
-    here: &Build<'d, '_>,
-    there: &Build<'_, '_>,
+    here: &'d Build<'_>,
+    there: &Build<'_>,
 ) -> Result<Vec<KrateMatch<'d, Package>>, AllocError> {
     let mut lacking = Vec::new(alloc);
     for found in here.crates(alloc)? {
@@ -110,12 +110,12 @@ fn lacking<'d>(
 
 /// A build, in which it is looked up which crate needs which.
 #[derive(Drop)]
-struct There<'b, 'd, 'a> {
-    build: &'b Build<'d, 'a>,
+struct There<'d, 'a> {
+    build: &'d Build<'a>,
     dependents: DirectLinks,
 }
 
-impl There<'_, '_, '_> {
+impl There<'_, '_> {
     /// Whether one crate needs another, both identified by id.
     fn has(&self, parent: &Kid, child: &Kid) -> bool {
         match (
@@ -131,8 +131,8 @@ impl There<'_, '_, '_> {
 /// What crates of one build need that they don't need in the other: by the number of the crate that is needed, and then by that of the other.
 fn lost_dependencies<'d>(
     alloc: Global,
-    here: &Build<'d, '_>,
-    there: &Build<'d, '_>,
+    here: &'d Build<'_>,
+    there: &'d Build<'_>,
 ) -> Result<Vec<DependencyEdge<'d>>, AllocError> {
     let there = There {
         build: there,
@@ -150,8 +150,8 @@ fn lost_dependencies<'d>(
 
 /// Adds what these crates need of one, if they don't need it in the other build.
 fn push_lost<'d>(
-    here: &Build<'d, '_>,
-    there: &There<'_, '_, '_>,
+    here: &'d Build<'_>,
+    there: &There<'_, '_>,
     child: NodeId,
     parents: &[NodeId],
     lost: &mut Vec<DependencyEdge<'d>>,
@@ -169,8 +169,8 @@ fn push_lost<'d>(
 /// The features that one build enables and the other doesn't, of crates that both build.
 fn lost_features<'d>(
     alloc: Global,
-    here: &Build<'d, '_>,
-    there: &Build<'_, '_>,
+    here: &'d Build<'_>,
+    there: &Build<'_>,
 ) -> Result<Vec<ChangedFeature<'d>>, AllocError> {
     let mut lost = Vec::new(alloc);
     for feature in here.units.features() {
@@ -183,8 +183,8 @@ fn lost_features<'d>(
 
 /// The feature, if both builds have its crate, and only the first enables it.
 fn lost_feature<'d>(
-    here: &Build<'d, '_>,
-    there: &Build<'_, '_>,
+    here: &'d Build<'_>,
+    there: &Build<'_>,
     feature: &FeaturePlace<'d>,
 ) -> Option<ChangedFeature<'d>> {
     let Some(found) = here.found(feature.krate) else {

@@ -38,7 +38,7 @@ impl<'d, 'a> BuiltFeatures<'d, 'a> {
     /// Those of the crate with that number, each with one reason. The only error is running out of memory.
     pub(crate) fn of(
         alloc: Global,
-        build: &Build<'d, 'a>,
+        build: &'d Build<'a>,
         number: usize,
         package: &'d Package,
     ) -> Result<BuiltFeatures<'d, 'a>, AllocError> {
@@ -59,7 +59,7 @@ impl<'d, 'a> BuiltFeatures<'d, 'a> {
 /// The features of the crate with that number on a side.
 fn side_features<'a>(
     alloc: Global,
-    build: &Build<'_, 'a>,
+    build: &Build<'a>,
     number: usize,
     side: Side,
 ) -> Result<SideFeatures<'a>, AllocError> {

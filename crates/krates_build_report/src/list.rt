@@ -15,9 +15,9 @@ use std::alloc::{AllocError, Global};
 
 /// The crates that are built, in the order of their ids.
 #[derive(Drop)]
-pub(crate) struct BuiltList<'b, 'd, 'a> {
+pub(crate) struct BuiltList<'d, 'a> {
     /// What is built.
-    pub(crate) build: &'b Build<'d, 'a>,
+    pub(crate) build: &'d Build<'a>,
     /// The crates, each at its position.
     pub(crate) crates: Vec<KrateMatch<'d, Package>>,
     /// Only what is built for this, if anything is said.
@@ -28,7 +28,7 @@ pub(crate) struct BuiltList<'b, 'd, 'a> {
     pub(crate) has_units: bool,
 }
 
-impl BuiltList<'_, '_, '_> {
+impl BuiltList<'_, '_> {
     /// Whether a platform is one of those that are shown.
     fn shows(&self, platform: PlatformNumber) -> bool {
         match (self.side, platform) {
@@ -150,7 +150,7 @@ impl BuiltList<'_, '_, '_> {
     }
 }
 
-impl Answer for BuiltList<'_, '_, '_> {
+impl Answer for BuiltList<'_, '_> {
     /// A line for each: its short name, or its id; below it its units, where they are asked for.
     fn push_lines(&self, lines: &mut Lines) -> Result<(), AllocError> {
         for (number, found) in self.build.numbers.iter().zip(&self.crates) {

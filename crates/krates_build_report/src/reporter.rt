@@ -17,7 +17,7 @@ use crate::uses::UsedCrates;
 use crate::why::{WhyBuilt, built_fact, words_of_steps};
 use krates::{Metadata, NodeId, Package};
 use krates_answers::licences::licences;
-use krates_build_answers::build_uses;
+use krates_build_answers::{BuiltCrates, build_uses};
 use krates_build_checkers::check_built_closed;
 use krates_built::{Units, units_of};
 use krates_cm_json::ToValue;
@@ -71,8 +71,8 @@ impl<'a> BuildReporter<'a> {
         second: &'m Metadata,
     ) -> Result<Report, BuildReportError> {
         let ids = (admit(self.alloc, first)?, admit(self.alloc, second)?);
-        let documents = self.documents((first, second), &ids)?;
-        self.difference_of(&documents)
+        let (first, second) = self.documents((first, second), &ids)?;
+        self.difference_of(first, second)
     }
 
     /// Both documents, whose ids are read.
@@ -92,32 +92,39 @@ impl<'a> BuildReporter<'a> {
     /// What differs between the builds of two documents.
     fn difference_of<'d>(
         &self,
-        documents: &(Document<'d>, Document<'d>),
+        first: Document<'d>,
+        second: Document<'d>,
     ) -> Result<Report, BuildReportError>
     where
         'a: 'd,
     {
-        let first = self.units(&documents.0, self.setting)?;
-        let second = self.units(&documents.1, self.second)?;
-        self.difference_in(documents, &(first, second))
+        match self.build(first, self.setting) {
+            Ok(first) => self.difference_from(&first, second),
+            Err(refusal) => {
+                drop(second);
+                Err(refusal)
+            }
+        }
     }
 
-    /// The same where these are built.
-    fn difference_in<'b, 'd>(
+    /// What differs between a build and that of another document.
+    fn difference_from<'d>(
         &self,
-        documents: &'b (Document<'d>, Document<'d>),
-        units: &'b (Units<'d>, Units<'d>),
-    ) -> Result<Report, BuildReportError> {
-        let first = Build::of(self.alloc, &documents.0, &units.0)?;
-        let second = Build::of(self.alloc, &documents.1, &units.1)?;
-        self.difference_between(&first, &second)
+        first: &Build<'d>,
+        second: Document<'d>,
+    ) -> Result<Report, BuildReportError>
+    where
+        'a: 'd,
+    {
+        let second = self.build(second, self.second)?;
+        self.difference_between(first, &second)
     }
 
     /// What differs between two builds.
-    fn difference_between<'b, 'd>(
+    fn difference_between(
         &self,
-        first: &Build<'b, 'd>,
-        second: &Build<'b, 'd>,
+        first: &Build<'_>,
+        second: &Build<'_>,
     ) -> Result<Report, BuildReportError> {
         let answer = BuildDifference::between(self.alloc, first, second)?;
         Ok(yes(self.text(&answer)?))
@@ -130,42 +137,81 @@ impl<'a> BuildReporter<'a> {
     pub fn answer(&self, metadata: &Metadata) -> Result<Report, BuildReportError> {
         let ids = admit(self.alloc, metadata)?;
         let document = Document::new(self.alloc, metadata, &ids)?;
-        self.about(&document)
+        self.about(document)
     }
 
     /// The same where the document is admitted.
-    fn about<'d>(&self, document: &Document<'d>) -> Result<Report, BuildReportError>
+    fn about<'d>(&self, document: Document<'d>) -> Result<Report, BuildReportError>
     where
         'a: 'd,
     {
-        let units = self.units(document, self.setting)?;
-        self.about_units(document, &units)
+        match &self.asked.word {
+            Word::Uses | Word::Sbom => self.beside_all(document),
+            _ => self.about_one(document),
+        }
     }
 
-    /// The same where it is built.
-    fn about_units<'d>(
+    /// The answer to a word about the build of a document.
+    fn about_one<'d>(&self, document: Document<'d>) -> Result<Report, BuildReportError>
+    where
+        'a: 'd,
+    {
+        let build = self.build(document, self.setting)?;
+        self.in_build(&build)
+    }
+
+    /// The answer to a word about the build of a document and the same with all targets.
+    fn beside_all<'d>(&self, document: Document<'d>) -> Result<Report, BuildReportError>
+    where
+        'a: 'd,
+    {
+        match self.crates(&document) {
+            Ok(built) => self.beside(&built, document),
+            Err(refusal) => {
+                drop(document);
+                Err(refusal)
+            }
+        }
+    }
+
+    /// The same where these are the crates of the build.
+    fn beside<'d>(
         &self,
-        document: &Document<'d>,
-        units: &Units<'d>,
+        built: &BuiltCrates,
+        document: Document<'d>,
     ) -> Result<Report, BuildReportError>
     where
         'a: 'd,
     {
-        let build = Build::of(self.alloc, document, units)?;
-        match &self.asked.word {
-            Word::Uses | Word::Sbom => self.beside_all(&build),
-            _ => self.in_build(&build),
-        }
+        let all = self.build(document, self.second)?;
+        self.with_all(built, &all)
     }
 
-    /// The answer to a word about this build of a document and the same with all targets.
-    fn beside_all<'d>(&self, build: &Build<'_, 'd>) -> Result<Report, BuildReportError>
+    /// The crates of the build of a document.
+    fn crates<'d>(&self, document: &Document<'d>) -> Result<BuiltCrates, BuildReportError>
     where
         'a: 'd,
     {
-        let units = self.units(build.document, self.second)?;
-        let all = Build::of(self.alloc, build.document, &units)?;
-        self.with_all(build, &all)
+        let units = self.units(document, self.setting)?;
+        Ok(BuiltCrates::of(self.alloc, &units)?)
+    }
+
+    /// The build of a document, which it owns from then on.
+    fn build<'d>(
+        &self,
+        document: Document<'d>,
+        setting: &'d BuildSetting,
+    ) -> Result<Build<'d>, BuildReportError>
+    where
+        'a: 'd,
+    {
+        match self.units(&document, setting) {
+            Ok(units) => Ok(Build::of(self.alloc, document, units)?),
+            Err(refusal) => {
+                drop(document);
+                Err(refusal)
+            }
+        }
     }
 
     /// What a build of the document builds.
@@ -203,7 +249,7 @@ impl<'a> BuildReporter<'a> {
     }
 
     /// The answer to a word about one build.
-    fn in_build(&self, build: &Build<'_, '_>) -> Result<Report, BuildReportError> {
+    fn in_build(&self, build: &Build<'_>) -> Result<Report, BuildReportError> {
         match &self.asked.word {
             Word::List { side, ids, units } => self.list(build, *side, *ids, *units),
             Word::Duplicates => self.duplicates(build),
@@ -221,7 +267,7 @@ impl<'a> BuildReporter<'a> {
     /// The crates that are built.
     fn list(
         &self,
-        build: &Build<'_, '_>,
+        build: &Build<'_>,
         side: Option<BuildSide>,
         has_ids: bool,
         has_units: bool,
@@ -238,7 +284,7 @@ impl<'a> BuildReporter<'a> {
     }
 
     /// The names that several of them have.
-    fn duplicates(&self, build: &Build<'_, '_>) -> Result<Report, BuildReportError> {
+    fn duplicates(&self, build: &Build<'_>) -> Result<Report, BuildReportError> {
         let crates = build.crates(self.alloc)?;
         let dependents = build.dependents(self.alloc)?;
         let answer = Duplicates::of(self.alloc, crates, dependents)?;
@@ -246,7 +292,7 @@ impl<'a> BuildReporter<'a> {
     }
 
     /// Their licences.
-    fn licences(&self, build: &Build<'_, '_>) -> Result<Report, BuildReportError> {
+    fn licences(&self, build: &Build<'_>) -> Result<Report, BuildReportError> {
         let crates = build.crates(self.alloc)?;
         let answer = licences(self.alloc, &crates)?;
         Ok(yes(self.text(&answer)?))
@@ -255,7 +301,7 @@ impl<'a> BuildReporter<'a> {
     /// The tree of what a crate needs, or the packages that are asked for where none is named.
     fn tree_below(
         &self,
-        build: &Build<'_, '_>,
+        build: &Build<'_>,
         spec: Option<&String>,
     ) -> Result<Report, BuildReportError> {
         let roots = match spec {
@@ -269,7 +315,7 @@ impl<'a> BuildReporter<'a> {
     }
 
     /// The tree of those that need a crate.
-    fn tree_above(&self, build: &Build<'_, '_>, spec: &str) -> Result<Report, BuildReportError> {
+    fn tree_above(&self, build: &Build<'_>, spec: &str) -> Result<Report, BuildReportError> {
         let roots = self.root(build, spec)?;
         let crates = build.crates(self.alloc)?;
         let links = build.links_by_kind(self.alloc, true);
@@ -278,7 +324,7 @@ impl<'a> BuildReporter<'a> {
     }
 
     /// The position of the crate that a word means, as a list.
-    fn root(&self, build: &Build<'_, '_>, spec: &str) -> Result<Vec<NodeId>, BuildReportError> {
+    fn root(&self, build: &Build<'_>, spec: &str) -> Result<Vec<NodeId>, BuildReportError> {
         let number = build.one(self.alloc, spec)?;
         let mut roots = Vec::new(self.alloc);
         if let Some(position) = build.position(number) {
@@ -290,7 +336,7 @@ impl<'a> BuildReporter<'a> {
     /// Why a crate is built.
     fn why(
         &self,
-        build: &Build<'_, '_>,
+        build: &Build<'_>,
         spec: &str,
         has_steps: bool,
     ) -> Result<Report, BuildReportError> {
@@ -313,7 +359,7 @@ impl<'a> BuildReporter<'a> {
     }
 
     /// The features of a crate.
-    fn features(&self, build: &Build<'_, '_>, spec: &str) -> Result<Report, BuildReportError> {
+    fn features(&self, build: &Build<'_>, spec: &str) -> Result<Report, BuildReportError> {
         let number = build.one(self.alloc, spec)?;
         let Some(package) = build.package(number) else {
             return Err(BuildReportError::NoAnswer);
@@ -325,7 +371,7 @@ impl<'a> BuildReporter<'a> {
     /// Whether it is certain that a package isn't built.
     fn unbuilt(
         &self,
-        build: &Build<'_, '_>,
+        build: &Build<'_>,
         spec: &str,
         side: Option<BuildSide>,
     ) -> Result<Report, BuildReportError> {
@@ -349,7 +395,7 @@ impl<'a> BuildReporter<'a> {
     /// A certificate, as JSON.
     fn certificate(
         &self,
-        build: &Build<'_, '_>,
+        build: &Build<'_>,
         spec: Option<&String>,
     ) -> Result<Report, BuildReportError> {
         let certified = Certified {
@@ -364,12 +410,8 @@ impl<'a> BuildReporter<'a> {
     }
 
     /// What the crates are used for, or the bill of materials, which says it too.
-    fn with_all(
-        &self,
-        build: &Build<'_, '_>,
-        all: &Build<'_, '_>,
-    ) -> Result<Report, BuildReportError> {
-        let used = build_uses(self.alloc, &build.built, &all.built)?;
+    fn with_all(&self, built: &BuiltCrates, all: &Build<'_>) -> Result<Report, BuildReportError> {
+        let used = build_uses(self.alloc, built, &all.built)?;
         match &self.asked.word {
             Word::Sbom => {
                 let bill = bill_of(self.alloc, all, &used)?;
@@ -389,7 +431,7 @@ fn yes(text: String) -> Report {
 }
 
 /// Whether a package is built, for this side where there is one.
-fn is_built(build: &Build<'_, '_>, package: &Package, side: Option<BuildSide>) -> bool {
+fn is_built(build: &Build<'_>, package: &Package, side: Option<BuildSide>) -> bool {
     match build.number_of_package(package) {
         Some(number) => build.is_for(number, side),
         None => false,

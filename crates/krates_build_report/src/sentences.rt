@@ -12,19 +12,53 @@ use krates_units::Side;
 use std::alloc::{AllocError, Global};
 use std::fmt;
 
+impl<'a> Build<'a> {
+    /// The crate with that number.
+    fn crate_name(&self, number: usize) -> CrateName<'_> {
+        CrateName(self.id(number))
+    }
+
+    /// The link at that place.
+    fn link(&self, place: LinkPlace) -> Option<&Link<'a>> {
+        self.tables().entry(place.krate)?.link(place.index)
+    }
+
+    /// The crate that has the link at that place, and the crate to which it leads.
+    fn ends(&self, place: LinkPlace) -> (CrateName<'_>, CrateName<'_>) {
+        let child = match self.link(place) {
+            Some(link) => self.crate_name(link.child),
+            None => CrateName(None),
+        };
+        (self.crate_name(place.krate), child)
+    }
+
+    /// What something is compiled for.
+    fn platform_name(&self, platform: PlatformNumber) -> PlatformName<'_, 'a> {
+        PlatformName {
+            tables: self.tables(),
+            platform,
+        }
+    }
+
+    /// A unit.
+    fn unit_name(&self, unit: UnitPlace) -> UnitName<'_, 'a> {
+        UnitName {
+            tables: self.tables(),
+            unit,
+        }
+    }
+}
+
 /// The steps of a derivation, and what has the names of what they say by numbers.
 #[derive(Clone, Copy)]
-pub(crate) struct Steps<'b, 's, 'd, 'a> {
-    build: &'b Build<'d, 'a>,
+pub(crate) struct Steps<'s, 'd, 'a> {
+    build: &'d Build<'a>,
     steps: &'s [BuildStep<'a>],
 }
 
-impl<'b, 's, 'd, 'a> Steps<'b, 's, 'd, 'a> {
+impl<'s, 'd, 'a> Steps<'s, 'd, 'a> {
     /// These steps, of this build.
-    pub(crate) fn new(
-        build: &'b Build<'d, 'a>,
-        steps: &'s [BuildStep<'a>],
-    ) -> Steps<'b, 's, 'd, 'a> {
+    pub(crate) fn new(build: &'d Build<'a>, steps: &'s [BuildStep<'a>]) -> Steps<'s, 'd, 'a> {
         Steps { build, steps }
     }
 
@@ -36,41 +70,6 @@ impl<'b, 's, 'd, 'a> Steps<'b, 's, 'd, 'a> {
             }
         }
         None
-    }
-
-    /// The crate with that number.
-    fn krate(&self, number: usize) -> CrateName<'d> {
-        CrateName(self.build.id(number))
-    }
-
-    /// The link at that place.
-    fn link(&self, place: LinkPlace) -> Option<&'d Link<'a>> {
-        self.build.tables().entry(place.krate)?.link(place.index)
-    }
-
-    /// The crate that has the link at that place, and the crate to which it leads.
-    fn ends(&self, place: LinkPlace) -> (CrateName<'d>, CrateName<'d>) {
-        let child = match self.link(place) {
-            Some(link) => self.krate(link.child),
-            None => CrateName(None),
-        };
-        (self.krate(place.krate), child)
-    }
-
-    /// What something is compiled for.
-    fn platform(&self, platform: PlatformNumber) -> PlatformName<'d, 'a> {
-        PlatformName {
-            tables: self.build.tables(),
-            platform,
-        }
-    }
-
-    /// A unit.
-    fn unit(&self, unit: UnitPlace) -> UnitName<'d, 'a> {
-        UnitName {
-            tables: self.build.tables(),
-            unit,
-        }
     }
 
     /// Adds a sentence for each step that says more than the others.
@@ -88,7 +87,10 @@ impl<'b, 's, 'd, 'a> Steps<'b, 's, 'd, 'a> {
                 place, from, &library, lines,
             ),
             BuildFact::ScriptRun(krate, placement) => {
-                let (krate, platform) = (self.krate(krate), self.platform(placement.platform));
+                let (krate, platform) = (
+                    self.build.crate_name(krate),
+                    self.build.platform_name(placement.platform),
+                );
                 write!(
                     lines,
                     "  the build script of {krate} is run, for {platform}"
@@ -96,7 +98,7 @@ impl<'b, 's, 'd, 'a> Steps<'b, 's, 'd, 'a> {
                 lines.end();
             }
             BuildFact::ActivatedFeature(krate, side, name) => {
-                let (krate, side) = (self.krate(krate), OnSide(side));
+                let (krate, side) = (self.build.crate_name(krate), OnSide(side));
                 let reason = self.reason(step.fact);
                 write!(
                     lines,
@@ -113,8 +115,12 @@ impl<'b, 's, 'd, 'a> Steps<'b, 's, 'd, 'a> {
         match step.premises.first() {
             Some(BuildFact::Needed(_, _, _) | BuildFact::Compiled(_)) => {}
             _ => {
-                let krate = self.krate(unit.target.krate);
-                write!(lines, "  {krate} is asked for: {}", self.unit(unit));
+                let krate = self.build.crate_name(unit.target.krate);
+                write!(
+                    lines,
+                    "  {krate} is asked for: {}",
+                    self.build.unit_name(unit)
+                );
                 lines.end();
             }
         }
@@ -128,8 +134,8 @@ impl<'b, 's, 'd, 'a> Steps<'b, 's, 'd, 'a> {
         library: &UnitPlace,
         lines: &mut Lines,
     ) {
-        let (parent, child) = self.ends(place);
-        let Some(link) = self.link(place) else {
+        let (parent, child) = self.build.ends(place);
+        let Some(link) = self.build.link(place) else {
             return;
         };
         let by = match link.kind {
@@ -138,7 +144,11 @@ impl<'b, 's, 'd, 'a> Steps<'b, 's, 'd, 'a> {
         };
         write!(lines, "  {by}{parent} needs {child}{}", Conditions(link));
         if library.placement.platform != from {
-            write!(lines, ", for {}", self.platform(library.placement.platform));
+            write!(
+                lines,
+                ", for {}",
+                self.build.platform_name(library.placement.platform)
+            );
         }
         lines.end();
     }
@@ -149,7 +159,7 @@ impl<'b, 's, 'd, 'a> Steps<'b, 's, 'd, 'a> {
     }
 
     /// Why a feature is enabled.
-    fn reason(&self, fact: BuildFact<'a>) -> Reason<'_, 'b, 's, 'd, 'a> {
+    fn reason(&self, fact: BuildFact<'a>) -> Reason<'_, 's, 'd, 'a> {
         Reason { steps: self, fact }
     }
 }
@@ -203,12 +213,12 @@ impl fmt::Display for Conditions<'_, '_> {
 
 /// Why a feature is enabled.
 #[derive(Clone, Copy)]
-struct Reason<'r, 'b, 's, 'd, 'a> {
-    steps: &'r Steps<'b, 's, 'd, 'a>,
+struct Reason<'r, 's, 'd, 'a> {
+    steps: &'r Steps<'s, 'd, 'a>,
     fact: BuildFact<'a>,
 }
 
-impl<'a> Reason<'_, '_, '_, '_, 'a> {
+impl<'a> Reason<'_, '_, '_, 'a> {
     /// Writes who lists a reference that counts at a crate.
     fn write_listing<W: fmt::Write>(
         &self,
@@ -219,7 +229,7 @@ impl<'a> Reason<'_, '_, '_, '_, 'a> {
         match (self.listing(&reference), is_own) {
             (Some((_, feature)), true) => write!(f, "its feature `{feature}` enables it"),
             (Some((krate, feature)), false) => {
-                let krate = self.steps.krate(krate);
+                let krate = self.steps.build.crate_name(krate);
                 write!(f, "feature `{feature}` of {krate} enables it")
             }
             (None, _) => f.write_str("it is asked for"),
@@ -235,14 +245,14 @@ impl<'a> Reason<'_, '_, '_, '_, 'a> {
     }
 }
 
-impl fmt::Display for Reason<'_, '_, '_, '_, '_> {
+impl fmt::Display for Reason<'_, '_, '_, '_> {
     fn fmt<W: fmt::Write>(&self, f: &mut fmt::Formatter<W>) -> fmt::Result {
         let BuildFact::ActivatedFeature(krate, _, name) = self.fact else {
             return Ok(());
         };
         match self.steps.before(&self.fact) {
             Some(BuildFact::Used(place, _)) => {
-                let (parent, _) = self.steps.ends(place);
+                let (parent, _) = self.steps.build.ends(place);
                 if name == "default" {
                     write!(f, "{parent} needs it with default features")
                 } else {
@@ -264,7 +274,7 @@ impl fmt::Display for Reason<'_, '_, '_, '_, '_> {
 /// Why a feature is enabled, as one derivation says; nothing if it isn't. The only error is running out of memory.
 pub(crate) fn last_reason<'a>(
     alloc: Global,
-    build: &Build<'_, 'a>,
+    build: &Build<'a>,
     fact: &BuildFact<'a>,
 ) -> Result<String, AllocError> {
     match build.units.derived().why(alloc, fact)? {

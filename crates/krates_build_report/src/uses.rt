@@ -12,14 +12,14 @@ use std::alloc::{AllocError, Global};
 
 /// The crates of a build of all targets, each with what it is used for.
 #[derive(Drop)]
-pub(crate) struct UsedCrates<'b, 'd, 'a> {
+pub(crate) struct UsedCrates<'d, 'a> {
     /// The build, with all targets.
-    pub(crate) build: &'b Build<'d, 'a>,
+    pub(crate) build: &'d Build<'a>,
     /// The uses, by number.
     pub(crate) used: Vec<UsedCrate>,
 }
 
-impl<'d> UsedCrates<'_, 'd, '_> {
+impl<'d> UsedCrates<'d, '_> {
     /// How many are used for this.
     fn count(&self, usage: BuildUse) -> usize {
         self.used.iter().filter(|used| used.usage == usage).count()
@@ -58,7 +58,7 @@ impl<'d> UsedCrates<'_, 'd, '_> {
     }
 }
 
-impl Answer for UsedCrates<'_, '_, '_> {
+impl Answer for UsedCrates<'_, '_> {
     /// `shipped`, `build only` and `tests only`, each with the number of its crates, and below it the crates.
     fn push_lines(&self, lines: &mut Lines) -> Result<(), AllocError> {
         self.push(BuildUse::Shipped, "shipped", lines);

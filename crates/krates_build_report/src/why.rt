@@ -14,9 +14,9 @@ use std::alloc::{AllocError, Global};
 
 /// Why a crate is built.
 #[derive(Drop)]
-pub(crate) struct WhyBuilt<'b, 'd, 'a> {
+pub(crate) struct WhyBuilt<'d, 'a> {
     /// What is built.
-    pub(crate) build: &'b Build<'d, 'a>,
+    pub(crate) build: &'d Build<'a>,
     /// The crate.
     pub(crate) package: &'d Package,
     /// A derivation that ends in one of its units, or in its build script.
@@ -27,7 +27,7 @@ pub(crate) struct WhyBuilt<'b, 'd, 'a> {
     pub(crate) has_steps: bool,
 }
 
-impl WhyBuilt<'_, '_, '_> {
+impl WhyBuilt<'_, '_> {
     /// Adds a line for each step.
     fn push_steps(&self, lines: &mut Lines) {
         let mut words = self.words.iter();
@@ -77,7 +77,7 @@ impl WhyBuilt<'_, '_, '_> {
     }
 }
 
-impl Answer for WhyBuilt<'_, '_, '_> {
+impl Answer for WhyBuilt<'_, '_> {
     /// The derivation in plain sentences, below the crate; or its steps, a line for each.
     fn push_lines(&self, lines: &mut Lines) -> Result<(), AllocError> {
         if self.has_steps {
@@ -122,7 +122,7 @@ fn words_json(alloc: Global, words: &[String]) -> Result<Value, AllocError> {
 /// The words of the fact that each step gives. The only error is running out of memory.
 pub(crate) fn words_of_steps(
     alloc: Global,
-    build: &Build<'_, '_>,
+    build: &Build<'_>,
     steps: &[BuildStep<'_>],
 ) -> Result<Vec<Vec<String>>, AllocError> {
     let names = FactNames {
@@ -153,7 +153,7 @@ fn words_of_fact(
 }
 
 /// What says that the crate with that number is built: a unit for a machine, or else one for the host, or else its build script.
-pub(crate) fn built_fact<'a>(build: &Build<'_, 'a>, number: usize) -> Option<BuildFact<'a>> {
+pub(crate) fn built_fact<'a>(build: &Build<'a>, number: usize) -> Option<BuildFact<'a>> {
     let units = build.units.units();
     let mut found = None;
     for unit in units {
