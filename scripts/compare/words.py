@@ -6,18 +6,24 @@ each crate, the names with several crates, the licences, what is shipped (by the
 the bill of materials, the enabled features, and the difference from the document before. Of each package that isn't
 kept `unreachable` has to say yes, of each that is no.
 
-Of a document with more than 200 crates only the first twelve are asked about one by one.
+Each answer has to be as docs/schema/answers.json says. Of a document with more than 200 crates only the first twelve are asked about one by one.
 """
 import concurrent.futures
 import json
 import os
 import pathlib
+import re
 import tempfile
 import urllib.parse
 
 from compare.graph import Graph
 from compare.programs import SETTINGS, made_here, printed
+from compare.schema import held
 from krates_sources import documents
+
+# What made a bill, and the operators of licences.
+TOOL = {"type": "application", "name": "cargo-krates", "version": "0.22.0"}
+OPERATORS = {"AND", "OR", "WITH", "/"}
 
 
 def answer(text, words, statuses=(0,)):
@@ -46,7 +52,8 @@ class Reading:
 
     def ask(self, *words, statuses=(0,)):
         """What the program answers to the words, as values."""
-        return json.loads(answer(self.text, [*words, "--json", *self.options], statuses))
+        value = json.loads(answer(self.text, [*words, "--json", *self.options], statuses))
+        return value if words[0] == "sbom" else held(words[0], value)["answer"]
 
     def crate(self, number):
         """What identifies a crate in an answer."""
@@ -122,17 +129,25 @@ class Reading:
 
     def bill(self):
         """The bill of materials."""
-        uses = self.uses()
+        root, members = self.document["workspace_root"], self.members()
+        packages = [self.packages[krate] for krate in self.crates]
+        refs = [reference(package, root) for package in packages]
+        parts = [component(package, use, root) for package, use in zip(packages, self.uses())]
+        needs = [{"ref": refs[number], "dependsOn": [refs[other] for other in self.needs[number]]} for number in range(len(refs))]
+        subject = {"type": "application", "bom-ref": "workspace", "name": root.rsplit("/", 1)[-1] or "workspace"}
+        if len(members) == 1:
+            subject = parts.pop(members[0])
+            del subject["scope"]
+        else:
+            needs.insert(0, {"ref": "workspace", "dependsOn": [refs[member] for member in members]})
         return {
             "$schema": "http://cyclonedx.org/schema/bom-1.5.schema.json",
             "bomFormat": "CycloneDX",
             "specVersion": "1.5",
             "version": 1,
-            "components": [component(self.packages[krate], use) for krate, use in zip(self.crates, uses)],
-            "dependencies": [
-                {"ref": krate, "dependsOn": [self.crates[other] for other in self.needs[number]]}
-                for number, krate in enumerate(self.crates)
-            ],
+            "metadata": {"component": subject, "tools": {"components": [TOOL]}},
+            "components": parts,
+            "dependencies": needs,
         }
 
 
@@ -141,30 +156,61 @@ def quote(text):
     return urllib.parse.quote(text, safe="-._~")
 
 
-def purl(package):
+def place(package, root):
+    """Where a package of this machine is, below the root of the workspace if it is there."""
+    folder = package["manifest_path"].rsplit("/", 1)[0]
+    return "." if folder == root else folder.removeprefix(root + "/")
+
+
+def reference(package, root):
+    """How a package is called in references."""
+    return package["id"] if package["source"] else purl(package, root)
+
+
+def purl(package, root):
     """The package url, with where a package is from that isn't from crates.io."""
-    url, source = f"pkg:cargo/{package['name']}@{quote(package['version'])}", package["source"]
+    url, source = f"pkg:cargo/{quote(package['name'])}@{quote(package['version'])}", package["source"]
     if source is None:
-        return url + "?download_url=" + quote("file://" + package["manifest_path"].rsplit("/", 1)[0])
+        return url + "?download_url=" + quote("file://" + place(package, root))
     if source == "registry+https://github.com/rust-lang/crates.io-index":
         return url
     kind, place = source.split("+", 1)
     return url + ("?vcs_url=" + quote(source) if kind == "git" else "?repository_url=" + quote(place))
 
 
-def component(package, use):
+def licence(text):
+    """The licence that a text is: an expression, or else a name."""
+    words = re.sub("[/()]", r" \g<0> ", text).split()
+    said = "".join("i" if re.fullmatch("[A-Za-z0-9.+:-]+", word) and word not in OPERATORS else "o" if word in OPERATORS else word for word in words)
+    while (shorter := re.sub(r"\(i\)|ioi", "i", said)) != said:
+        said = shorter
+    if said != "i":
+        return {"license": {"name": text}}
+    text = " ".join("OR" if word == "/" else word for word in words)
+    return {"expression": text.replace("( ", "(").replace(" )", ")")}
+
+
+def component(package, use, root):
     """A package in the bill of materials."""
     kinds = {kind for target in package["targets"] for kind in target["kind"]}
     made = {
         "type": "application" if "bin" in kinds and not kinds & {"lib", "proc-macro"} else "library",
-        "bom-ref": package["id"],
+        "bom-ref": reference(package, root),
         "name": package["name"],
         "version": package["version"],
         "scope": "required" if use == "shipped" else "excluded",
-        "purl": purl(package),
+        "purl": purl(package, root),
     }
+    if package["description"] is not None:
+        made["description"] = package["description"]
+    if package["authors"]:
+        made["author"] = ", ".join(package["authors"])
+    known = (("vcs", "repository"), ("website", "homepage"), ("documentation", "documentation"))
+    references = [{"type": kind, "url": package[key]} for kind, key in known if package[key] is not None]
+    if references:
+        made["externalReferences"] = references
     if package["license"]:
-        made["licenses"] = [{"expression": package["license"].replace("/", " OR ")}]
+        made["licenses"] = [licence(package["license"])]
     elif package["license_file"]:
         made["licenses"] = [{"license": {"name": package["license_file"]}}]
     return made
@@ -244,11 +290,11 @@ def differences(reading):
 
 
 def is_difference(first, other_text, other):
-    """Whether the difference from another document is reported as it has to be."""
+    """Whether what went and came since another document is reported as it has to be."""
     with tempfile.TemporaryDirectory() as folder:
-        path = pathlib.Path(folder, "other.json")
+        path = pathlib.Path(folder, "old.json")
         path.write_bytes(other_text)
-        return first.ask("diff", str(path)) == difference(first, other)
+        return first.ask("diff", str(path)) == difference(other, first)
 
 
 def compare(folder):

@@ -17,6 +17,7 @@ import tempfile
 from compare.builds import SHOWN, differing
 from compare.cargo import UNSTABLE, told
 from compare.programs import program
+from compare.schema import held
 
 # What the program calls the kinds of cargo that aren't those of a library.
 KINDS = {
@@ -59,7 +60,7 @@ def script_names(document):
 def answered_units(answer, words, scripts):
     """What is compiled by an answer of the program, with platforms as cargo tells them: without `--target` everything is for the host."""
     units = set()
-    for built in json.loads(answer)["answer"]:
+    for built in held("list", json.loads(answer))["answer"]:
         krate = built["crate"]["id"]
         for it in built["units"]:
             platform = it["platform"] if asks_for_targets(words) else "host"

@@ -95,12 +95,15 @@ SHOWN_BY = {
         " Builds::all Builds::agree Builds::uses Packages::one Packages::any Bill::of"
         " Changed::between Difference::between Duplicates::of licences Tree::of ExplainedFeatures::of"
         " Bill::text Lines::new Lines::end kept_crates list_json ids_json string JsonObject::new JsonObject::text"
-        " JsonObject::object Values::new Values::add Values::list"
+        " JsonObject::object JsonObject::versioned Values::new Values::add Values::list Tree::drawn_by without"
+        " FeatureList::new TreeWords::has_features"
     ).split(),
     # what it answers by what cargo builds is made of the crates that are built, at positions, with heads in trees
     "BuildReporter::new": ("DirectLinks::of_pairs", "Build::of", "Build::crates", "head_number"),
     # by build, cargo is told other words than those of the command line
     "asked_of": ("CargoWords::for_build",),
+    # what words leave unsaid is what a program does that can't read any
+    "Shell::new": ("ShellWords::unsaid",),
 }
 
 

@@ -1,6 +1,6 @@
 //! `cargo krates WORD [OPTIONS]`: answers a question about the crates that a workspace needs. `cargo krates --help` lists the words.
 //!
-//! The status is 0 where the answer is printed, 1 where it is no or where there is none, and 2 where the words are wrong.
+//! The status is 0 where the answer is printed, 1 where it is no, 2 where the words are wrong, and 3 where there is no answer.
 #![tactic(auto)]
 
 mod failure;
@@ -9,17 +9,18 @@ use crate::failure::AnswerFailure;
 use krates::{Metadata, Package};
 use krates_build_report::BuildReporter;
 use krates_host::build::{AskedBuild, build_setting};
-use krates_host::program::{NO, print, refuse_asked, refuse_words, words_of};
-use krates_host::{Inputs, configuration, document, said, targets};
+use krates_host::program::{refuse_asked, refuse_words, words_of};
+use krates_host::status::NO_ANSWER;
+use krates_host::{Inputs, Shell, configuration, document, targets};
 use krates_report::{Report, Reporter};
 use krates_shown::ShownValue;
 use krates_words::{Asked, BuildWords, Choice, Rules, Word, asked_of};
 use std::process::ExitCode;
 
 /// The answer to the question. What is looked up for it is put into the question.
-fn answer_of(rt: &HostRuntime, asked: &mut Asked) -> Result<Report, AnswerFailure> {
+fn answer_of(shell: Shell<'_>, asked: &mut Asked) -> Result<Report, AnswerFailure> {
     let inputs = Inputs {
-        rt,
+        shell,
         max_bytes: asked.max_bytes,
     };
     prepare(&inputs, &mut asked.rules)?;
@@ -28,33 +29,33 @@ fn answer_of(rt: &HostRuntime, asked: &mut Asked) -> Result<Report, AnswerFailur
 
 /// The answer about the documents that the question names.
 fn of_documents(inputs: &Inputs<'_>, asked: &Asked) -> Result<Report, AnswerFailure> {
-    let other = document::other(inputs, &asked.word)?;
+    let old = document::old(inputs, &asked.word)?;
     match document::document(inputs, asked) {
-        Ok(document) => answer_about(inputs, asked, document, other),
+        Ok(document) => answer_about(inputs, asked, document, old),
         Err(failure) => {
-            drop(other);
+            drop(old);
             Err(AnswerFailure::Host(failure))
         }
     }
 }
 
-/// The answer about a document, and about another one where two are compared.
+/// The answer about a document, and about the one of before where two are compared.
 fn answer_about(
     inputs: &Inputs<'_>,
     asked: &Asked,
     document: Metadata,
-    other: Option<Metadata>,
+    old: Option<Metadata>,
 ) -> Result<Report, AnswerFailure> {
     match &asked.rules {
         Rules::Krates(choice) => {
-            note_krates(inputs.rt, choice, &document.packages);
-            let reporter = Reporter::new(inputs.rt.alloc(), asked, choice);
-            Ok(reporter.answer(document, other)?)
+            note_krates(&inputs.shell, choice, &document.packages);
+            let reporter = Reporter::new(inputs.alloc(), asked, choice);
+            Ok(reporter.answer(document, old)?)
         }
         Rules::Build(words) => {
-            let answer = by_build(inputs, asked, words, (&document, other.as_ref()));
+            let answer = by_build(inputs, asked, words, (&document, old.as_ref()));
             document.let_go();
-            drop(other);
+            drop(old);
             answer
         }
     }
@@ -66,12 +67,12 @@ fn prepare(inputs: &Inputs<'_>, rules: &mut Rules) -> Result<(), AnswerFailure> 
         Rules::Krates(choice) => {
             choice.targets = targets::targets_of(inputs, choice)?;
         }
-        Rules::Build(_) => configuration::note_files(inputs.rt)?,
+        Rules::Build(_) => configuration::note_files(&inputs.shell)?,
     }
     Ok(())
 }
 
-/// The answer by the rules of a build, about a document, and about another one where two are compared.
+/// The answer by the rules of a build, about a document, and about the one of before where two are compared.
 fn by_build(
     inputs: &Inputs<'_>,
     asked: &Asked,
@@ -79,14 +80,14 @@ fn by_build(
     documents: (&Metadata, Option<&Metadata>),
 ) -> Result<Report, AnswerFailure> {
     let build = build_setting(inputs, words, documents.0)?;
-    build.note(inputs.rt)?;
+    build.note(&inputs.shell)?;
     match &asked.word {
-        Word::Uses | Word::Sbom | Word::Diff { .. } => {
+        Word::Uses | Word::Sbom { .. } | Word::Diff { .. } => {
             by_two(inputs, asked, words, documents, &build)
         }
         _ => {
             let reporter = BuildReporter::new(
-                inputs.rt.alloc(),
+                inputs.alloc(),
                 asked,
                 &build.setting,
                 &build.setting,
@@ -97,7 +98,7 @@ fn by_build(
     }
 }
 
-/// The answer by this build and a second one: of the other document where there is one, or of the same with all targets.
+/// The answer by this build and a second one: of the document of before where there is one, or of the same with all targets.
 fn by_two(
     inputs: &Inputs<'_>,
     asked: &Asked,
@@ -105,57 +106,60 @@ fn by_two(
     documents: (&Metadata, Option<&Metadata>),
     build: &AskedBuild,
 ) -> Result<Report, AnswerFailure> {
-    let (document, other) = documents;
-    let mut second = build_setting(inputs, words, other.unwrap_or(document))?;
-    build.note_other(inputs.rt, &second);
-    second.setting.kinds.all = second.setting.kinds.all || other.is_none();
+    let (document, old) = documents;
+    let mut second = build_setting(inputs, words, old.unwrap_or(document))?;
+    build.note_old(&inputs.shell, &second);
+    second.setting.kinds.all = second.setting.kinds.all || old.is_none();
     let reporter = BuildReporter::new(
-        inputs.rt.alloc(),
+        inputs.alloc(),
         asked,
         &build.setting,
         &second.setting,
         &build.cfgs,
     );
-    match other {
-        Some(other) => Ok(reporter.difference(document, other)?),
+    match old {
+        Some(old) => Ok(reporter.difference(old, document)?),
         None => Ok(reporter.answer(document)?),
     }
 }
 
 /// Says by which rules the answer is, and what these leave out or don't.
-fn note_krates(rt: &HostRuntime, choice: &Choice, packages: &[Package]) {
-    said::note_krates(rt);
-    note_host(rt, choice);
-    note_exclusions(rt, choice, packages);
+fn note_krates(shell: &Shell<'_>, choice: &Choice, packages: &[Package]) {
+    shell.note_krates();
+    note_host(shell, choice);
+    note_exclusions(shell, choice, packages);
 }
 
 /// Says what targets alone leave out.
-fn note_host(rt: &HostRuntime, choice: &Choice) {
+fn note_host(shell: &Shell<'_>, choice: &Choice) {
     if !choice.triples.is_empty() {
-        said::note(
-            rt,
+        shell.note(
             "build scripts and proc-macros run on the host: a --target for it adds all that passes there, --by build what they need",
         );
     }
 }
 
 /// Says which exclusions leave nothing out.
-fn note_exclusions(rt: &HostRuntime, choice: &Choice, packages: &[Package]) {
+fn note_exclusions(shell: &Shell<'_>, choice: &Choice, packages: &[Package]) {
     for spec in &choice.exclusions {
         if !packages.iter().any(|pkg| spec.matches(pkg)) {
             let spec = ShownValue(spec);
-            said::note(rt, format_args!("--exclude {spec} fits no package"));
+            shell.note(format_args!("--exclude {spec} fits no package"));
         }
     }
 }
 
 /// Prints the answer to the question, or says why there is none.
 fn print_answer(rt: &HostRuntime, asked: &mut Asked) -> ExitCode {
-    match answer_of(rt, asked) {
-        Ok(answer) => print(rt, answer.text.as_str(), answer.is_yes),
+    let shell = Shell {
+        rt,
+        words: asked.shell,
+    };
+    match answer_of(shell, asked) {
+        Ok(answer) => shell.print(answer.text.as_str(), answer.is_yes),
         Err(failure) => {
-            said::error(rt, failure);
-            ExitCode::from(NO)
+            shell.error(failure);
+            ExitCode::from(NO_ANSWER)
         }
     }
 }

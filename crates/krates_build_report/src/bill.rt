@@ -5,7 +5,8 @@ use krates::{KrateMatch, NodeId, Package};
 use krates_answers::crate_uses::Use;
 use krates_answers::materials::Material;
 use krates_build_answers::{BuildUse, UsedCrate};
-use krates_report::bill::{Bill, BuiltFor};
+use krates_report::bill::{Bill, BillSubject, BuiltFor};
+use krates_words::BillWords;
 use std::alloc::{AllocError, Global};
 
 /// The bill of the crates that are built, of which these are the uses, in the same order. The only error is running out of memory. Time
@@ -14,7 +15,13 @@ pub(crate) fn bill_of<'d>(
     alloc: Global,
     build: &'d Build<'_>,
     used: &[UsedCrate],
+    words: &'d BillWords,
 ) -> Result<Bill<'d>, AllocError> {
+    let subject = BillSubject {
+        root: build.document.metadata().workspace_root.as_str(),
+        asked: build.asked(alloc)?,
+        words,
+    };
     let crates = build.crates(alloc)?;
     let uses = uses_of(alloc, used)?;
     let sides = sides_of(alloc, build)?;
@@ -24,6 +31,7 @@ pub(crate) fn bill_of<'d>(
         uses,
         sides,
         materials,
+        subject,
     })
 }
 

@@ -9,10 +9,12 @@ use krates_build_answers::{BuiltCrates, build_links};
 use krates_build_tables::Tables;
 use krates_built::Units;
 use krates_questions::Document;
+use krates_report::feature_list::FeatureList;
 use krates_report::tree::head_number;
 use krates_units::Side;
 use krates_words::BuildSide;
 use std::alloc::{AllocError, Global};
+use std::collections::BTreeSet;
 
 /// What cargo builds of a document. The crates that it builds are at positions from 0 on, in the order of their ids; what is built
 /// both for the host and for another machine has one position.
@@ -142,6 +144,30 @@ impl<'a> Build<'a> {
             && other.side == side
             && other.name == name);
         self.position(number).is_some() && !is_enabled
+    }
+
+    /// The features of the crate at each position, on either side, with commas between them.
+    pub(crate) fn features(&self, alloc: Global) -> Result<Vec<String>, AllocError> {
+        let mut features = Vec::new(alloc);
+        for number in &self.numbers {
+            features.push(self.features_of(alloc, *number)?)?;
+        }
+        Ok(features)
+    }
+
+    /// The features of the crate with that number.
+    fn features_of(&self, alloc: Global, number: usize) -> Result<String, AllocError> {
+        let mut names = BTreeSet::new(alloc);
+        for feature in self.units.features() {
+            if feature.krate == number {
+                names.insert(feature.name)?;
+            }
+        }
+        let mut list = FeatureList::new(alloc);
+        for name in &names {
+            list.push(name);
+        }
+        list.whole()
     }
 
     /// The packages that aren't built, in the order of their ids.

@@ -62,7 +62,14 @@ pub(crate) struct BuildDifference<'d> {
 }
 
 impl<'d> BuildDifference<'d> {
-    /// What differs between two builds. The only error is running out of memory. Time O(n e) for n crates and e links or features of both.
+    /// Whether nothing went and nothing came.
+    pub(crate) fn is_empty(&self) -> bool {
+        self.difference.is_empty()
+            && self.removed_features.is_empty()
+            && self.added_features.is_empty()
+    }
+
+    /// What went and what came between two builds. The only error is running out of memory. Time O(n e) for n crates and e links or features of both.
     pub(crate) fn between(
         alloc: Global,
         first: &'d Build<'_>,

@@ -4,7 +4,8 @@ use krates::Error;
 use krates_answers::naming::NamingError;
 use krates_build_checkers::BuildCheckError;
 use krates_built::NotBuilt;
-use krates_shown::{Shown, ShownValue};
+use krates_report::error::DocumentFault;
+use krates_shown::Shown;
 use std::alloc::{AllocError, AllocFailed, Global};
 use std::fmt;
 
@@ -58,7 +59,7 @@ fn write_each<W: fmt::Write>(f: &mut fmt::Formatter<W>, texts: &[String]) -> fmt
 impl fmt::Display for BuildReportError {
     fn fmt<W: fmt::Write>(&self, f: &mut fmt::Formatter<W>) -> fmt::Result {
         match self {
-            BuildReportError::Document(cause) => write!(f, "{}", ShownValue(cause)),
+            BuildReportError::Document(cause) => write!(f, "{}", DocumentFault(cause)),
             BuildReportError::NotBuilt(text) => f.write_str(text.as_str()),
             BuildReportError::Lost(text) => write!(
                 f,

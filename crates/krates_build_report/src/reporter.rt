@@ -16,18 +16,22 @@ use crate::unbuilt::Unbuilt;
 use crate::uses::UsedCrates;
 use crate::why::{WhyBuilt, built_fact, words_of_steps};
 use krates::{Metadata, NodeId, Package};
+use krates_answers::direct_links::DirectLinks;
 use krates_answers::licences::licences;
+use krates_answers::naming::NamingError;
 use krates_build_answers::{BuiltCrates, build_uses};
 use krates_build_checkers::check_built_closed;
 use krates_built::{Units, units_of};
 use krates_cm_json::ToValue;
 use krates_questions::{Document, Ids, admit};
 use krates_report::Report;
+use krates_report::absent::Absent;
 use krates_report::answer::{Answer, printed};
+use krates_report::drawn_tree::DrawnTree;
 use krates_report::duplicates::Duplicates;
-use krates_report::tree::Tree;
+use krates_report::tree::{Tree, without};
 use krates_units::BuildSetting;
-use krates_words::{Asked, BuildSide, Word};
+use krates_words::{Asked, BuildSide, TreeWords, Word};
 use serde_json::Value;
 use std::alloc::{AllocError, Global};
 
@@ -45,7 +49,7 @@ pub struct BuildReporter<'a> {
 
 impl<'a> BuildReporter<'a> {
     /// A reporter for this question about this build. The second setting is the same with all targets for the words `uses` and `sbom`, which
-    /// tell what only tests need, and that of the other document for `diff`; no other word looks at it. The texts are what `rustc --print cfg`
+    /// tell what only tests need, and that of the document of before for `diff`; no other word looks at it. The texts are what `rustc --print cfg`
     /// prints of the machine that builds, and then of each that the build is for; only `certify` looks at them. Time O(1).
     pub fn new(
         alloc: Global,
@@ -63,16 +67,16 @@ impl<'a> BuildReporter<'a> {
         }
     }
 
-    /// What is printed of two documents that are compared. It is refused as `answer` is; it may instead return `Memory`. Time: that of both
-    /// `units_of`, and O(n e) for n crates and e links or features of both.
+    /// What went and what came between two documents, of which the second setting is that of the first, old one. It is refused as `answer` is;
+    /// it may instead return `Memory`. Time: that of both `units_of`, and O(n e) for n crates and e links or features of both.
     pub fn difference<'m>(
         &self,
-        first: &'m Metadata,
-        second: &'m Metadata,
+        old: &'m Metadata,
+        new: &'m Metadata,
     ) -> Result<Report, BuildReportError> {
-        let ids = (admit(self.alloc, first)?, admit(self.alloc, second)?);
-        let (first, second) = self.documents((first, second), &ids)?;
-        self.difference_of(first, second)
+        let ids = (admit(self.alloc, old)?, admit(self.alloc, new)?);
+        let (old, new) = self.documents((old, new), &ids)?;
+        self.difference_of(old, new)
     }
 
     /// Both documents, whose ids are read.
@@ -89,45 +93,59 @@ impl<'a> BuildReporter<'a> {
         Ok((first, second))
     }
 
-    /// What differs between the builds of two documents.
+    /// What went and what came between the builds of two documents.
     fn difference_of<'d>(
         &self,
-        first: Document<'d>,
-        second: Document<'d>,
+        old: Document<'d>,
+        new: Document<'d>,
     ) -> Result<Report, BuildReportError>
     where
         'a: 'd,
     {
-        match self.build(first, self.setting) {
-            Ok(first) => self.difference_from(&first, second),
+        match self.build(old, self.second) {
+            Ok(old) => self.difference_from(&old, new),
             Err(refusal) => {
-                drop(second);
+                drop(new);
                 Err(refusal)
             }
         }
     }
 
-    /// What differs between a build and that of another document.
+    /// What went and what came between a build and that of a document.
     fn difference_from<'d>(
         &self,
-        first: &Build<'d>,
-        second: Document<'d>,
+        old: &Build<'d>,
+        new: Document<'d>,
     ) -> Result<Report, BuildReportError>
     where
         'a: 'd,
     {
-        let second = self.build(second, self.second)?;
-        self.difference_between(first, &second)
+        let new = self.build(new, self.setting)?;
+        self.difference_between(old, &new)
     }
 
-    /// What differs between two builds.
+    /// What went and what came between two builds. With an exit code it is a no where anything did.
     fn difference_between(
         &self,
-        first: &Build<'_>,
-        second: &Build<'_>,
+        old: &Build<'_>,
+        new: &Build<'_>,
     ) -> Result<Report, BuildReportError> {
-        let answer = BuildDifference::between(self.alloc, first, second)?;
-        Ok(yes(self.text(&answer)?))
+        let answer = BuildDifference::between(self.alloc, old, new)?;
+        Ok(Report {
+            text: self.text(&answer)?,
+            is_yes: !self.has_exit_code() || answer.is_empty(),
+        })
+    }
+
+    /// Whether a difference is a no.
+    fn has_exit_code(&self) -> bool {
+        matches!(
+            &self.asked.word,
+            Word::Diff {
+                exit_code: true,
+                ..
+            }
+        )
     }
 
     /// What is printed of a document. It is refused as `Document` where that can't be admitted, as `NotBuilt` or `Lost` where it isn't said what
@@ -146,7 +164,7 @@ impl<'a> BuildReporter<'a> {
         'a: 'd,
     {
         match &self.asked.word {
-            Word::Uses | Word::Sbom => self.beside_all(document),
+            Word::Uses | Word::Sbom { .. } => self.beside_all(document),
             _ => self.about_one(document),
         }
     }
@@ -254,8 +272,8 @@ impl<'a> BuildReporter<'a> {
             Word::List { side, ids, units } => self.list(build, *side, *ids, *units),
             Word::Duplicates => self.duplicates(build),
             Word::Licences => self.licences(build),
-            Word::Tree { spec } => self.tree_below(build, spec.as_ref()),
-            Word::Dependents { spec } => self.tree_above(build, spec.as_str()),
+            Word::Tree { spec, words } => self.tree_below(build, spec.as_ref(), words),
+            Word::Dependents { spec, words } => self.tree_above(build, spec.as_str(), words),
             Word::Why { spec, steps } => self.why(build, spec.as_str(), *steps),
             Word::Features { spec } => self.features(build, spec.as_str()),
             Word::Unreachable { spec, side } => self.unbuilt(build, spec.as_str(), *side),
@@ -303,24 +321,69 @@ impl<'a> BuildReporter<'a> {
         &self,
         build: &Build<'_>,
         spec: Option<&String>,
+        words: &TreeWords,
     ) -> Result<Report, BuildReportError> {
         let roots = match spec {
             Some(spec) => self.root(build, spec.as_str())?,
             None => build.asked(self.alloc)?,
         };
-        let crates = build.crates(self.alloc)?;
-        let links = build.links_by_kind(self.alloc, false);
-        let answer = Tree::of(self.alloc, crates, links, &roots)?;
-        Ok(yes(self.text(&answer)?))
+        let links = build.links_by_kind(self.alloc, false)?;
+        self.tree(build, links, &roots, words)
     }
 
     /// The tree of those that need a crate.
-    fn tree_above(&self, build: &Build<'_>, spec: &str) -> Result<Report, BuildReportError> {
+    fn tree_above(
+        &self,
+        build: &Build<'_>,
+        spec: &str,
+        words: &TreeWords,
+    ) -> Result<Report, BuildReportError> {
         let roots = self.root(build, spec)?;
+        let links = build.links_by_kind(self.alloc, true)?;
+        self.tree(build, links, &roots, words)
+    }
+
+    /// The tree of what these links lead to, below roots, as the words draw it.
+    fn tree(
+        &self,
+        build: &Build<'_>,
+        links: DirectLinks,
+        roots: &[NodeId],
+        words: &TreeWords,
+    ) -> Result<Report, BuildReportError> {
+        let links = self.without_pruned(build, links, words)?;
+        let features = self.features_in(build, words)?;
         let crates = build.crates(self.alloc)?;
-        let links = build.links_by_kind(self.alloc, true);
-        let answer = Tree::of(self.alloc, crates, links, &roots)?;
+        let tree = Tree::drawn_by(self.alloc, crates, Ok(links), roots, words)?;
+        let answer = DrawnTree {
+            tree,
+            words,
+            features,
+        };
         Ok(yes(self.text(&answer)?))
+    }
+
+    /// The links but those to crates that are left out of a tree.
+    fn without_pruned(
+        &self,
+        build: &Build<'_>,
+        links: DirectLinks,
+        words: &TreeWords,
+    ) -> Result<DirectLinks, BuildReportError> {
+        let mut pruned = Vec::new(self.alloc);
+        for spec in &words.pruned {
+            pruned.extend(self.root(build, spec.as_str())?)?;
+        }
+        Ok(without(self.alloc, links, &pruned)?)
+    }
+
+    /// The features of each crate, where the format of a tree has them.
+    fn features_in(&self, build: &Build<'_>, words: &TreeWords) -> Result<Vec<String>, AllocError> {
+        if words.has_features() {
+            build.features(self.alloc)
+        } else {
+            Ok(Vec::new(self.alloc))
+        }
     }
 
     /// The position of the crate that a word means, as a list.
@@ -368,14 +431,29 @@ impl<'a> BuildReporter<'a> {
         Ok(yes(self.text(&answer)?))
     }
 
-    /// Whether it is certain that a package isn't built.
+    /// Whether it is certain that a package isn't built. One that the document lacks can't be.
     fn unbuilt(
         &self,
         build: &Build<'_>,
         spec: &str,
         side: Option<BuildSide>,
     ) -> Result<Report, BuildReportError> {
-        let package = build.any(self.alloc, spec)?;
+        match build.any(self.alloc, spec) {
+            Ok(package) => self.unbuilt_package(build, package, side),
+            Err(NamingError::Unknown { word, near }) => {
+                Ok(yes(self.text(&Absent { word, near })?))
+            }
+            Err(cause) => Err(BuildReportError::from(cause)),
+        }
+    }
+
+    /// The same for a package of the document.
+    fn unbuilt_package(
+        &self,
+        build: &Build<'_>,
+        package: &Package,
+        side: Option<BuildSide>,
+    ) -> Result<Report, BuildReportError> {
         let facts = build.units.derived().facts(self.alloc)?;
         check_built_closed(self.alloc, build.tables(), &facts)?;
         let is_certain = !is_built(build, package, side);
@@ -413,8 +491,8 @@ impl<'a> BuildReporter<'a> {
     fn with_all(&self, built: &BuiltCrates, all: &Build<'_>) -> Result<Report, BuildReportError> {
         let used = build_uses(self.alloc, built, &all.built)?;
         match &self.asked.word {
-            Word::Sbom => {
-                let bill = bill_of(self.alloc, all, &used)?;
+            Word::Sbom { words } => {
+                let bill = bill_of(self.alloc, all, &used, words)?;
                 Ok(yes(bill.text(self.alloc)?))
             }
             _ => {

@@ -5,29 +5,29 @@ use krates_units::{BuildSetting, PackageSelection, Resolver, TargetFlags};
 use serde_json::Value;
 use std::alloc::{AllocError, Global};
 
-/// What JSON says of an answer about a build: `rules`, which is `build`; what the `build` is asked for; and the `answer`.
+/// What JSON says of an answer about a build: the `version` of its form; `rules`, which is `build`; what the `build` is asked for; and the `answer`.
 pub(crate) fn of_build(
     alloc: Global,
     setting: &BuildSetting,
     answer: Result<Value, AllocError>,
 ) -> Result<Value, AllocError> {
-    JsonObject::new(alloc)
+    JsonObject::versioned(alloc)
         .text("rules", "build")
         .put("build", setting_json(alloc, setting))
         .put("answer", answer)
         .object()
 }
 
-/// The same of an answer about two builds, of which the second is the `other_build`.
+/// The same of an answer about two builds, of which the second is that of the document of before, the `old_build`.
 pub(crate) fn of_two_builds(
     alloc: Global,
     settings: (&BuildSetting, &BuildSetting),
     answer: Result<Value, AllocError>,
 ) -> Result<Value, AllocError> {
-    JsonObject::new(alloc)
+    JsonObject::versioned(alloc)
         .text("rules", "build")
         .put("build", setting_json(alloc, settings.0))
-        .put("other_build", setting_json(alloc, settings.1))
+        .put("old_build", setting_json(alloc, settings.1))
         .put("answer", answer)
         .object()
 }

@@ -1,6 +1,8 @@
 //! Why there is no yes.
 
 use krates_build_verdict::BuildRefusal;
+use krates_checkers::CheckError;
+use krates_host::status::{NO, NO_ANSWER};
 use krates_verdict::Refusal;
 use std::alloc::AllocError;
 
@@ -25,6 +27,42 @@ pub(crate) enum CheckFailure {
     /// Memory ran out.
     #[error("out of memory")]
     Memory,
+}
+
+impl CheckFailure {
+    /// The status with which the program ends: that of a no where the certificate is refused, and that of no answer where the document, a
+    /// request, a machine, a stream or memory is at fault.
+    pub(crate) fn status(&self) -> u8 {
+        let is_no = match self {
+            CheckFailure::Host(_) | CheckFailure::Memory => false,
+            CheckFailure::Refused(cause) => is_of_certificate(cause),
+            CheckFailure::Build(cause) => is_of_build_certificate(cause),
+            CheckFailure::OfKrates | CheckFailure::OfBuild => true,
+        };
+        if is_no { NO } else { NO_ANSWER }
+    }
+}
+
+/// Whether the certificate is at fault.
+fn is_of_certificate(cause: &Refusal) -> bool {
+    !matches!(
+        cause,
+        Refusal::Read(_)
+            | Refusal::Check(CheckError::Document | CheckError::Memory)
+            | Refusal::Write(_)
+            | Refusal::Memory
+    )
+}
+
+/// Whether the certificate of a build is at fault.
+fn is_of_build_certificate(cause: &BuildRefusal) -> bool {
+    !matches!(
+        cause,
+        BuildRefusal::Document(_)
+            | BuildRefusal::Unanswered(_)
+            | BuildRefusal::Lost(_)
+            | BuildRefusal::Memory
+    )
 }
 
 impl From<AllocError> for CheckFailure {

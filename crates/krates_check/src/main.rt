@@ -2,8 +2,8 @@
 //! what it says and without a graph. It is one of what cargo builds, or with `--by krates` of the graph of the Rust crate krates.
 //! `krates_check --help` lists the options.
 //!
-//! The status is 0 where the certificate holds, which is printed with what it says; 1 where it doesn't, or where there is nothing to check;
-//! and 2 where the words are wrong.
+//! The status is 0 where the certificate holds, which is printed with what it says; 1 where it is refused; 2 where the words are wrong; and 3
+//! where there is no answer, since the document, a machine, a stream or memory is at fault.
 #![tactic(auto)]
 
 mod failure;
@@ -14,16 +14,16 @@ use crate::kinds::{is_by_build, is_by_krates};
 use krates_build_verdict::judge_bytes;
 use krates_cm::Metadata;
 use krates_host::build::build_setting;
-use krates_host::program::{NO, print, refuse_asked, refuse_words, words_of};
-use krates_host::{Inputs, document, said, targets};
+use krates_host::program::{refuse_asked, refuse_words, words_of};
+use krates_host::{Inputs, Shell, document, targets};
 use krates_verdict::run_under;
 use krates_words::{BuildWords, CheckWords, Choice, Rules, check_words_of};
 use std::process::ExitCode;
 
 /// Checks the certificate in standard input, and prints what it says where it holds; returns the status.
-fn check(rt: &HostRuntime, asked: CheckWords) -> Result<ExitCode, CheckFailure> {
+fn check(shell: Shell<'_>, asked: CheckWords) -> Result<ExitCode, CheckFailure> {
     let inputs = Inputs {
-        rt,
+        shell,
         max_bytes: asked.max_bytes,
     };
     let CheckWords {
@@ -46,18 +46,18 @@ fn by_krates(
     choice.targets = targets::targets_of(inputs, &choice)?;
     let certificate = inputs.bytes_in_standard_input("a certificate")?;
     let metadata = document::in_file(inputs, file)?;
-    said::note_krates(inputs.rt);
+    inputs.shell.note_krates();
     let told = run_under(
-        inputs.rt.alloc(),
+        inputs.alloc(),
         &choice,
         &metadata,
         &mut certificate.as_slice(),
-        &mut inputs.rt.stdout(),
+        &mut inputs.shell.rt.stdout(),
     );
     metadata.let_go();
     match told {
         Ok(()) => Ok(ExitCode::SUCCESS),
-        Err(_) if is_by_build(inputs.rt.alloc(), &certificate) => Err(CheckFailure::OfBuild),
+        Err(_) if is_by_build(inputs.alloc(), &certificate) => Err(CheckFailure::OfBuild),
         Err(refusal) => Err(CheckFailure::Refused(refusal)),
     }
 }
@@ -69,8 +69,8 @@ fn by_build(inputs: &Inputs<'_>, words: &BuildWords, file: &str) -> Result<ExitC
     let told = judged(inputs, words, &metadata, &certificate);
     metadata.let_go();
     match told {
-        Ok(line) => Ok(print(inputs.rt, line.as_str(), true)),
-        Err(_) if is_by_krates(inputs.rt.alloc(), &certificate) => Err(CheckFailure::OfKrates),
+        Ok(line) => Ok(inputs.shell.print(line.as_str(), true)),
+        Err(_) if is_by_krates(inputs.alloc(), &certificate) => Err(CheckFailure::OfKrates),
         Err(failure) => Err(failure),
     }
 }
@@ -83,8 +83,8 @@ fn judged(
     certificate: &[u8],
 ) -> Result<String, CheckFailure> {
     let build = build_setting(inputs, words, metadata)?;
-    build.note(inputs.rt)?;
-    Ok(judge_bytes(inputs.rt.alloc(), metadata, &build.setting, certificate)?)
+    build.note(&inputs.shell)?;
+    Ok(judge_bytes(inputs.alloc(), metadata, &build.setting, certificate)?)
 }
 
 /// Does what the words say.
@@ -93,11 +93,16 @@ fn answer(rt: &HostRuntime, words: &[String]) -> ExitCode {
         Ok(asked) => asked,
         Err(error) => return refuse_asked(rt, &error),
     };
-    match check(rt, asked) {
+    let shell = Shell {
+        rt,
+        words: asked.shell,
+    };
+    match check(shell, asked) {
         Ok(status) => status,
         Err(failure) => {
-            said::error(rt, failure);
-            ExitCode::from(NO)
+            let status = failure.status();
+            shell.error(failure);
+            ExitCode::from(status)
         }
     }
 }

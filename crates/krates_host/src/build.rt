@@ -8,7 +8,7 @@ use crate::failure::Failure;
 use crate::inputs::Inputs;
 use crate::machines::{DescribedMachine, DescribedMachines, host_of, targets_of};
 use crate::resolver::{ResolverSource, resolver_of};
-use crate::said;
+use crate::shell::Shell;
 use krates_cm::Metadata;
 use krates_shown::Shown;
 use krates_text::text::Text;
@@ -56,21 +56,20 @@ pub fn build_setting(
 impl AskedBuild {
     /// Says by which rules an answer is: those of a build, with its resolver and what says so, the machine that builds, the machines that it is for,
     /// and the options that say what else it is asked for. The only error is running out of memory. Time O(length of what it is asked for).
-    pub fn note(&self, rt: &HostRuntime) -> Result<(), Failure> {
-        let text = self.note_text(rt.alloc())?;
-        said::note(rt, text);
+    pub fn note(&self, shell: &Shell<'_>) -> Result<(), Failure> {
+        let text = self.note_text(shell.rt.alloc())?;
+        shell.note(text);
         Ok(())
     }
 
-    /// Says that the build of another document has another resolver, if it has. Time O(1).
-    pub fn note_other(&self, rt: &HostRuntime, other: &AskedBuild) {
-        if self.setting.resolver != other.setting.resolver {
-            let version = resolver_name(other.setting.resolver);
-            let source = source_text(other.resolver_source);
-            said::note(
-                rt,
-                format_args!("by build of the other document: resolver {version} ({source})"),
-            );
+    /// Says that the build of the document of before has another resolver, if it has. Time O(1).
+    pub fn note_old(&self, shell: &Shell<'_>, old: &AskedBuild) {
+        if self.setting.resolver != old.setting.resolver {
+            let version = resolver_name(old.setting.resolver);
+            let source = source_text(old.resolver_source);
+            shell.note(format_args!(
+                "by build of the document of before: resolver {version} ({source})"
+            ));
         }
     }
 

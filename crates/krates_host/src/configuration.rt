@@ -2,7 +2,7 @@
 
 use crate::failure::Failure;
 use crate::inputs::variable;
-use crate::said;
+use crate::shell::Shell;
 use krates_shown::Shown;
 use std::alloc::AllocError;
 use std::{env, fs};
@@ -13,15 +13,12 @@ static NAMES: [&str; 2] = ["config", "config.toml"];
 /// Says of each file of configuration that cargo would read for a build here that it isn't looked at: those in the folder that this process is
 /// run in and in the folders above it, and the one in cargo's own (Cargo Book, "Configuration", "Hierarchical structure"). It is refused as
 /// `Variable`; it may instead return `Memory`. Time O(folders).
-pub fn note_files(rt: &HostRuntime) -> Result<(), Failure> {
-    for file in &files(rt)? {
-        said::note(
-            rt,
-            format_args!(
-                "{}: flags and overrides of cargo's configuration aren't looked at",
-                Shown(file.as_str())
-            ),
-        );
+pub fn note_files(shell: &Shell<'_>) -> Result<(), Failure> {
+    for file in &files(shell.rt)? {
+        shell.note(format_args!(
+            "{}: flags and overrides of cargo's configuration aren't looked at",
+            Shown(file.as_str())
+        ));
     }
     Ok(())
 }

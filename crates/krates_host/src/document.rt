@@ -2,6 +2,7 @@
 
 use crate::failure::Failure;
 use crate::inputs::{Inputs, STANDARD_INPUT, variable};
+use crate::printed::Errors;
 use krates_cargo::MetadataCommand;
 use krates_cm::{Error, Metadata};
 use krates_words::{Asked, CargoWords, Input, Word};
@@ -20,11 +21,11 @@ pub fn document(inputs: &Inputs<'_>, asked: &Asked) -> Result<Metadata, Failure>
     }
 }
 
-/// The document with which it is compared, where the word is for a comparison. It is refused, and takes time, as `document` does.
-pub fn other(inputs: &Inputs<'_>, word: &Word) -> Result<Option<Metadata>, Failure> {
+/// The document of before, where the word compares with one. It is refused, and takes time, as `document` does.
+pub fn old(inputs: &Inputs<'_>, word: &Word) -> Result<Option<Metadata>, Failure> {
     match word {
-        Word::Diff { other } if other.as_str() == "-" => Ok(Some(in_standard_input(inputs)?)),
-        Word::Diff { other } => Ok(Some(in_file(inputs, other)?)),
+        Word::Diff { old, .. } if old.as_str() == "-" => Ok(Some(in_standard_input(inputs)?)),
+        Word::Diff { old, .. } => Ok(Some(in_file(inputs, old)?)),
         _ => Ok(None),
     }
 }
@@ -56,18 +57,19 @@ fn parsed(alloc: Global, file: &str, text: &str) -> Result<Metadata, Failure> {
 
 /// The document that cargo writes.
 fn of_cargo(inputs: &Inputs<'_>, words: &CargoWords) -> Result<Metadata, Failure> {
-    let program = variable(inputs.rt, "CARGO")?;
+    let program = variable(inputs.shell.rt, "CARGO")?;
     let mut command = words
         .command(inputs.alloc())?
         .cargo_command(program.as_deref())?;
-    let output = inputs.printed_by(&mut command, WITHOUT_CARGO)?;
+    let output = inputs.printed_by(&mut command, WITHOUT_CARGO, Errors::Said)?;
     read(inputs.alloc(), &output)
 }
 
 /// The document in what cargo printed.
 fn read(alloc: Global, output: &Output) -> Result<Metadata, Failure> {
     if !output.status.success() {
-        return Err(Failure::of_program(alloc, "cargo metadata", output)?);
+        // it has said why
+        return Err(Failure::of_program(alloc, "cargo metadata", output.status, &[])?);
     }
     let found = MetadataCommand::interpret(alloc, true, &output.stdout, &output.stderr);
     Ok(found?)

@@ -5,7 +5,7 @@ use krates_manifest::ManifestError;
 use krates_shown::{Shown, ShownValue};
 use krates_units::MachineError;
 use std::alloc::{AllocError, AllocFailed, Global};
-use std::process::{ExitStatus, Output};
+use std::process::ExitStatus;
 use std::{fmt, io};
 
 /// Why there is no document, target, build or text. What comes from outside is printed as `Shown` shows it.
@@ -128,16 +128,17 @@ impl Failure {
         }
     }
 
-    /// The failure of a program that ended with one. Of what it wrote to standard error, U+FFFD stands for what isn't UTF-8.
+    /// The failure of a program that ended with this status, and wrote this to standard error, of which U+FFFD stands for what isn't UTF-8.
     pub(crate) fn of_program(
         alloc: Global,
         program: &str,
-        output: &Output,
+        status: ExitStatus,
+        errors: &[u8],
     ) -> Result<Failure, AllocError> {
-        let reason = reason_in(alloc, &output.stderr)?;
+        let reason = reason_in(alloc, errors)?;
         Ok(Failure::ProgramFailed {
             program: String::from_str(alloc, program)?,
-            status: output.status,
+            status,
             reason,
         })
     }

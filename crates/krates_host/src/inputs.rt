@@ -4,9 +4,10 @@ ghost use Rattle.std.specs.Prelude.{◌≤◌, IfOk, vec_len};
 ghost use Rattle.krates_host.specs.Running.{IsWithin};
 
 use crate::failure::Failure;
+use crate::printed::Errors;
 use crate::reading::{ReadFailure, read_whole};
 use crate::running::{RunFailure, run};
-use crate::said;
+use crate::shell::Shell;
 use std::alloc::Global;
 use std::env;
 use std::env::VarError;
@@ -20,16 +21,16 @@ pub(crate) static STANDARD_INPUT: &str = "standard input";
 /// Where a run reads, and how much.
 #[derive(Clone, Copy)]
 pub struct Inputs<'a> {
-    /// The machine.
-    pub rt: &'a HostRuntime,
+    /// How it talks to people, and the machine.
+    pub shell: Shell<'a>,
     /// The most bytes that are read of a file, of standard input, or of a stream of a program.
     pub max_bytes: u64,
 }
 
 impl Inputs<'_> {
     /// What the run allocates by.
-    pub(crate) fn alloc(&self) -> Global {
-        self.rt.alloc()
+    pub fn alloc(&self) -> Global {
+        self.shell.rt.alloc()
     }
 
     /// The bytes in standard input up to its end. If someone has to type them, a note says what is read.
@@ -39,10 +40,11 @@ impl Inputs<'_> {
     pub fn bytes_in_standard_input(&self, what: &str) -> Result<Vec<u8>, Failure>
         ensures within { IfOk result (λ bytes. vec_len bytes ≤ self.now.max_bytes) }
     {
-        if self.rt.stdin().is_terminal() {
-            said::note(self.rt, format_args!("reading {what} from standard input"));
+        if self.shell.rt.stdin().is_terminal() {
+            self.shell
+                .note(format_args!("reading {what} from standard input"));
         }
-        let mut input = self.rt.reader();
+        let mut input = self.shell.rt.reader();
         match read_whole(self.alloc(), &mut input, self.max_bytes) {
             Ok(bytes) => Ok(bytes),
             Err(cause) => Err(self.unread(STANDARD_INPUT, cause)),
@@ -67,21 +69,22 @@ impl Inputs<'_> {
     fn bytes_in(&self, path: &str) -> Result<Vec<u8>, ReadFailure>
         ensures within { IfOk result (λ bytes. vec_len bytes ≤ self.now.max_bytes) }
     {
-        match File::open(self.rt, path) {
+        match File::open(self.shell.rt, path) {
             Ok(mut file) => read_whole(self.alloc(), &mut file, self.max_bytes),
             Err(cause) => Err(ReadFailure::Failed(cause)),
         }
     }
 
-    /// What a program prints, and how it ends. If it can't be run, it is refused with this advice.
+    /// What a program prints, and how it ends. If it can't be run, it is refused with this advice. What it prints to standard error is kept or said.
     pub(crate) fn printed_by(
         &self,
         command: &mut Command,
         advice: &'static str,
+        errors: Errors,
     ) -> Result<Output, Failure>
         ensures within { IfOk result (IsWithin self.now.max_bytes) }
     {
-        match run(self.rt, command, self.max_bytes) {
+        match run(self.shell.rt, command, self.max_bytes, errors) {
             Ok(output) => Ok(output),
             Err(RunFailure::NotRead(cause)) => {
                 let program = command.get_program();

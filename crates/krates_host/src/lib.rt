@@ -2,6 +2,7 @@
 #![tactic(auto)]
 
 pub mod build;
+mod colours;
 pub mod configuration;
 pub mod document;
 pub mod failure;
@@ -14,8 +15,10 @@ mod reading;
 pub mod resolver;
 mod running;
 mod rustc;
-pub mod said;
+pub mod shell;
+pub mod status;
 pub mod targets;
 
 pub use failure::Failure;
 pub use inputs::Inputs;
+pub use shell::Shell;

@@ -37,7 +37,7 @@ pub fn targets_of(inputs: &Inputs<'_>, words: &BuildWords) -> Result<DescribedMa
     ensures triples { IfOk result (λ described. HaveTriples (map string_bytes words.now.triples.items)
         (map machine_view described.machines.items)) }
 {
-    let flags = flags::of_environment(inputs.rt)?;
+    let flags = flags::of_environment(inputs.shell.rt)?;
     let mut files = words.cfgs.iter();
     let mut machines = Vec::new(inputs.alloc());
     let mut cfgs = Vec::new(inputs.alloc());
@@ -61,7 +61,7 @@ pub fn host_of(inputs: &Inputs<'_>, words: &BuildWords) -> Result<DescribedMachi
         None => rustc::host(inputs)?,
     };
     let flags = if words.triples.is_empty() {
-        flags::of_environment(inputs.rt)?
+        flags::of_environment(inputs.shell.rt)?
     } else {
         Vec::new(inputs.alloc())
     };

@@ -3,6 +3,7 @@
 ghost use Rattle.std.specs.Prelude.{ℕ, ◌≡◌, ◌≤◌, IfOk, vec_len};
 
 use crate::reading::{ReadFailure, read_more};
+use krates_shown::Shown;
 use libc::net::{POLLIN, poll};
 use libc::types::pollfd;
 use std::alloc::Global;
@@ -68,11 +69,22 @@ impl<R: Read + AsRawFd> Stream<R> {
     }
 }
 
+/// What becomes of what a program prints to standard error.
+#[derive(Clone, Copy, PartialEq, Eq)]
+pub(crate) enum Errors {
+    /// It is kept, and nothing is said of it.
+    Kept,
+    /// Each line is said as soon as it has come.
+    Said,
+}
+
 /// Both streams of a program.
 #[derive(Drop)]
 pub(crate) struct Printed {
     stdout: Stream<ChildStdout>,
     stderr: Stream<ChildStderr>,
+    /// How many bytes of standard error are said.
+    said: usize,
 }
 
 impl Printed {
@@ -85,20 +97,25 @@ impl Printed {
         Printed {
             stdout: Stream::new(alloc, stdout, max),
             stderr: Stream::new(alloc, stderr, max),
+            said: 0,
         }
     }
 
     /// All that comes, up to the limit.
-    pub(crate) fn collect(mut self) -> Result<(Vec<u8>, Vec<u8>), ReadFailure>
+    pub(crate) fn collect(
+        mut self,
+        rt: &HostRuntime,
+        errors: Errors,
+    ) -> Result<(Vec<u8>, Vec<u8>), ReadFailure>
         ensures { (max : ℕ) → HasLimit max self → IfOk result (AreWithin max) }
     {
-        self.read_both()?;
-        let Printed { stdout, stderr } = self;
+        self.read_both(rt, errors)?;
+        let Printed { stdout, stderr, .. } = self;
         Ok((stdout.into_bytes(), stderr.into_bytes()))
     }
 
     /// Reads both to their ends by turns, since a program that waits on a full stream never ends the other.
-    fn read_both(&mut self) -> Result<(), ReadFailure>
+    fn read_both(&mut self, rt: &HostRuntime, errors: Errors) -> Result<(), ReadFailure>
         ensures { (max : ℕ) → HasLimit max self.old → HasLimit max self.new }
     {
         for _ in 0..u64::MAX {
@@ -106,6 +123,7 @@ impl Printed {
                 return Ok(());
             }
             self.read_some()?;
+            self.say(rt, errors);
         }
         Err(ReadFailure::Failed(io::Error::from(ErrorKind::TimedOut)))
     }
@@ -121,5 +139,36 @@ impl Printed {
             self.stderr.read_if(questions[1].revents != 0)?;
         }
         Ok(())
+    }
+    /// Says the lines of standard error that have come and aren't said yet, if they are to be said, and at its end the rest.
+    fn say(&mut self, rt: &HostRuntime, errors: Errors)
+        ensures { (max : ℕ) → HasLimit max self.old → HasLimit max self.new }
+    {
+        if errors == Errors::Said {
+            let stderr = &self.stderr;
+            self.said = say_lines(rt, &stderr.bytes, self.said, stderr.has_ended);
+        }
+    }
+}
+
+/// Says the lines behind the first of these bytes, with those at the end that no line feed ends only where no more comes, and returns how many
+/// bytes are said. A line is said as `Shown` shows it behind the program's name, so that it can't be taken for one of ours. If memory runs out
+/// it isn't said.
+fn say_lines(rt: &HostRuntime, bytes: &[u8], said: usize, is_whole: bool) -> usize {
+    let mut said = said;
+    let rest = bytes.get(said..).unwrap_or(&[]);
+    for line in rest.split_inclusive(|byte| *byte == b'\n') {
+        if is_whole || line.ends_with(b"\n") {
+            said = said.saturating_add(line.len());
+            say_line(rt, line);
+        }
+    }
+    said
+}
+
+/// Says a line.
+fn say_line(rt: &HostRuntime, line: &[u8]) {
+    if let Ok(text) = String::from_utf8_lossy(rt.alloc(), line) {
+        let _ = eprintln!(rt; "cargo: {}", Shown(text.trim_end()));
     }
 }

@@ -3,9 +3,8 @@
 ghost use Rattle.std.specs.Prelude.{IfOk};
 ghost use Rattle.krates_host.specs.Running.{AreWithin, IsWithin};
 
-use crate::printed::Printed;
+use crate::printed::{Errors, Printed};
 use crate::reading::ReadFailure;
-use std::alloc::Global;
 use std::io;
 use std::process::{Child, Command, Output, Stdio};
 
@@ -26,7 +25,12 @@ impl From<io::Error> for RunFailure {
 
 /// Runs a program, which has nothing to read, to its end. Standard output and standard error are each collected up to the limit; a program
 /// that prints more is killed, and it is refused as `NotRead` with `TooLong`.
-pub(crate) fn run(rt: &HostRuntime, command: &mut Command, max: u64) -> Result<Output, RunFailure>
+pub(crate) fn run(
+    rt: &HostRuntime,
+    command: &mut Command,
+    max: u64,
+    errors: Errors,
+) -> Result<Output, RunFailure>
     ensures within { IfOk result (IsWithin max) }
 {
     command
@@ -34,7 +38,7 @@ pub(crate) fn run(rt: &HostRuntime, command: &mut Command, max: u64) -> Result<O
         .stdout(Stdio::piped())
         .stderr(Stdio::piped());
     let mut child = command.spawn(rt)?;
-    match collect(rt.alloc(), &mut child, max) {
+    match collect(rt, &mut child, max, errors) {
         Ok((stdout, stderr)) => Ok(Output {
             status: child.wait()?,
             stdout,
@@ -55,12 +59,19 @@ fn stop(mut child: Child) {
 }
 
 /// What comes from a program, up to the limit for each.
-fn collect(alloc: Global, child: &mut Child, max: u64) -> Result<(Vec<u8>, Vec<u8>), ReadFailure>
+fn collect(
+    rt: &HostRuntime,
+    child: &mut Child,
+    max: u64,
+    errors: Errors,
+) -> Result<(Vec<u8>, Vec<u8>), ReadFailure>
     ensures within { IfOk result (AreWithin max) }
 {
     match (child.stdout.take(), child.stderr.take()) {
-        (Some(stdout), Some(stderr)) => Printed::new(alloc, stdout, stderr, max).collect(),
+        (Some(stdout), Some(stderr)) => {
+            Printed::new(rt.alloc(), stdout, stderr, max).collect(rt, errors)
+        }
         // no program that `run` starts
-        _ => Ok((Vec::new(alloc), Vec::new(alloc))),
+        _ => Ok((Vec::new(rt.alloc()), Vec::new(rt.alloc()))),
     }
 }

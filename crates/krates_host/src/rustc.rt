@@ -5,6 +5,7 @@ ghost use Rattle.std.specs.Process.{command_args, command_dir, command_program};
 
 use crate::failure::Failure;
 use crate::inputs::{Inputs, text_of, variable};
+use crate::printed::Errors;
 use std::alloc::{AllocError, Global};
 use std::process::{Command, Output};
 
@@ -17,7 +18,7 @@ pub(crate) fn description(
     triple: &str,
     flags: &[String],
 ) -> Result<String, Failure> {
-    let rustc = program(inputs.rt)?;
+    let rustc = program(inputs.shell.rt)?;
     description_by(inputs, rustc.as_str(), triple, flags)
 }
 
@@ -29,7 +30,7 @@ fn description_by(
     flags: &[String],
 ) -> Result<String, Failure> {
     let mut command = description_command(inputs.alloc(), rustc, triple, flags)?;
-    let output = inputs.printed_by(&mut command, WITHOUT_RUSTC)?;
+    let output = inputs.printed_by(&mut command, WITHOUT_RUSTC, Errors::Kept)?;
     if output.status.success() {
         text_of(inputs.alloc(), rustc, output.stdout)
     } else {
@@ -39,7 +40,7 @@ fn description_by(
 
 /// The triple of the machine for which rustc itself is built.
 pub(crate) fn host(inputs: &Inputs<'_>) -> Result<String, Failure> {
-    let rustc = program(inputs.rt)?;
+    let rustc = program(inputs.shell.rt)?;
     let text = version(inputs, rustc.as_str())?;
     host_in(inputs.alloc(), rustc.as_str(), text.as_str())
 }
@@ -47,11 +48,11 @@ pub(crate) fn host(inputs: &Inputs<'_>) -> Result<String, Failure> {
 /// What this rustc prints about itself.
 fn version(inputs: &Inputs<'_>, rustc: &str) -> Result<String, Failure> {
     let mut command = version_command(inputs.alloc(), rustc)?;
-    let output = inputs.printed_by(&mut command, WITHOUT_RUSTC)?;
+    let output = inputs.printed_by(&mut command, WITHOUT_RUSTC, Errors::Kept)?;
     if output.status.success() {
         text_of(inputs.alloc(), rustc, output.stdout)
     } else {
-        Err(Failure::of_program(inputs.alloc(), rustc, &output)?)
+        Err(Failure::of_program(inputs.alloc(), rustc, output.status, &output.stderr)?)
     }
 }
 
@@ -132,7 +133,7 @@ fn refusal(
             triple: String::from_str(alloc, triple)?,
             reason: String::from_str(alloc, reason)?,
         }),
-        _ => Failure::of_program(alloc, program, output),
+        _ => Failure::of_program(alloc, program, output.status, &output.stderr),
     }
 }
 

@@ -3,8 +3,9 @@
 
 use krates::Metadata;
 use krates_host::build::build_setting;
-use krates_host::program::{print, words_of};
-use krates_host::{Failure, Inputs, document, said, targets};
+use krates_host::program::words_of;
+use krates_host::status::{NO, NO_ANSWER};
+use krates_host::{Failure, Inputs, Shell, document, targets};
 use krates_report::Reporter;
 use krates_samples::stand_in::DOCUMENT;
 use krates_words::{Asked, CheckWords, Rules, asked_of, check_words_of};
@@ -112,34 +113,49 @@ fn write_lines(rt: &HostRuntime, count: u64) -> io::Result<()> {
 }
 
 /// Prints an answer as the programs do, and then to standard error with which status they end.
-fn print_answer(rt: &HostRuntime, text: &str, is_yes: bool) -> io::Result<()> {
-    let status = print(rt, text, is_yes);
-    eprint!(rt; "status {}", u8::from(status != ExitCode::SUCCESS))
+fn print_answer(shell: &Shell<'_>, text: &str, is_yes: bool) -> io::Result<()> {
+    let status = shell.print(text, is_yes);
+    eprint!(shell.rt; "status {}", number_of(status))
+}
+
+/// The number of the status of an answer.
+fn number_of(status: ExitCode) -> u8 {
+    if status == ExitCode::SUCCESS {
+        0
+    } else if status == ExitCode::from(NO) {
+        NO
+    } else {
+        NO_ANSWER
+    }
 }
 
 /// Acts as `cargo krates` with these words.
 fn answer(rt: &HostRuntime, words: &[String]) -> Result<(), Fail> {
     let mut asked = asked_of(rt.alloc(), words)?;
-    let answered = answer_to(rt, &mut asked);
+    let shell = Shell {
+        rt,
+        words: asked.shell,
+    };
+    let answered = answer_to(shell, &mut asked);
     drop(asked);
     answered
 }
 
 /// Prints what is answered, or says why nothing is.
-fn answer_to(rt: &HostRuntime, asked: &mut Asked) -> Result<(), Fail> {
-    match document_for(rt, asked) {
-        Ok(document) => report(rt, asked, document),
+fn answer_to(shell: Shell<'_>, asked: &mut Asked) -> Result<(), Fail> {
+    match document_for(shell, asked) {
+        Ok(document) => report(&shell, asked, document),
         Err(failure) => {
-            said::error(rt, failure);
+            shell.error(failure);
             Ok(())
         }
     }
 }
 
 /// The document that is asked about, of which the targets are known too.
-fn document_for(rt: &HostRuntime, asked: &mut Asked) -> Result<Metadata, Failure> {
+fn document_for(shell: Shell<'_>, asked: &mut Asked) -> Result<Metadata, Failure> {
     let inputs = Inputs {
-        rt,
+        shell,
         max_bytes: asked.max_bytes,
     };
     if let Rules::Krates(choice) = &mut asked.rules {
@@ -158,42 +174,43 @@ fn document_for(rt: &HostRuntime, asked: &mut Asked) -> Result<Metadata, Failure
 /// Looks up what a build is asked for, if the answer is about one, and says it.
 fn described(inputs: &Inputs<'_>, rules: &Rules, document: &Metadata) -> Result<(), Failure> {
     if let Rules::Build(words) = rules {
-        build_setting(inputs, words, document)?.note(inputs.rt)?;
+        build_setting(inputs, words, document)?.note(&inputs.shell)?;
     }
     Ok(())
 }
 
 /// Prints what is answered about a document.
-fn report(rt: &HostRuntime, asked: &Asked, document: Metadata) -> Result<(), Fail> {
+fn report(shell: &Shell<'_>, asked: &Asked, document: Metadata) -> Result<(), Fail> {
     let choice = match &asked.rules {
         Rules::Krates(choice) => choice,
         Rules::Build(_) => {
             document.let_go();
-            return Ok(print_answer(rt, "described\n", true)?);
+            return Ok(print_answer(shell, "described\n", true)?);
         }
     };
-    let report = Reporter::new(rt.alloc(), asked, choice).answer(document, None)?;
-    Ok(print_answer(rt, report.text.as_str(), report.is_yes)?)
+    let report = Reporter::new(shell.rt.alloc(), asked, choice).answer(document, None)?;
+    Ok(print_answer(shell, report.text.as_str(), report.is_yes)?)
 }
 
 /// Acts as `krates_check` with these words, but only reads.
 fn check(rt: &HostRuntime, words: &[String]) -> Result<(), Fail> {
     let asked = check_words_of(rt.alloc(), words)?;
-    let is_read = read(rt, &asked);
+    let shell = Shell::new(rt);
+    let is_read = read(shell, &asked);
     drop(asked);
     match is_read {
-        Ok(()) => Ok(print_answer(rt, "read\n", true)?),
+        Ok(()) => Ok(print_answer(&shell, "read\n", true)?),
         Err(failure) => {
-            said::error(rt, failure);
+            shell.error(failure);
             Ok(())
         }
     }
 }
 
 /// Reads a certificate and a document.
-fn read(rt: &HostRuntime, asked: &CheckWords) -> Result<(), Failure> {
+fn read(shell: Shell<'_>, asked: &CheckWords) -> Result<(), Failure> {
     let inputs = Inputs {
-        rt,
+        shell,
         max_bytes: asked.max_bytes,
     };
     drop(inputs.bytes_in_standard_input("a certificate")?);

@@ -28,8 +28,8 @@ pub(crate) fn document_of(alloc: Global, line: &str) -> Result<Metadata, Fail> {
     }
 }
 
-/// The second document of a line, if there is one.
-fn other_of(alloc: Global, line: Option<&str>) -> Result<Option<Metadata>, Fail> {
+/// The document of before in a line, if there is one.
+fn old_of(alloc: Global, line: Option<&str>) -> Result<Option<Metadata>, Fail> {
     match line {
         Some(line) => Ok(Some(document_of(alloc, line)?)),
         None => Ok(None),
@@ -55,19 +55,19 @@ pub(crate) fn choice_of(asked: &Asked) -> Result<&Choice, Fail> {
 
 /// What is printed of documents, with a mark where it is a no; or why there is nothing.
 fn printed_of(alloc: Global, asked: &mut Asked, documents: &str) -> Result<String, Fail> {
-    let (first, second) = match documents.split_once(" // ") {
-        Some((first, second)) => (first, Some(second)),
-        None => (documents, None),
+    let (old, document) = match documents.split_once(" // ") {
+        Some((old, document)) => (Some(old), document),
+        None => (None, documents),
     };
     if let Rules::Krates(choice) = &mut asked.rules {
         add_targets(alloc, choice)?;
     }
     let choice = choice_of(asked)?;
-    let other = other_of(alloc, second)?;
-    let document = document_of(alloc, first)?;
+    let old = old_of(alloc, old)?;
+    let document = document_of(alloc, document)?;
     told_of(
         alloc,
-        Reporter::new(alloc, asked, choice).answer(document, other),
+        Reporter::new(alloc, asked, choice).answer(document, old),
     )
 }
 

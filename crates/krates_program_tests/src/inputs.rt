@@ -22,6 +22,12 @@ static PASSED: &str = "\ntest result: ok\n";
 /// What each test adds to what it says where it fails, as it is shown.
 static FAILED: &str = "\n    the test failed: its result gives status 1";
 
+/// The same where it acts as cargo, of which each line is said.
+static FAILED_AS_CARGO: &str = "cargo: the test failed: its result gives status 1\n";
+
+/// A line of the many that it writes as cargo.
+static LOUD: &str = "cargo: a line of what goes to standard error\n";
+
 /// What is listed of the document.
 const LISTED: &str = "a v0.1.0 (/w/a)\nb v0.1.0 (/w/b)\nstatus 0";
 
@@ -98,20 +104,20 @@ static BY_CARGO: &[Row] = &[
     ),
     (
         "krates list -F crash",
-        "error: `cargo metadata` failed (signal: 6 (SIGABRT)): no manifest\n",
+        "cargo: error: no manifest\nerror: `cargo metadata` failed (signal: 6 (SIGABRT))\n",
     ),
     (
         "krates list -F hostile",
-        "error: `cargo metadata` failed (signal: 6 (SIGABRT)): no \\u{1b}[2Kmanifest\n    error: no cargo\n",
+        "cargo: error: no \\u{1b}[2Kmanifest\ncargo: error: no cargo\nerror: `cargo metadata` failed (signal: 6 (SIGABRT))\n",
     ),
     (
         "krates list -F refuse",
-        "error: `cargo metadata` failed (exit status: 101): no manifest\n",
+        "cargo: error: no manifest\nerror: `cargo metadata` failed (exit status: 101)\n",
     ),
     // what isn't UTF-8 hides neither the status nor the rest
     (
         "krates list -F garbled",
-        "error: `cargo metadata` failed (signal: 6 (SIGABRT)): no \u{fffd}manifest\n",
+        "cargo: error: no \u{fffd}manifest\nerror: `cargo metadata` failed (signal: 6 (SIGABRT))\n",
     ),
     (
         "krates list -F silent",
@@ -195,6 +201,35 @@ static BY_BUILD: &[Row] = &[
     (
         "krates list --resolver 3 -p a -F x,y --no-default-features --tests --host odd --host-cfg ROOM/odd.cfg --target odd --cfg ROOM/odd.cfg --metadata ROOM/document.json",
         "described\nnote: by build: resolver 3 (of --resolver), built on odd for odd, with --package=a --tests --features=x --features=y --no-default-features\nstatus 0",
+    ),
+    // without notes, and in colours
+    (
+        "krates list --quiet --resolver 2 --host odd --host-cfg ROOM/odd.cfg --metadata ROOM/document.json",
+        "described\nstatus 0",
+    ),
+    (
+        "krates list --color always --resolver 2 --host odd --host-cfg ROOM/odd.cfg --metadata ROOM/document.json",
+        "described\n\u{1b}[1;33mnote\u{1b}[0m: by build: resolver 2 (of --resolver), built on and for odd\nstatus 0",
+    ),
+    (
+        "krates list --color always --metadata ROOM/none.json --by krates",
+        "\u{1b}[1;31merror\u{1b}[0m: ROOM/none.json: No such file or directory (os error 2)\n",
+    ),
+    (
+        "krates list --color always --metadata ROOM/document.json --by krates",
+        "\u{1b}[1ma\u{1b}[0m v0.1.0 (/w/a)\n\u{1b}[1mb\u{1b}[0m v0.1.0 (/w/b)\nstatus 0",
+    ),
+    (
+        "krates list --color never --metadata ROOM/document.json --by krates",
+        LISTED,
+    ),
+    (
+        "krates unreachable z --color always --json --metadata ROOM/document.json --by krates",
+        "{\n  \"answer\": {\n    \"id\": null,\n    \"near\": [],\n    \"unreachable\": true\n  },\n  \"rules\": \"krates\",\n  \"version\": 1\n}\nstatus 0",
+    ),
+    (
+        "krates unreachable b --color always --metadata ROOM/document.json --by krates",
+        "\u{1b}[31mb v0.1.0 (/w/b) is kept; `why` says why\u{1b}[0m\nstatus 1",
     ),
     // what is written with others' characters
     (
@@ -356,6 +391,8 @@ fn told(alloc: Global, place: &Place, output: &Output) -> Result<String, Fail> {
     let names = [
         (PASSED, ""),
         (FAILED, ""),
+        (FAILED_AS_CARGO, ""),
+        (LOUD, ""),
         (" (core dumped)", ""),
         (place.room.as_str(), "ROOM"),
         (place.program.as_str(), "SELF"),

@@ -3,6 +3,7 @@
 ghost use Rattle.std.specs.Prelude.{◌≡◌, false, IfOk, string_bytes};
 ghost use Rattle.krates_report.specs.LineTexts.{AreShownLines};
 
+use crate::json::JsonObject;
 use crate::lines::Lines;
 use serde_json::Value;
 use std::alloc::{AllocError, Global};
@@ -16,17 +17,25 @@ pub trait Answer {
     fn json(&self, alloc: Global) -> Result<Value, AllocError>;
 }
 
-/// What is printed of an answer: its lines, or its JSON, indented, as one value with a line break after it. Time: that of the form.
-/// The lines for people are as `Lines` shows them.
+/// What is printed of an answer by krates: its lines, or its JSON, indented, as one value with a line break after it, which says the `rules` and
+/// the `version` of its form beside the `answer`. Time: that of the form. The lines for people are as `Lines` shows them.
 pub fn printed<T: Answer>(alloc: Global, answer: &T, is_json: bool) -> Result<String, AllocError>
     ensures shown { is_json ≡ false → IfOk result (λ text. ∥ AreShownLines (string_bytes text) ∥₁) }
 {
     if is_json {
-        return pretty(alloc, answer.json(alloc));
+        return pretty(alloc, by_krates(alloc, answer.json(alloc)));
     }
     let mut lines = Lines::new(alloc);
     answer.push_lines(&mut lines)?;
     lines.whole()
+}
+
+/// What JSON says of an answer by krates.
+fn by_krates(alloc: Global, answer: Result<Value, AllocError>) -> Result<Value, AllocError> {
+    JsonObject::versioned(alloc)
+        .text("rules", "krates")
+        .put("answer", answer)
+        .object()
 }
 
 /// The indented text of a value, with a line break after it, if there was memory to make the value.

@@ -1,34 +1,24 @@
-//! The bill of materials as CycloneDX 1.5 (ECMA-424; <https://cyclonedx.org/docs/1.5/json/>).
+//! The bill of materials as CycloneDX (ECMA-424; <https://cyclonedx.org/docs/1.5/json/>, <https://cyclonedx.org/docs/1.6/json/>).
 
 use crate::answer::pretty;
-use crate::crate_name::{directory_of, has_target, url_of};
-use crate::json::{JsonObject, Values, ids_json, string};
-use krates::cm::{Source, SourceKind, TargetKind};
-use krates::{KrateMatch, Package};
+use crate::component::Component;
+use crate::json::{JsonObject, Values, string};
+use crate::package_url::reference;
+use krates::{KrateMatch, NodeId, Package};
 use krates_answers::builds::Builds;
 use krates_answers::crate_uses::Use;
 use krates_answers::kept::kept_crates;
 use krates_answers::materials::{Material, materials};
 use krates_shown::ShownJson;
-use krates_text::text::Text;
-use percent_encoding::{AsciiSet, NON_ALPHANUMERIC, utf8_percent_encode};
+use krates_words::{BillWords, SpecVersion};
 use serde_json::Value;
 use std::alloc::{AllocError, Global};
 
-/// What a package url escapes: all except letters, digits and `-._~` (purl specification, "Character encoding").
-fn escaped() -> AsciiSet {
-    NON_ALPHANUMERIC
-        .remove(b'-')
-        .remove(b'.')
-        .remove(b'_')
-        .remove(b'~')
-}
+/// The version of this program, which a bill names.
+static TOOL_VERSION: &str = "0.22.0";
 
-/// The source of crates.io, as cargo writes it.
-static CRATES_IO: &str = "registry+https://github.com/rust-lang/crates.io-index";
-
-/// The same where its index is read by HTTP.
-static SPARSE_CRATES_IO: &str = "sparse+https://index.crates.io/";
+/// What a workspace is called in references.
+static WORKSPACE: &str = "workspace";
 
 /// For which sides of a build a crate is compiled.
 #[derive(Clone, Copy, Debug)]
@@ -37,6 +27,17 @@ pub struct BuiltFor {
     pub targets: bool,
     /// For the host.
     pub host: bool,
+}
+
+/// What a bill is about.
+#[derive(Drop)]
+pub struct BillSubject<'a> {
+    /// The root of the workspace, below which the places of its packages are told.
+    pub root: &'a str,
+    /// The numbers of the crates that are asked for. Where it is one, the bill is about that, and else about the workspace.
+    pub asked: Vec<NodeId>,
+    /// What the words say of the bill.
+    pub words: &'a BillWords,
 }
 
 /// The bill of materials of a document.
@@ -50,11 +51,17 @@ pub struct Bill<'a> {
     pub sides: Vec<BuiltFor>,
     /// Each of them with those on which it depends.
     pub materials: Vec<Material<'a>>,
+    /// What it is about.
+    pub subject: BillSubject<'a>,
 }
 
 impl<'a> Bill<'a> {
     /// The bill of these builds. The only refusal is running out of memory. Time: O(n log n + e log e) for n crates and e edges.
-    pub fn of(alloc: Global, builds: &'a Builds) -> Result<Bill<'a>, AllocError> {
+    pub fn of(
+        alloc: Global,
+        builds: &'a Builds,
+        subject: BillSubject<'a>,
+    ) -> Result<Bill<'a>, AllocError> {
         let crates = kept_crates(alloc, builds.all())?;
         let uses = uses_of(alloc, builds, &crates)?;
         let materials = materials(alloc, builds.all())?;
@@ -63,6 +70,7 @@ impl<'a> Bill<'a> {
             uses,
             sides: Vec::new(alloc),
             materials,
+            subject,
         })
     }
 }
@@ -80,154 +88,119 @@ fn uses_of(
     Ok(uses)
 }
 
-/// Adds a qualifier of a package url: a key, and a text with its escapes.
-fn push_qualifier(url: &mut Text, key: &str, text: &str) {
-    write!(url, "?{key}={}", utf8_percent_encode(text, escaped()));
-}
-
-/// Adds the qualifier of a package that isn't from crates.io.
-fn push_source(url: &mut Text, source: &Source) {
-    let text = source.repr.as_str();
-    if text == CRATES_IO || text == SPARSE_CRATES_IO {
-        return;
-    }
-    match source.kind() {
-        SourceKind::Git => push_qualifier(url, "vcs_url", text),
-        _ => push_qualifier(url, "repository_url", url_of(source)),
-    }
-}
-
-/// Adds where a package is that isn't from crates.io.
-fn push_place(url: &mut Text, krate: &Package) {
-    match &krate.source {
-        Some(source) if !krate.is_local() => push_source(url, source),
-        _ => {
-            let directory = utf8_percent_encode(directory_of(krate), escaped());
-            push_qualifier(url, "download_url", "file://");
-            write!(url, "{directory}");
-        }
-    }
-}
-
-/// The package url of a crate (purl specification, type `cargo`): its name and version; where it isn't from crates.io, also the registry,
-/// the git repository, or the directory of this machine, so that it isn't taken for the one of that name on crates.io. Each part is
-/// escaped, so that none can be read as another.
-fn package_url(alloc: Global, krate: &Package) -> Result<String, AllocError> {
-    let name = utf8_percent_encode(krate.name.as_str(), escaped());
-    let version = krate.version.to_string(alloc)?;
-    let version = utf8_percent_encode(version.as_str(), escaped());
-    let mut url = Text::new(alloc);
-    write!(url, "pkg:cargo/{name}@{version}");
-    push_place(&mut url, krate);
-    url.whole()
-}
-
-/// What a crate is: a program alone, without a library, is an application.
-fn type_of(krate: &Package) -> &'static str {
-    let is_library = has_target(krate, TargetKind::Lib) || has_target(krate, TargetKind::ProcMacro);
-    if has_target(krate, TargetKind::Bin) && !is_library {
-        "application"
-    } else {
-        "library"
-    }
-}
-
-/// Whether a crate is needed where the program runs.
-fn scope_of(usage: Use) -> &'static str {
-    match usage {
-        Use::Shipped => "required",
-        Use::Build | Use::Dev => "excluded",
-    }
-}
-
-/// These members with the licences of a crate: a list of its expression, in which an old `/` means `OR` (Cargo Book, "The license and
-/// license-file fields"), or else of its file.
-fn with_licences(alloc: Global, krate: &Package, members: JsonObject) -> JsonObject {
-    let licence = match (&krate.license, &krate.license_file) {
-        (Some(expression), _) => {
-            let expression = expression.as_str().replace(alloc, "/", " OR ");
-            JsonObject::new(alloc).put("expression", string(expression))
-        }
-        (None, Some(file)) => {
-            let name = JsonObject::new(alloc).text("name", file.as_str());
-            JsonObject::new(alloc).put("license", name.object())
-        }
-        (None, None) => return members,
-    };
-    let mut licences = Values::new(alloc);
-    licences.add(licence.object());
-    members.put("licenses", licences.list())
-}
-
-/// These members with what a crate is built for, where that is known: a property for each side (CycloneDX, "Properties / Name-Value Store").
-fn with_sides(alloc: Global, built_for: Option<&BuiltFor>, members: JsonObject) -> JsonObject {
-    let Some(built_for) = built_for else {
-        return members;
-    };
-    let mut properties = Values::new(alloc);
-    if built_for.targets {
-        properties.add(side(alloc, "target"));
-    }
-    if built_for.host {
-        properties.add(side(alloc, "host"));
-    }
-    members.put("properties", properties.list())
-}
-
-/// The property of a side for which a crate is built.
-fn side(alloc: Global, name: &str) -> Result<Value, AllocError> {
-    JsonObject::new(alloc)
-        .text("name", "cargo-krates:built-for")
-        .text("value", name)
-        .object()
-}
-
 impl Bill<'_> {
-    /// What the bill says of a crate that is used for this, and built for these sides.
-    fn component(
-        &self,
-        alloc: Global,
-        krate: &Package,
-        usage: Use,
-        built_for: Option<&BuiltFor>,
-    ) -> Result<Value, AllocError> {
-        let members = JsonObject::new(alloc)
-            .text("type", type_of(krate))
-            .text("bom-ref", krate.id.repr.as_str())
-            .text("name", krate.name.as_str())
-            .put("version", string(krate.version.to_string(alloc)))
-            .text("scope", scope_of(usage))
-            .put("purl", string(package_url(alloc, krate)));
-        with_licences(alloc, krate, with_sides(alloc, built_for, members)).object()
+    /// The number of the crate that the bill is about, if it is about one.
+    fn subject(&self) -> Option<NodeId> {
+        match self.subject.asked.as_slice() {
+            [asked] => Some(*asked),
+            _ => None,
+        }
     }
 
-    /// The crates.
+    /// A crate, as the bill describes it.
+    fn component<'b>(&'b self, krate: &'b Package) -> Component<'b> {
+        Component {
+            krate,
+            root: self.subject.root,
+            spec_version: self.subject.words.spec_version,
+        }
+    }
+
+    /// The crates, without the one that the bill is about.
     fn components(&self, alloc: Global) -> Result<Value, AllocError> {
         let mut components = Values::new(alloc);
         let mut sides = self.sides.iter();
         for (found, usage) in self.crates.iter().zip(&self.uses) {
-            components.add(self.component(alloc, found.krate, *usage, sides.next()));
+            let built_for = sides.next();
+            if self.subject() != Some(found.node_id) {
+                components.add(self.component(found.krate).used(alloc, *usage, built_for));
+            }
         }
         components.list()
     }
 
+    /// How the crates at these numbers are called in references.
+    fn references(&self, alloc: Global, numbers: &[NodeId]) -> Result<Value, AllocError> {
+        let mut references = Values::new(alloc);
+        for number in numbers {
+            if let Some(found) = self.crates.get(number.index()) {
+                references.add(string(reference(alloc, found.krate, self.subject.root)));
+            }
+        }
+        references.list()
+    }
+
     /// A crate with those on which it depends directly.
     fn dependency(&self, alloc: Global, material: &Material<'_>) -> Result<Value, AllocError> {
-        let needed = &material.depends_on;
+        let of = reference(alloc, material.krate.krate, self.subject.root);
         JsonObject::new(alloc)
-            .text("ref", material.krate.krate.id.repr.as_str())
-            .put("dependsOn", ids_json(alloc, &self.crates, needed))
+            .put("ref", string(of))
+            .put("dependsOn", self.references(alloc, &material.depends_on))
             .object()
     }
 
-    /// Each kept crate with those on which it depends directly.
+    /// Each kept crate with those on which it depends directly, and before them the workspace, where the bill is about that, with those that are asked
+    /// for.
     fn dependencies(&self, alloc: Global) -> Result<Value, AllocError> {
         let mut dependencies = Values::new(alloc);
+        if self.subject().is_none() {
+            dependencies.add(
+                JsonObject::new(alloc)
+                    .text("ref", WORKSPACE)
+                    .put("dependsOn", self.references(alloc, &self.subject.asked))
+                    .object(),
+            );
+        }
         for material in &self.materials {
             dependencies.add(self.dependency(alloc, material));
         }
         dependencies.list()
     }
+
+    /// What the bill is about: the crate that is asked for, or the workspace by the name of its folder.
+    fn subject_json(&self, alloc: Global) -> Result<Value, AllocError> {
+        let crates = &self.crates;
+        match self.subject().and_then(|number| crates.get(number.index())) {
+            Some(found) => self.component(found.krate).subject(alloc),
+            None => JsonObject::new(alloc)
+                .text("type", "application")
+                .text("bom-ref", WORKSPACE)
+                .text("name", folder_name(self.subject.root))
+                .object(),
+        }
+    }
+
+    /// What is said of the bill: what made it, when, and what it is about.
+    fn metadata(&self, alloc: Global) -> Result<Value, AllocError> {
+        let members = JsonObject::new(alloc)
+            .put("component", self.subject_json(alloc))
+            .put("tools", tools(alloc));
+        match &self.subject.words.timestamp {
+            Some(time) => members.text("timestamp", time.as_str()).object(),
+            None => members.object(),
+        }
+    }
+}
+
+/// The last part of a path, or what a workspace is called where it has none.
+fn folder_name(path: &str) -> &str {
+    match path.rsplit(['/', '\\']).next() {
+        Some(name) if !name.is_empty() => name,
+        _ => WORKSPACE,
+    }
+}
+
+/// What made the bill.
+fn tools(alloc: Global) -> Result<Value, AllocError> {
+    let tool = JsonObject::new(alloc)
+        .text("type", "application")
+        .text("name", "cargo-krates")
+        .text("version", TOOL_VERSION);
+    let mut components = Values::new(alloc);
+    components.add(tool.object());
+    JsonObject::new(alloc)
+        .put("components", components.list())
+        .object()
 }
 
 impl Bill<'_> {
@@ -238,16 +211,29 @@ impl Bill<'_> {
         format!(in alloc; "{}", ShownJson(text.as_str()))
     }
 
-    /// `components`, the kept crates, and `dependencies`, with an entry for each of them. There is no time and no serial number in it, so
-    /// that the same document gives the same bytes.
+    /// `metadata`; `components`, the kept crates without the one that it is about; and `dependencies`, with an entry for each of them. There is no time and
+    /// no serial number in it unless the words say one, so that the same document gives the same bytes.
     fn json(&self, alloc: Global) -> Result<Value, AllocError> {
-        JsonObject::new(alloc)
-            .text("$schema", "http://cyclonedx.org/schema/bom-1.5.schema.json")
+        let (schema, version) = match self.subject.words.spec_version {
+            SpecVersion::V1_5 => ("http://cyclonedx.org/schema/bom-1.5.schema.json", "1.5"),
+            SpecVersion::V1_6 => ("http://cyclonedx.org/schema/bom-1.6.schema.json", "1.6"),
+        };
+        let members = JsonObject::new(alloc)
+            .text("$schema", schema)
             .text("bomFormat", "CycloneDX")
-            .text("specVersion", "1.5")
+            .text("specVersion", version)
             .put("version", Ok(Value::from(1u64)))
+            .put("metadata", self.metadata(alloc))
             .put("components", self.components(alloc))
-            .put("dependencies", self.dependencies(alloc))
-            .object()
+            .put("dependencies", self.dependencies(alloc));
+        match &self.subject.words.serial {
+            Some(serial) => members
+                .put(
+                    "serialNumber",
+                    string(format!(in alloc; "urn:uuid:{serial}")),
+                )
+                .object(),
+            None => members.object(),
+        }
     }
 }

@@ -11,7 +11,7 @@ use krates_answers::difference::{DependencyEdge, lacking, lost_dependencies};
 use serde_json::Value;
 use std::alloc::{AllocError, Global};
 
-/// What one graph has and another lacks, in both directions.
+/// What went and what came between two graphs.
 #[derive(Drop)]
 pub struct Difference<'a> {
     /// The crates that only the first keeps, by number.
@@ -50,6 +50,14 @@ impl<'a> Difference<'a> {
 }
 
 impl Difference<'_> {
+    /// Whether nothing went and nothing came. A name under which a version changed is one of both.
+    pub fn is_empty(&self) -> bool {
+        self.removed.is_empty()
+            && self.added.is_empty()
+            && self.removed_dependencies.is_empty()
+            && self.added_dependencies.is_empty()
+    }
+
     /// What JSON says of it: `changed`, with `name` and the versions `from` and `to`; the crates `removed` and `added`; and
     /// `removed_dependencies` and `added_dependencies`, each with the ids `from` and `to`.
     pub fn members(&self, alloc: Global) -> JsonObject {

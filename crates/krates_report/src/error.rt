@@ -5,12 +5,13 @@ use krates::derive::CheckError;
 use krates_answers::naming::NamingError;
 use krates_shown::ShownValue;
 use std::alloc::{AllocError, AllocFailed};
+use std::fmt;
 
 /// Why what is asked isn't answered.
 #[derive(Debug, Drop, thiserror::Error)]
 pub enum ReportError {
     /// The document can't be built.
-    #[error("{}", ShownValue(.0))]
+    #[error("{}", DocumentFault(.0))]
     Build(Error),
     /// A word doesn't mean one package.
     #[error("{0}")]
@@ -24,6 +25,23 @@ pub enum ReportError {
     /// Memory ran out.
     #[error("out of memory")]
     Memory,
+}
+
+/// Why a document has no answer, as people are told.
+#[derive(Clone, Copy)]
+pub struct DocumentFault<'a>(pub &'a Error);
+
+/// The cause, as `ShownValue` shows it; and where the document has no graph, how it is written with one.
+impl fmt::Display for DocumentFault<'_> {
+    fn fmt<W: fmt::Write>(&self, f: &mut fmt::Formatter<W>) -> fmt::Result {
+        write!(f, "{}", ShownValue(self.0))?;
+        match self.0 {
+            Error::NoResolveGraph => {
+                f.write_str("; `cargo metadata --format-version 1` writes one, without --no-deps")
+            }
+            _ => Ok(()),
+        }
+    }
 }
 
 impl From<AllocError> for ReportError {

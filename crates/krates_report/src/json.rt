@@ -8,6 +8,9 @@ use krates::{KrateMatch, NodeId, Package};
 use serde_json::{Map, Value, push, put};
 use std::alloc::{AllocError, Global};
 
+/// The version of the form that JSON answers have.
+const VERSION: u64 = 1;
+
 /// A part of an answer that JSON shows as one value. The only error is running out of memory.
 pub trait InJson {
     /// The value.
@@ -95,6 +98,12 @@ impl JsonObject {
             members: Map::new(alloc),
             is_whole: true,
         }
+    }
+
+    /// The `version` of the form alone, as each answer has it at its top. A later one may have more members; where one is taken away or means something
+    /// else, the version is another.
+    pub fn versioned(alloc: Global) -> JsonObject {
+        JsonObject::new(alloc).put("version", Ok(Value::from(VERSION)))
     }
 
     /// These, and a value.

@@ -2,19 +2,26 @@
 //! of `krates_answers`, what is asked is what `krates_words` reads, and the program `cargo-krates` prints the answers.
 #![tactic(auto)]
 
+pub mod absent;
 pub mod answer;
 pub mod bill;
 pub mod builds;
+mod component;
 pub mod crate_name;
 pub mod difference;
+pub mod drawn_tree;
 pub mod duplicates;
 pub mod error;
+pub mod feature_list;
 pub mod json;
 pub mod kept;
+pub mod licence_expression;
 pub mod lines;
+mod package_url;
 pub mod reporter;
 mod sentences;
 pub mod tree;
+mod walk;
 pub mod why;
 
 pub use error::ReportError;

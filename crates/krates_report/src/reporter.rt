@@ -5,14 +5,17 @@ ghost use Rattle.krates_cm.specs.Document.{metadata_view};
 ghost use Rattle.krates_report.specs.Builds.{IsBuildOf, IsDivisionOf};
 ghost use Rattle.krates_words.specs.Choice.{IsSettingOf};
 
+use crate::absent::Absent;
 use crate::answer::{Answer, pretty, printed};
-use crate::bill::Bill;
+use crate::bill::{Bill, BillSubject};
 use crate::builds::{builds, built};
 use crate::difference::Difference;
+use crate::drawn_tree::DrawnTree;
 use crate::duplicates::Duplicates;
 use crate::error::ReportError;
+use crate::feature_list::FeatureList;
 use crate::kept::{List, UsedKrates};
-use crate::tree::Tree;
+use crate::tree::{Tree, without};
 use crate::why::{Certainty, ExplainedFeatures, Why};
 use krates::derive::{Derivation, Fact};
 use krates::resolve::Setting;
@@ -25,7 +28,7 @@ use krates_answers::meaning::{Meant, Packages};
 use krates_answers::naming::NamingError;
 use krates_answers::unreachable::is_unreachable;
 use krates_certificate::{Certificate, CertificatePart};
-use krates_words::{Asked, Choice, Word};
+use krates_words::{Asked, BillWords, Choice, TreeWords, Word};
 use std::alloc::{AllocError, Global};
 
 /// What is printed, and whether it is a yes.
@@ -33,7 +36,8 @@ use std::alloc::{AllocError, Global};
 pub struct Report {
     /// The lines, or the JSON.
     pub text: String,
-    /// Whether the answer is yes: false only if it was asked whether a crate is unreachable, and it isn't.
+    /// Whether the answer is yes: false only if it was asked whether a crate is unreachable, and it isn't, or whether two documents differ,
+    /// and they do.
     pub is_yes: bool,
 }
 
@@ -120,6 +124,32 @@ fn references(alloc: Global, packages: &[Package]) -> Result<Vec<&Package>, Allo
     Ok(references)
 }
 
+/// The enabled features of each kept crate, by number, with commas between them, where the format of a tree has them.
+fn features_by_krate(
+    alloc: Global,
+    krates: &Krates,
+    words: &TreeWords,
+) -> Result<Vec<String>, AllocError> {
+    let mut features = Vec::new(alloc);
+    if words.has_features() {
+        for found in krates.krate_nodes() {
+            features.push(features_of(alloc, krates, found.kid)?)?;
+        }
+    }
+    Ok(features)
+}
+
+/// The enabled features of a kept crate, with commas between them.
+fn features_of(alloc: Global, krates: &Krates, kid: &Kid) -> Result<String, AllocError> {
+    let mut list = FeatureList::new(alloc);
+    if let Some(features) = krates.get_enabled_features(kid) {
+        for feature in features {
+            list.push(feature.as_str());
+        }
+    }
+    list.whole()
+}
+
 /// The numbers of the kept members of the workspace.
 fn members_of(alloc: Global, krates: &Krates) -> Result<Vec<NodeId>, AllocError> {
     let mut members = Vec::new(alloc);
@@ -165,7 +195,7 @@ impl Reporter<'_> {
             return self.of_one(metadata);
         };
         match &self.asked.word {
-            Word::Diff { .. } => self.difference(metadata, other),
+            Word::Diff { exit_code, .. } => self.difference(other, metadata, *exit_code),
             // only a word that compares takes the second document
             _ => {
                 other.let_go();
@@ -183,7 +213,8 @@ impl Reporter<'_> {
             | Word::Why { .. }
             | Word::Features { .. }
             | Word::Certify { .. } => self.of_divided(metadata),
-            Word::Uses | Word::Sbom => self.of_builds(metadata),
+            Word::Uses => self.of_builds(metadata),
+            Word::Sbom { words } => self.bill(metadata, words),
             Word::Unreachable { spec, .. } => self.unreachable(metadata, spec.as_str()),
             Word::Diff { .. } => {
                 metadata.let_go();
@@ -204,10 +235,20 @@ impl Reporter<'_> {
         self.in_divided(&divided)
     }
 
-    /// What is printed of the three graphs of a document.
+    /// What the crates of a document are used for, by its three graphs.
     fn of_builds(&self, metadata: Metadata) -> Result<Report, ReportError> {
         let builds = builds(self.alloc, self.choice, metadata)?;
-        self.in_builds(&builds)
+        self.shown(UsedKrates::of(self.alloc, &builds))
+    }
+
+    /// The bill of materials of a document.
+    fn bill(&self, metadata: Metadata, words: &BillWords) -> Result<Report, ReportError> {
+        let Ok(root) = metadata.workspace_root.clone() else {
+            metadata.let_go();
+            return Err(ReportError::Memory);
+        };
+        let builds = builds(self.alloc, self.choice, metadata)?;
+        self.bill_of(&builds, root.as_str(), words)
     }
 
     /// What is printed of an answer that is a yes, if there was memory to make it.
@@ -252,21 +293,35 @@ impl Reporter<'_> {
         self.choice.setting(self.alloc, &[])
     }
 
-    /// What the graph of each of two documents has alone.
-    fn difference(&self, first: Metadata, second: Metadata) -> Result<Report, ReportError> {
-        match self.built(first) {
-            Ok(first) => self.difference_from(&first, second),
+    /// What went and what came between the graphs of two documents. With an exit code it is a no where anything did.
+    fn difference(
+        &self,
+        old: Metadata,
+        new: Metadata,
+        has_exit_code: bool,
+    ) -> Result<Report, ReportError> {
+        match self.built(old) {
+            Ok(old) => self.difference_from(&old, new, has_exit_code),
             Err(refusal) => {
-                second.let_go();
+                new.let_go();
                 Err(refusal)
             }
         }
     }
 
-    /// What another graph and the graph of a document have alone.
-    fn difference_from(&self, first: &Krates, second: Metadata) -> Result<Report, ReportError> {
-        let second = self.built(second)?;
-        self.shown(Difference::between(self.alloc, first, &second))
+    /// What went and what came between a graph and the graph of a document.
+    fn difference_from(
+        &self,
+        old: &Krates,
+        new: Metadata,
+        has_exit_code: bool,
+    ) -> Result<Report, ReportError> {
+        let new = self.built(new)?;
+        let answer = Difference::between(self.alloc, old, &new)?;
+        Ok(Report {
+            text: printed(self.alloc, &answer, self.asked.is_json)?,
+            is_yes: !has_exit_code || answer.is_empty(),
+        })
     }
 
     /// Whether it is certain that a package isn't reached.
@@ -315,8 +370,8 @@ impl Reporter<'_> {
     /// or a certificate.
     fn in_divided(&self, divided: &Divided) -> Result<Report, ReportError> {
         match &self.asked.word {
-            Word::Tree { spec } => self.tree_below(divided, spec.as_ref()),
-            Word::Dependents { spec } => self.tree_above(divided, spec.as_str()),
+            Word::Tree { spec, words } => self.tree_below(divided, spec.as_ref(), words),
+            Word::Dependents { spec, words } => self.tree_above(divided, spec.as_str(), words),
             Word::Why { spec, steps } => self.why_in(divided, spec.as_str(), *steps),
             Word::Features { spec } => self.features_in(divided, spec.as_str()),
             Word::Certify { spec } => self.certificate_in(divided, spec.as_ref()),
@@ -325,38 +380,74 @@ impl Reporter<'_> {
         }
     }
 
-    /// What the kept crates are used for, or the bill of materials.
-    fn in_builds(&self, builds: &Builds) -> Result<Report, ReportError> {
-        match &self.asked.word {
-            Word::Uses => self.shown(UsedKrates::of(self.alloc, builds)),
-            // the word `sbom`
-            _ => self.bill_of(builds),
-        }
-    }
-
-    /// The bill of materials.
-    fn bill_of(&self, builds: &Builds) -> Result<Report, ReportError> {
-        let bill = Bill::of(self.alloc, builds)?;
+    /// The bill of materials of these builds.
+    fn bill_of(
+        &self,
+        builds: &Builds,
+        root: &str,
+        words: &BillWords,
+    ) -> Result<Report, ReportError> {
+        let asked = members_of(self.alloc, builds.all())?;
+        let subject = BillSubject { root, asked, words };
+        let bill = Bill::of(self.alloc, builds, subject)?;
         Ok(Report::yes(bill.text(self.alloc)?))
     }
 
     /// The tree of what a crate needs, or the members where none is named.
-    fn tree_below(&self, divided: &Divided, spec: Option<&String>) -> Result<Report, ReportError> {
+    fn tree_below(
+        &self,
+        divided: &Divided,
+        spec: Option<&String>,
+        words: &TreeWords,
+    ) -> Result<Report, ReportError> {
         let roots = match spec {
             Some(spec) => self.root(divided, spec.as_str())?,
             None => members_of(self.alloc, &divided.krates)?,
         };
-        let crates = kept_crates(self.alloc, &divided.krates)?;
-        let links = DirectLinks::dependencies(self.alloc, &divided.krates);
-        self.shown(Tree::of(self.alloc, crates, links, &roots))
+        let links = DirectLinks::dependencies(self.alloc, &divided.krates)?;
+        self.tree(divided, links, &roots, words)
     }
 
     /// The tree of those that need a crate.
-    fn tree_above(&self, divided: &Divided, spec: &str) -> Result<Report, ReportError> {
+    fn tree_above(
+        &self,
+        divided: &Divided,
+        spec: &str,
+        words: &TreeWords,
+    ) -> Result<Report, ReportError> {
         let roots = self.root(divided, spec)?;
+        let links = DirectLinks::dependents(self.alloc, &divided.krates)?;
+        self.tree(divided, links, &roots, words)
+    }
+
+    /// The tree of what these links lead to, below roots, as the words draw it.
+    fn tree(
+        &self,
+        divided: &Divided,
+        links: DirectLinks,
+        roots: &[NodeId],
+        words: &TreeWords,
+    ) -> Result<Report, ReportError> {
+        let pruned = self.pruned(divided, words)?;
         let crates = kept_crates(self.alloc, &divided.krates)?;
-        let links = DirectLinks::dependents(self.alloc, &divided.krates);
-        self.shown(Tree::of(self.alloc, crates, links, &roots))
+        let features = features_by_krate(self.alloc, &divided.krates, words)?;
+        let links = without(self.alloc, links, &pruned);
+        let tree = Tree::drawn_by(self.alloc, crates, links, roots, words)?;
+        self.shown(Ok(DrawnTree {
+            tree,
+            words,
+            features,
+        }))
+    }
+
+    /// The numbers of the crates that are left out of a tree.
+    fn pruned(&self, divided: &Divided, words: &TreeWords) -> Result<Vec<NodeId>, ReportError> {
+        let mut pruned = Vec::new(self.alloc);
+        for spec in &words.pruned {
+            let found = divided.one(self.alloc, spec.as_str())?;
+            pruned.push(found.node_id)?;
+        }
+        Ok(pruned)
     }
 
     /// The number of the crate that a word means, as a list.
@@ -400,17 +491,28 @@ impl Reporter<'_> {
         Ok(Report::yes(text))
     }
 
-    /// Whether it is certain that a package isn't reached.
+    /// Whether it is certain that a package isn't reached. One that the document lacks can't be.
     fn certainty(
         &self,
         metadata: &Metadata,
         divided: &Divided,
         spec: &str,
     ) -> Result<Report, ReportError> {
-        let package = match divided.any(self.alloc, spec)? {
-            Meant::Kept(found) => found.krate,
-            Meant::Other(package) => package,
-        };
+        match divided.any(self.alloc, spec) {
+            Ok(Meant::Kept(found)) => self.certainty_of(metadata, divided, found.krate),
+            Ok(Meant::Other(package)) => self.certainty_of(metadata, divided, package),
+            Err(NamingError::Unknown { word, near }) => self.shown(Ok(Absent { word, near })),
+            Err(cause) => Err(ReportError::from(cause)),
+        }
+    }
+
+    /// The same for a package of the document.
+    fn certainty_of(
+        &self,
+        metadata: &Metadata,
+        divided: &Divided,
+        package: &Package,
+    ) -> Result<Report, ReportError> {
         let facts = divided.krates.facts()?;
         let is_unreachable = self.is_unreachable(metadata, &facts, package)?;
         let answer = Certainty {

@@ -1,17 +1,14 @@
-//! Trees of crates as they are shown.
+//! Trees of crates.
 
 ghost use Rattle.std.specs.Prelude.{◌≡◌, IfOk, Ok};
 ghost use Rattle.krates_answers.specs.DirectLinks.{IsListed};
 ghost use Rattle.krates_answers.specs.Tree.{IsTree, roots_among};
 
-use crate::answer::Answer;
-use crate::crate_name::ShortName;
-use crate::json::{JsonObject, Values};
-use crate::lines::Lines;
+use crate::walk::walked;
 use krates::{DepKind, KrateMatch, NodeId, Package};
 use krates_answers::direct_links::DirectLinks;
 use krates_answers::tree::TreeLine;
-use serde_json::Value;
+use krates_words::TreeWords;
 use std::alloc::{AllocError, Global};
 
 /// The number that a head has in a tree: of what a crate leads to by build dependencies or by dev dependencies. A crate leads to its heads, and these to
@@ -64,13 +61,34 @@ impl<'a> Tree<'a> {
         })
     }
 
+    /// The same to a depth, or with what a crate leads to below each of its lines, as the words say. Where they say neither it is `of`. Time O(n)
+    /// for n lines.
+    pub fn drawn_by(
+        alloc: Global,
+        crates: Vec<KrateMatch<'a, Package>>,
+        links: Result<DirectLinks, AllocError>,
+        roots: &[NodeId],
+        words: &TreeWords,
+    ) -> Result<Tree<'a>, AllocError> {
+        if words.depth.is_none() && !words.no_dedupe {
+            return Tree::of(alloc, crates, links, roots);
+        }
+        let links = links?;
+        let lines = walked(alloc, &links, crates.len(), roots, words)?;
+        Ok(Tree {
+            crates,
+            links,
+            lines,
+        })
+    }
+
     /// Whether what a line's crate leads to is below another line.
-    fn is_repeated(&self, line: &TreeLine) -> bool {
+    pub(crate) fn is_repeated(&self, line: &TreeLine) -> bool {
         !line.is_opened && !self.links.of(line.krate).unwrap_or(&[]).is_empty()
     }
 
     /// The kind that a head stands for; `None` for a crate.
-    fn head(&self, number: NodeId) -> Option<DepKind> {
+    pub(crate) fn head(&self, number: NodeId) -> Option<DepKind> {
         let count = self.crates.len();
         let number = number.index();
         if number < count {
@@ -83,7 +101,7 @@ impl<'a> Tree<'a> {
     }
 
     /// The kind by which a line's crate is led to, where kinds are told; `None` for a root.
-    fn kind(&self, line: &TreeLine) -> Option<DepKind> {
+    pub(crate) fn kind(&self, line: &TreeLine) -> Option<DepKind> {
         match self.head(line.parent?) {
             Some(kind) => Some(kind),
             None => Some(DepKind::Normal),
@@ -91,176 +109,49 @@ impl<'a> Tree<'a> {
     }
 
     /// Whether kinds are told.
-    fn has_kinds(&self) -> bool {
+    pub(crate) fn has_kinds(&self) -> bool {
         self.links.len() > self.crates.len()
     }
 
-    /// Adds a line after what is drawn before it. For each line that it is below, the margin's first, `above` has its column; those that it isn't below
-    /// are forgotten, and its own is noted.
-    fn push_drawn(
-        &self,
-        line: &TreeLine,
-        is_last: bool,
-        above: &mut Vec<Column>,
-        lines: &mut Lines,
-    ) -> Result<(), AllocError> {
-        if line.depth == 0 && !lines.is_empty() {
-            lines.end();
-        }
-        above.truncate(line.depth);
-        push_columns(above, lines);
-        above.push(self.column(line, is_last))?;
-        match self.head(line.krate) {
-            Some(kind) => lines.push_str(head_text(kind)),
-            None => self.push_crate(line, is_last, lines),
-        }
-        lines.end();
-        Ok(())
-    }
-
-    /// The column of a line, for those below it.
-    fn column(&self, line: &TreeLine, is_last: bool) -> Column {
-        match self.head(line.krate) {
-            Some(_) => Column::Missing,
-            None if is_last => Column::Blank,
-            None => Column::Branch,
-        }
-    }
-
-    /// Adds the branch to a line's crate, and its name.
-    fn push_crate(&self, line: &TreeLine, is_last: bool, lines: &mut Lines) {
-        if line.depth > 0 {
-            lines.push_str(if is_last { "└── " } else { "├── " });
-        }
-        if let Some(found) = self.crates.get(line.krate.index()) {
-            let mark = if self.is_repeated(line) { " (*)" } else { "" };
-            write!(lines, "{}{mark}", ShortName(found.krate));
-        }
-    }
-
-    /// For each line, whether it is the last below its parent or below a head: no later line is indented as far before a head, or one that is indented
-    /// less.
-    fn are_last(&self, alloc: Global) -> Result<Vec<bool>, AllocError> {
-        let mut are_last = Vec::new(alloc);
-        let mut has_later = Vec::new(alloc);
-        for line in self.lines.iter().rev() {
-            let has_own = matches!(has_later.get(line.depth), Some(true));
-            are_last.push(!has_own)?;
-            fit(&mut has_later, line.depth)?;
-            has_later.push(self.head(line.krate).is_none())?;
-        }
-        are_last.reverse();
-        Ok(are_last)
-    }
-
     /// How many crates a line is below, where these are the depths of the lines that it is below.
-    fn depth(&self, line: &TreeLine, above: &[usize]) -> usize {
+    pub(crate) fn depth(&self, line: &TreeLine, above: &[usize]) -> usize {
         match (line.parent, above.last()) {
             (Some(parent), Some(depth)) if self.head(parent).is_some() => *depth,
             (Some(_), Some(depth)) => depth.saturating_add(1),
             _ => 0,
         }
     }
+}
 
-    /// Adds what JSON says of a line, if it is of a crate, which is below that many.
-    fn add_json(&self, alloc: Global, line: &TreeLine, depth: usize, values: &mut Values) {
-        if let Some(found) = self.crates.get(line.krate.index()) {
-            let object = JsonObject::new(alloc)
-                .put(
-                    "depth",
-                    Ok(Value::from(u64::try_from(depth).unwrap_or(u64::MAX))),
-                )
-                .text("id", found.krate.id.repr.as_str())
-                .put("repeated", Ok(Value::Bool(self.is_repeated(line))));
-            if self.has_kinds() {
-                values.add(
-                    object
-                        .put("kind", kind_json(alloc, self.kind(line)))
-                        .object(),
-                );
-            } else {
-                values.add(object.object());
-            }
+/// The links without those that lead to these crates, with which what only they lead to is left out of a tree. The only error is running out of
+/// memory. Time O(n e) for n crates and e links.
+pub fn without(
+    alloc: Global,
+    links: DirectLinks,
+    pruned: &[NodeId],
+) -> Result<DirectLinks, AllocError> {
+    if pruned.is_empty() {
+        return Ok(links);
+    }
+    let count = u32::try_from(links.len()).unwrap_or(u32::MAX);
+    let mut pairs = Vec::new(alloc);
+    for from in 0..count {
+        push_pairs(&links, NodeId::new(from), pruned, &mut pairs)?;
+    }
+    DirectLinks::of_pairs(alloc, count, &pairs)
+}
+
+/// Adds the links of a number, but those to these crates.
+fn push_pairs(
+    links: &DirectLinks,
+    from: NodeId,
+    pruned: &[NodeId],
+    pairs: &mut Vec<(usize, usize)>,
+) -> Result<(), AllocError> {
+    for to in links.of(from).unwrap_or(&[]) {
+        if !pruned.contains(to) {
+            pairs.push((from.index(), to.index()))?;
         }
-    }
-}
-
-/// What stands in the column of a line, before the lines below it.
-#[derive(Clone, Copy)]
-enum Column {
-    /// More follows below the parent of the line.
-    Branch,
-    /// It is the last one.
-    Blank,
-    /// It is a head, which has no column.
-    Missing,
-}
-
-/// How a head is written, as `cargo tree` does.
-fn head_text(kind: DepKind) -> &'static str {
-    match kind {
-        DepKind::Build => "[build-dependencies]",
-        DepKind::Normal | DepKind::Dev => "[dev-dependencies]",
-    }
-}
-
-/// What JSON says of a kind.
-fn kind_json(alloc: Global, kind: Option<DepKind>) -> Result<Value, AllocError> {
-    match kind {
-        Some(DepKind::Normal) => Value::try_from_str(alloc, "normal"),
-        Some(DepKind::Build) => Value::try_from_str(alloc, "build"),
-        Some(DepKind::Dev) => Value::try_from_str(alloc, "dev"),
-        None => Ok(Value::Null),
-    }
-}
-
-/// Makes a list this long: cut, or padded with no.
-fn fit(flags: &mut Vec<bool>, len: usize) -> Result<(), AllocError> {
-    flags.truncate(len);
-    for _ in flags.len()..len {
-        flags.push(false)?;
     }
     Ok(())
-}
-
-/// Adds the columns that are drawn before a line, without the margin's, which is the first.
-fn push_columns(above: &[Column], lines: &mut Lines) {
-    let Some((_, above)) = above.split_first() else {
-        return;
-    };
-    for column in above {
-        lines.push_str(match column {
-            Column::Branch => "│   ",
-            Column::Blank => "    ",
-            Column::Missing => "",
-        });
-    }
-}
-
-impl Answer for Tree<'_> {
-    /// A line for each crate below its parent, drawn as `cargo tree` draws it: ` (*)` says that what the crate leads to is written
-    /// above, and a head stands before build dependencies and before dev dependencies, where kinds are told. An empty line comes before each root
-    /// except the first.
-    fn push_lines(&self, lines: &mut Lines) -> Result<(), AllocError> {
-        let are_last = self.are_last(lines.allocator())?;
-        let mut above = Vec::new(lines.allocator());
-        for (line, is_last) in self.lines.iter().zip(&are_last) {
-            self.push_drawn(line, *is_last, &mut above, lines)?;
-        }
-        Ok(())
-    }
-
-    /// A list of the crates' lines, each with `depth`, `id` and `repeated`, and where kinds are told with the `kind` by which its parent leads to it:
-    /// `normal`, `build`, `dev`, or null for a root.
-    fn json(&self, alloc: Global) -> Result<Value, AllocError> {
-        let mut values = Values::new(alloc);
-        let mut above = Vec::new(alloc);
-        for line in &self.lines {
-            above.truncate(line.depth);
-            let depth = self.depth(line, &above);
-            above.push(depth)?;
-            self.add_json(alloc, line, depth, &mut values);
-        }
-        values.list()
-    }
 }

@@ -5,6 +5,7 @@ use crate::error::{WordsError, shown_words};
 use crate::found::{max_bytes, rules};
 use crate::known_options::FOR_CERTIFICATES;
 use crate::rules::{By, Rules};
+use crate::shell_words::ShellWords;
 use crate::together::check;
 use crate::values::required;
 use clap::{ArgMatches, Command};
@@ -23,6 +24,8 @@ pub struct CheckWords {
     pub rules: Rules,
     /// The most bytes that are read of one input: `--max-bytes`.
     pub max_bytes: u64,
+    /// How the program talks to people: `--quiet` and `--color`.
+    pub shell: ShellWords,
 }
 
 /// What the words after the name of the checker mean.
@@ -74,5 +77,6 @@ fn found_words(alloc: Global, found: &ArgMatches<'_>) -> Result<CheckWords, Word
         document,
         rules,
         max_bytes: max_bytes(found),
+        shell: ShellWords::of(found),
     })
 }

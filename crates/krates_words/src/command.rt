@@ -30,12 +30,6 @@ const EDGES: [&str; 7] = [
     "no-dev",
 ];
 
-/// What `--resolver` takes.
-static RESOLVERS: [&str; 3] = ["1", "2", "3"];
-
-/// What `--side` takes.
-static SIDES: [&str; 2] = ["host", "target"];
-
 /// The command, with its words.
 pub(crate) fn command_line<'w>(alloc: Global) -> Result<Command<'w>, AllocError> {
     let words = subcommands(alloc)?;
@@ -148,12 +142,11 @@ impl KnownOption {
             Takes::Nothing => arg.action(ArgAction::SetTrue),
             Takes::One(value) => one(arg, value),
             Takes::Each(value) => arg.action(ArgAction::Append).value_name(value),
+            Takes::OneOf(name, values) => one_of(arg, name, values),
             Takes::Rules => one_of(arg, "RULES", &rules::NAMES).default_value(rules::DEFAULT),
-            Takes::Resolver => one_of(arg, "VERSION", &RESOLVERS),
-            Takes::Side => one_of(arg, "SIDE", &SIDES),
             Takes::Edges => among(arg, "KINDS", &EDGES).value_delimiter(','),
             Takes::Kind => among(arg, "KIND", &KINDS),
-            Takes::Bytes => { one(arg, "BYTES").value_parser(ValueParser::Unsigned(0, u64::MAX)) }
+            Takes::Number(name) => one(arg, name).value_parser(ValueParser::Unsigned(0, u64::MAX)),
             Takes::Certified => one(arg, "FILE").required(true),
             Takes::Document | Takes::Argument { .. } => one(arg, "FILE"),
         }

@@ -5,7 +5,7 @@ use crate::found_rules::{build_words, choice};
 use crate::rules::By;
 use crate::together::check;
 use crate::values::{required, text, texts};
-use crate::{Asked, BuildSide, CargoWords, Input, Rules, Word};
+use crate::{Asked, BillWords, BuildSide, CargoWords, Input, Rules, ShellWords, TreeWords, Word};
 use clap::ArgMatches;
 use std::alloc::{AllocError, Global};
 
@@ -30,6 +30,7 @@ pub(crate) fn asked(alloc: Global, found: &ArgMatches<'_>) -> Result<Asked, Word
         rules,
         is_json: found.get_flag("json"),
         max_bytes: max_bytes(found),
+        shell: ShellWords::of(found),
     })
 }
 
@@ -41,18 +42,32 @@ fn word(alloc: Global, name: &str, found: &ArgMatches<'_>) -> Result<Word, Words
             side: side(found),
             units: found.get_flag("units"),
         }),
-        "tree" => Ok(Word::Tree {
-            spec: text(alloc, found, "SPEC")?,
-        }),
+        "tree" => tree(alloc, found),
         "duplicates" => Ok(Word::Duplicates),
         "licences" => Ok(Word::Licences),
         "uses" => Ok(Word::Uses),
-        "sbom" => Ok(Word::Sbom),
+        "sbom" => Ok(Word::Sbom {
+            words: BillWords::of(alloc, found)?,
+        }),
         "diff" => Ok(Word::Diff {
-            other: required(alloc, found, "FILE")?,
+            old: required(alloc, found, "OLD")?,
+            exit_code: found.get_flag("exit-code"),
         }),
         "certify" => certificate(alloc, found),
         _ => word_of_crate(alloc, name, found),
+    }
+}
+
+/// A tree of what the crate that is named needs, or where it is inverted of those that need it.
+fn tree(alloc: Global, found: &ArgMatches<'_>) -> Result<Word, WordsError> {
+    let words = TreeWords::of(alloc, found)?;
+    match (text(alloc, found, "SPEC")?, text(alloc, found, "invert")?) {
+        (Some(_), Some(_)) => Err(WordsError::wrong(
+            alloc,
+            "<SPEC> can't stand beside '--invert <SPEC>'",
+        )),
+        (spec, None) => Ok(Word::Tree { spec, words }),
+        (None, Some(spec)) => Ok(Word::Dependents { spec, words }),
     }
 }
 
@@ -69,7 +84,10 @@ fn certificate(alloc: Global, found: &ArgMatches<'_>) -> Result<Word, WordsError
 fn word_of_crate(alloc: Global, name: &str, found: &ArgMatches<'_>) -> Result<Word, WordsError> {
     let spec = required(alloc, found, "SPEC")?;
     match name {
-        "dependents" => Ok(Word::Dependents { spec }),
+        "dependents" => Ok(Word::Dependents {
+            spec,
+            words: TreeWords::of(alloc, found)?,
+        }),
         "why" => Ok(Word::Why {
             spec,
             steps: found.get_flag("steps"),

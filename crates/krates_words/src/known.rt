@@ -1,7 +1,8 @@
 //! Which words are known, and what help says about them.
 
 use crate::known_options::{
-    ALL, IDS, JSON, KRATE, KnownOption, MAYBE_KRATE, OTHER, SIDE, STEPS, UNITS,
+    ALL, CHARSET, DEPTH, EXIT_CODE, FORMAT, IDS, INVERT, JSON, KRATE, KnownOption, MAYBE_KRATE,
+    NO_DEDUPE, OLD, PREFIX, PRUNE, SERIAL, SIDE, SPEC_VERSION, STEPS, TIMESTAMP, UNITS,
 };
 
 /// A word.
@@ -29,13 +30,25 @@ pub(crate) static WORDS: [KnownWord; 12] = [
         name: "tree",
         alias: None,
         about: "What the workspace or a crate needs, as a tree",
-        own: &[MAYBE_KRATE, JSON],
+        own: &[
+            MAYBE_KRATE,
+            INVERT,
+            DEPTH,
+            PRUNE,
+            NO_DEDUPE,
+            PREFIX,
+            CHARSET,
+            FORMAT,
+            JSON,
+        ],
     },
     KnownWord {
         name: "dependents",
         alias: None,
         about: "Which crates need a crate, all the way up",
-        own: &[KRATE, JSON],
+        own: &[
+            KRATE, DEPTH, PRUNE, NO_DEDUPE, PREFIX, CHARSET, FORMAT, JSON,
+        ],
     },
     KnownWord {
         name: "why",
@@ -70,14 +83,14 @@ pub(crate) static WORDS: [KnownWord; 12] = [
     KnownWord {
         name: "diff",
         alias: None,
-        about: "What is built of another document and not of this one, and the other way round",
-        own: &[OTHER, JSON],
+        about: "What went and what came since another document: crates, dependencies, features",
+        own: &[OLD, EXIT_CODE, JSON],
     },
     KnownWord {
         name: "sbom",
         alias: None,
-        about: "A bill of materials: CycloneDX 1.5, as JSON",
-        own: &[JSON],
+        about: "A bill of materials: CycloneDX, as JSON",
+        own: &[SPEC_VERSION, TIMESTAMP, SERIAL, JSON],
     },
     KnownWord {
         name: "unreachable",

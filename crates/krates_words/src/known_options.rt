@@ -9,18 +9,16 @@ pub(crate) enum Takes {
     One(&'static str),
     /// One value at each of its uses, which help calls by this name.
     Each(&'static str),
+    /// One of these values, which help calls by this name.
+    OneOf(&'static str, &'static [&'static str]),
     /// The name of rules.
     Rules,
-    /// The version of a resolver.
-    Resolver,
-    /// What something is built for.
-    Side,
     /// Kinds of dependencies at each of its uses, as `cargo tree` names them.
     Edges,
     /// A kind of dependency at each of its uses.
     Kind,
-    /// A number of bytes.
-    Bytes,
+    /// A number, which help calls by this name.
+    Number(&'static str),
     /// Nothing behind it: it is itself a value, that of an argument behind the word, which may have to be there.
     Argument { is_required: bool },
     /// A file, in place of what cargo is told.
@@ -74,12 +72,20 @@ pub(crate) const KRATE: KnownOption = KnownOption {
     ..MAYBE_KRATE
 };
 
-/// Another document after a word.
-pub(crate) const OTHER: KnownOption = KnownOption {
-    name: "FILE",
+/// The document of before, after a word.
+pub(crate) const OLD: KnownOption = KnownOption {
+    name: "OLD",
     short: None,
     takes: Takes::Argument { is_required: true },
-    help: "The other document, as --metadata takes it",
+    help: "The document of before, in a file as --metadata takes it",
+};
+
+/// Says by the status whether two documents differ.
+pub(crate) const EXIT_CODE: KnownOption = KnownOption {
+    name: "exit-code",
+    short: None,
+    takes: Takes::Nothing,
+    help: "End with status 1 where anything differs",
 };
 
 /// Requests JSON.
@@ -101,7 +107,7 @@ const BY: KnownOption = KnownOption {
 const RESOLVER: KnownOption = KnownOption {
     name: "resolver",
     short: None,
-    takes: Takes::Resolver,
+    takes: Takes::OneOf("VERSION", &["1", "2", "3"]),
     help: "By build: the version of the resolver, 1, 2 or 3 [default: what the workspace's Cargo.toml says]",
 };
 
@@ -361,8 +367,24 @@ const METADATA: KnownOption = KnownOption {
 const MAX_BYTES: KnownOption = KnownOption {
     name: "max-bytes",
     short: None,
-    takes: Takes::Bytes,
+    takes: Takes::Number("BYTES"),
     help: "Refuse a file, standard input, or what a program prints{n}where it is longer [default: 4294967296]",
+};
+
+/// Leaves notes out.
+const QUIET: KnownOption = KnownOption {
+    name: "quiet",
+    short: Some('q'),
+    takes: Takes::Nothing,
+    help: "Print no notes",
+};
+
+/// When there are colours.
+const COLOR: KnownOption = KnownOption {
+    name: "color",
+    short: None,
+    takes: Takes::OneOf("WHEN", &["auto", "always", "never"]),
+    help: "Print in colours: auto, always, never [default: auto, on a terminal, unless NO_COLOR is set]",
 };
 
 /// The document against which a certificate is checked.
@@ -385,7 +407,7 @@ pub(crate) const IDS: KnownOption = KnownOption {
 pub(crate) const SIDE: KnownOption = KnownOption {
     name: "side",
     short: None,
-    takes: Takes::Side,
+    takes: Takes::OneOf("SIDE", &["host", "target"]),
     help: "By build: answer for what is built for the host, where build scripts and proc-macros run,{n}or for the target: host, target",
 };
 
@@ -395,6 +417,86 @@ pub(crate) const UNITS: KnownOption = KnownOption {
     short: None,
     takes: Takes::Nothing,
     help: "By build: print below each crate which of its targets are compiled, and for what",
+};
+
+/// Turns a tree round.
+pub(crate) const INVERT: KnownOption = KnownOption {
+    name: "invert",
+    short: Some('i'),
+    takes: Takes::One("SPEC"),
+    help: "Draw which crates need this package, as `dependents` does",
+};
+
+/// Draws a part of a tree.
+pub(crate) const DEPTH: KnownOption = KnownOption {
+    name: "depth",
+    short: None,
+    takes: Takes::Number("DEPTH"),
+    help: "Draw no crate deeper than this below a root",
+};
+
+/// Leaves packages out of a tree.
+pub(crate) const PRUNE: KnownOption = KnownOption {
+    name: "prune",
+    short: None,
+    takes: Takes::Each("SPEC"),
+    help: "Leave out this package, and what only it leads to; may be repeated",
+};
+
+/// Draws all again.
+pub(crate) const NO_DEDUPE: KnownOption = KnownOption {
+    name: "no-dedupe",
+    short: None,
+    takes: Takes::Nothing,
+    help: "Draw what a crate leads to below each of its lines",
+};
+
+/// What stands before a crate.
+pub(crate) const PREFIX: KnownOption = KnownOption {
+    name: "prefix",
+    short: None,
+    takes: Takes::OneOf("PREFIX", &["indent", "depth", "none"]),
+    help: "Write this before each crate: indent, depth, none [default: indent]",
+};
+
+/// By which characters branches are drawn.
+pub(crate) const CHARSET: KnownOption = KnownOption {
+    name: "charset",
+    short: None,
+    takes: Takes::OneOf("CHARSET", &["utf8", "ascii"]),
+    help: "Draw branches by these characters: utf8, ascii [default: utf8]",
+};
+
+/// How a crate is written.
+pub(crate) const FORMAT: KnownOption = KnownOption {
+    name: "format",
+    short: Some('f'),
+    takes: Takes::One("FORMAT"),
+    help: "Write crates so: {p} is the package, {l} its licence, {r} its repository, {f} its features [default: {p}]",
+};
+
+/// In which version a bill of materials is written.
+pub(crate) const SPEC_VERSION: KnownOption = KnownOption {
+    name: "spec-version",
+    short: None,
+    takes: Takes::OneOf("VERSION", &["1.5", "1.6"]),
+    help: "Write CycloneDX of this version: 1.5, 1.6 [default: 1.5]",
+};
+
+/// When a bill of materials was made.
+pub(crate) const TIMESTAMP: KnownOption = KnownOption {
+    name: "timestamp",
+    short: None,
+    takes: Takes::One("TIME"),
+    help: "Say that it was made at this time, in UTC, as 2026-12-01T08:00:00Z",
+};
+
+/// The serial number of a bill of materials.
+pub(crate) const SERIAL: KnownOption = KnownOption {
+    name: "serial",
+    short: None,
+    takes: Takes::One("UUID"),
+    help: "Give it this serial number",
 };
 
 /// Prints steps.
@@ -448,6 +550,11 @@ const LIMITS: Group = Group {
     options: &[MAX_BYTES],
 };
 
+const FOR_PEOPLE: Group = Group {
+    heading: Some("How it is printed"),
+    options: &[QUIET, COLOR],
+};
+
 const TOLD_TO_CARGO: Group = Group {
     heading: Some("What cargo is told"),
     options: &OF_CARGO,
@@ -459,7 +566,7 @@ const IN_PLACE_OF_CARGO: Group = Group {
 };
 
 /// What each word takes.
-pub(crate) static FOR_ANSWERS: [Group; 9] = [
+pub(crate) static FOR_ANSWERS: [Group; 10] = [
     RULES,
     PACKAGES,
     TARGET_KINDS,
@@ -469,10 +576,11 @@ pub(crate) static FOR_ANSWERS: [Group; 9] = [
     TOLD_TO_CARGO,
     IN_PLACE_OF_CARGO,
     LIMITS,
+    FOR_PEOPLE,
 ];
 
 /// What the program takes that checks certificates.
-pub(crate) static FOR_CERTIFICATES: [Group; 8] = [
+pub(crate) static FOR_CERTIFICATES: [Group; 9] = [
     Group {
         heading: None,
         options: &[DOCUMENT],
@@ -484,4 +592,5 @@ pub(crate) static FOR_CERTIFICATES: [Group; 8] = [
     FEATURES,
     MACHINES,
     LIMITS,
+    FOR_PEOPLE,
 ];

@@ -1,6 +1,7 @@
 //! What the words of the command lines `cargo krates` and `krates_check` mean. Only the words are read.
 #![tactic(auto)]
 
+mod bill_words;
 mod build_words;
 mod cargo;
 mod check_words;
@@ -15,22 +16,27 @@ mod known;
 mod known_options;
 mod rules;
 mod setting_words;
+mod shell_words;
 mod stated;
 mod together;
+mod tree_words;
 mod values;
 mod words_of_build;
 
 use crate::command::command_line;
 use crate::error::shown_words;
 use crate::found::asked;
+pub use bill_words::{BillWords, SpecVersion};
 pub use build_words::BuildWords;
 pub use cargo::CargoWords;
 pub use check_words::{CheckWords, check_words_of};
 pub use choice::Choice;
 pub use error::WordsError;
 pub use rules::Rules;
+pub use shell_words::{ColorChoice, ShellWords};
 pub use stated::StatedSetting;
 use std::alloc::{AllocError, Global};
+pub use tree_words::{Prefix, TreeWords};
 pub use words_of_build::{build_setting_words, resolver_name};
 
 /// What a run is asked for.
@@ -48,6 +54,8 @@ pub struct Asked {
     pub is_json: bool,
     /// The most bytes that are read of one input, which is a file, standard input, or what a program prints: `--max-bytes`.
     pub max_bytes: u64,
+    /// How the program talks to people: `--quiet` and `--color`.
+    pub shell: ShellWords,
 }
 
 /// What is answered.
@@ -66,11 +74,15 @@ pub enum Word {
     Tree {
         /// The package specification or id of the crate.
         spec: Option<String>,
+        /// How it is drawn.
+        words: TreeWords,
     },
     /// What needs a crate.
     Dependents {
         /// The package specification or id of the crate.
         spec: String,
+        /// How it is drawn.
+        words: TreeWords,
     },
     /// Why a crate is kept.
     Why {
@@ -90,13 +102,18 @@ pub enum Word {
     Licences,
     /// What each crate is used for.
     Uses,
-    /// What another document keeps that this one doesn't, and the other way round.
+    /// What went since another document, and what came.
     Diff {
-        /// The file with the other document, `-` for standard input.
-        other: String,
+        /// The file with the other document, which was before this one; `-` for standard input.
+        old: String,
+        /// Whether it is a no where anything went or came: `--exit-code`.
+        exit_code: bool,
     },
     /// A bill of materials.
-    Sbom,
+    Sbom {
+        /// What the words say of it.
+        words: BillWords,
+    },
     /// A certificate that someone else can check.
     Certify {
         /// The package specification or id of the crate that it is about; `None` where it is about all that is kept: `--all`.

@@ -23,7 +23,7 @@ pub(crate) fn check(alloc: Global, by: By, found: &ArgMatches<'_>) -> Result<(),
         }
     }
     check_manifest(alloc, found.get_str("manifest-path"))?;
-    check_documents(alloc, found.get_str("metadata"), found.get_str("FILE"))
+    check_documents(alloc, found.get_str("metadata"), found.get_str("OLD"))
 }
 
 /// Refuses options that only the other rules know.

@@ -13,11 +13,11 @@ static LISTS: &[Row] = &[
     ),
     (
         "list --json < a b&crates.io|b&crates.io",
-        "[\n  {\n    \"id\": \"path+file:///w/a#0.1.0\",\n    \"name\": \"a\",\n    \"source\": null,\n    \"version\": \"0.1.0\"\n  },\n  {\n    \"id\": \"registry+https://github.com/rust-lang/crates.io-index#b@0.1.0\",\n    \"name\": \"b\",\n    \"source\": \"registry+https://github.com/rust-lang/crates.io-index\",\n    \"version\": \"0.1.0\"\n  }\n]\n",
+        "{\n  \"answer\": [\n    {\n      \"id\": \"path+file:///w/a#0.1.0\",\n      \"name\": \"a\",\n      \"source\": null,\n      \"version\": \"0.1.0\"\n    },\n    {\n      \"id\": \"registry+https://github.com/rust-lang/crates.io-index#b@0.1.0\",\n      \"name\": \"b\",\n      \"source\": \"registry+https://github.com/rust-lang/crates.io-index\",\n      \"version\": \"0.1.0\"\n    }\n  ],\n  \"rules\": \"krates\",\n  \"version\": 1\n}\n",
     ),
     (
         "list --ids --json < a|b",
-        "[\n  {\n    \"id\": \"path+file:///w/a#0.1.0\",\n    \"name\": \"a\",\n    \"source\": null,\n    \"version\": \"0.1.0\"\n  }\n]\n",
+        "{\n  \"answer\": [\n    {\n      \"id\": \"path+file:///w/a#0.1.0\",\n      \"name\": \"a\",\n      \"source\": null,\n      \"version\": \"0.1.0\"\n    }\n  ],\n  \"rules\": \"krates\",\n  \"version\": 1\n}\n",
     ),
     // which part of the document counts
     ("list -e no-dev < a b&dev|b", "a v0.1.0 (/w/a)\n"),
@@ -68,7 +68,7 @@ static LISTS: &[Row] = &[
     ("list --exclude a < a", "refused: no root crates available"),
     (
         "list < a / no graph",
-        "refused: no resolution graph was provided",
+        "refused: no resolution graph was provided; `cargo metadata --format-version 1` writes one, without --no-deps",
     ),
 ];
 
@@ -85,7 +85,7 @@ static DUPLICATES: &[Row] = &[
     ),
     (
         "duplicates --json < a b|b d|d|d@0.2.0 / members a d@0.2.0",
-        "[\n  {\n    \"crates\": [\n      {\n        \"crate\": {\n          \"id\": \"path+file:///w/d#0.1.0\",\n          \"name\": \"d\",\n          \"source\": null,\n          \"version\": \"0.1.0\"\n        },\n        \"dependents\": [\n          \"path+file:///w/b#0.1.0\"\n        ]\n      },\n      {\n        \"crate\": {\n          \"id\": \"path+file:///w/d#d@0.2.0\",\n          \"name\": \"d\",\n          \"source\": null,\n          \"version\": \"0.2.0\"\n        },\n        \"dependents\": []\n      }\n    ],\n    \"name\": \"d\"\n  }\n]\n",
+        "{\n  \"answer\": [\n    {\n      \"crates\": [\n        {\n          \"crate\": {\n            \"id\": \"path+file:///w/d#0.1.0\",\n            \"name\": \"d\",\n            \"source\": null,\n            \"version\": \"0.1.0\"\n          },\n          \"dependents\": [\n            \"path+file:///w/b#0.1.0\"\n          ]\n        },\n        {\n          \"crate\": {\n            \"id\": \"path+file:///w/d#d@0.2.0\",\n            \"name\": \"d\",\n            \"source\": null,\n            \"version\": \"0.2.0\"\n          },\n          \"dependents\": []\n        }\n      ],\n      \"name\": \"d\"\n    }\n  ],\n  \"rules\": \"krates\",\n  \"version\": 1\n}\n",
     ),
     (
         "duplicates -e no-dev < a b c&dev|b d|c d@0.2.0|d|d@0.2.0",
@@ -105,7 +105,7 @@ static LICENCES: &[Row] = &[
     ),
     (
         "licences --json < a",
-        "[\n  {\n    \"crates\": [\n      {\n        \"id\": \"path+file:///w/a#0.1.0\",\n        \"name\": \"a\",\n        \"source\": null,\n        \"version\": \"0.1.0\"\n      }\n    ],\n    \"licence\": null\n  }\n]\n",
+        "{\n  \"answer\": [\n    {\n      \"crates\": [\n        {\n          \"id\": \"path+file:///w/a#0.1.0\",\n          \"name\": \"a\",\n          \"source\": null,\n          \"version\": \"0.1.0\"\n        }\n      ],\n      \"licence\": null\n    }\n  ],\n  \"rules\": \"krates\",\n  \"version\": 1\n}\n",
     ),
     (
         "licences < versions",
@@ -133,7 +133,7 @@ static USES: &[Row] = &[
     ),
     (
         "uses --json < a b&dev|b",
-        "{\n  \"build\": [],\n  \"dev\": [\n    {\n      \"id\": \"path+file:///w/b#0.1.0\",\n      \"name\": \"b\",\n      \"source\": null,\n      \"version\": \"0.1.0\"\n    }\n  ],\n  \"shipped\": [\n    {\n      \"id\": \"path+file:///w/a#0.1.0\",\n      \"name\": \"a\",\n      \"source\": null,\n      \"version\": \"0.1.0\"\n    }\n  ]\n}\n",
+        "{\n  \"answer\": {\n    \"build\": [],\n    \"dev\": [\n      {\n        \"id\": \"path+file:///w/b#0.1.0\",\n        \"name\": \"b\",\n        \"source\": null,\n        \"version\": \"0.1.0\"\n      }\n    ],\n    \"shipped\": [\n      {\n        \"id\": \"path+file:///w/a#0.1.0\",\n        \"name\": \"a\",\n        \"source\": null,\n        \"version\": \"0.1.0\"\n      }\n    ]\n  },\n  \"rules\": \"krates\",\n  \"version\": 1\n}\n",
     ),
     (
         "uses < versions",

@@ -114,7 +114,7 @@ static NAMES: &[Row] = &[
 static WORDS: &[Row] = &[
     (
         "",
-        "Which crates cargo builds in a workspace, and why\n\nUsage: cargo krates <WORD>\n\nWords:\n  list         The crates that are built, a line for each\n  tree         What the workspace or a crate needs, as a tree\n  dependents   Which crates need a crate, all the way up\n  why          Why a crate is built, step by step from the workspace\n  features     Which features of a crate are enabled, each with a reason\n  duplicates   Which names are built in several versions, and who needs each\n  licences     Under which licences the crates are, and which state none [alias: licenses]\n  uses         Which crates are shipped, and which are for building or development alone\n  diff         What is built of another document and not of this one, and the other way round\n  sbom         A bill of materials: CycloneDX 1.5, as JSON\n  unreachable  Whether it is certain that a crate isn't built\n  certify      A certificate, as JSON, that someone else can check against the document\n  help         Print this message or the help of the given subcommand(s)\n\nOptions:\n  -h, --help     Print help\n  -V, --version  Print version\n\nWithout options it is about what `cargo build` would build here; --by krates answers for the graph of the Rust crate krates.\nSPEC names a package as cargo's -p does: serde, serde@1.0.152, or its id.\n`cargo krates WORD --help` lists the options of a word.\n",
+        "Which crates cargo builds in a workspace, and why\n\nUsage: cargo krates <WORD>\n\nWords:\n  list         The crates that are built, a line for each\n  tree         What the workspace or a crate needs, as a tree\n  dependents   Which crates need a crate, all the way up\n  why          Why a crate is built, step by step from the workspace\n  features     Which features of a crate are enabled, each with a reason\n  duplicates   Which names are built in several versions, and who needs each\n  licences     Under which licences the crates are, and which state none [alias: licenses]\n  uses         Which crates are shipped, and which are for building or development alone\n  diff         What went and what came since another document: crates, dependencies, features\n  sbom         A bill of materials: CycloneDX, as JSON\n  unreachable  Whether it is certain that a crate isn't built\n  certify      A certificate, as JSON, that someone else can check against the document\n  help         Print this message or the help of the given subcommand(s)\n\nOptions:\n  -h, --help     Print help\n  -V, --version  Print version\n\nWithout options it is about what `cargo build` would build here; --by krates answers for the graph of the Rust crate krates.\nSPEC names a package as cargo's -p does: serde, serde@1.0.152, or its id.\n`cargo krates WORD --help` lists the options of a word.\n",
     ),
     (
         "lst",
@@ -155,6 +155,14 @@ static WORDS: &[Row] = &[
     (
         "list -e normal,tests",
         "error: invalid value 'tests' for '--edges <KINDS>'\n  [possible values: normal, build, dev, all, no-normal, no-build, no-dev]\n\nFor more information, try '--help'.\n",
+    ),
+    (
+        "sbom --timestamp 2026-12-01",
+        "error: invalid value '2026-12-01' for '--timestamp <TIME>': it has to be a time in UTC, as 2026-12-01T08:00:00Z\n\nFor more information, try '--help'.\n",
+    ),
+    (
+        "sbom --serial 3E671687-395B-41F5-A30F-A58921A69B79",
+        "error: invalid value '3E671687-395B-41F5-A30F-A58921A69B79' for '--serial <UUID>': it has to be a UUID in small letters, as 3e671687-395b-41f5-a30f-a58921a69b79\n\nFor more information, try '--help'.\n",
     ),
     (
         "list --cfg F",

@@ -40,7 +40,7 @@ static WHYS: &[Row] = &[
     ),
     (
         "why --json b < a b&dev|b",
-        "{\n  \"id\": \"path+file:///w/b#0.1.0\",\n  \"steps\": [\n    {\n      \"fact\": \"crate path+file:///w/a#0.1.0\",\n      \"rule\": 1,\n      \"uses\": []\n    },\n    {\n      \"fact\": \"kept path+file:///w/a#0.1.0 -> path+file:///w/b#0.1.0 (dev)\",\n      \"rule\": 5,\n      \"uses\": [\n        0\n      ]\n    },\n    {\n      \"fact\": \"crate path+file:///w/b#0.1.0\",\n      \"rule\": 5,\n      \"uses\": [\n        1\n      ]\n    }\n  ]\n}\n",
+        "{\n  \"answer\": {\n    \"id\": \"path+file:///w/b#0.1.0\",\n    \"steps\": [\n      {\n        \"fact\": \"crate path+file:///w/a#0.1.0\",\n        \"rule\": 1,\n        \"uses\": []\n      },\n      {\n        \"fact\": \"kept path+file:///w/a#0.1.0 -> path+file:///w/b#0.1.0 (dev)\",\n        \"rule\": 5,\n        \"uses\": [\n          0\n        ]\n      },\n      {\n        \"fact\": \"crate path+file:///w/b#0.1.0\",\n        \"rule\": 5,\n        \"uses\": [\n          1\n        ]\n      }\n    ]\n  },\n  \"rules\": \"krates\",\n  \"version\": 1\n}\n",
     ),
     (
         "why wk-leaf@2.1.0 < versions",
@@ -73,7 +73,7 @@ static FEATURES: &[Row] = &[
     ("features b < a b|b;x=", "b v0.1.0 (/w/b)\n"),
     (
         "features --json b < a b&with=x|b;x=y y=",
-        "{\n  \"features\": [\n    {\n      \"name\": \"x\",\n      \"reason\": \"a v0.1.0 asks for it\"\n    },\n    {\n      \"name\": \"y\",\n      \"reason\": \"its feature `x` enables it\"\n    }\n  ],\n  \"id\": \"path+file:///w/b#0.1.0\"\n}\n",
+        "{\n  \"answer\": {\n    \"features\": [\n      {\n        \"name\": \"x\",\n        \"reason\": \"a v0.1.0 asks for it\"\n      },\n      {\n        \"name\": \"y\",\n        \"reason\": \"its feature `x` enables it\"\n      }\n    ],\n    \"id\": \"path+file:///w/b#0.1.0\"\n  },\n  \"rules\": \"krates\",\n  \"version\": 1\n}\n",
     ),
     (
         "features wk-leaf@2.1.0 < versions",
@@ -97,13 +97,25 @@ static UNREACHABLE: &[Row] = &[
     ),
     (
         "unreachable --json c < a b|b|c",
-        "{\n  \"id\": \"path+file:///w/c#0.1.0\",\n  \"unreachable\": true\n}\n",
+        "{\n  \"answer\": {\n    \"id\": \"path+file:///w/c#0.1.0\",\n    \"unreachable\": true\n  },\n  \"rules\": \"krates\",\n  \"version\": 1\n}\n",
     ),
     (
         "unreachable --json b < a b|b",
-        "no: {\n  \"id\": \"path+file:///w/b#0.1.0\",\n  \"unreachable\": false\n}\n",
+        "no: {\n  \"answer\": {\n    \"id\": \"path+file:///w/b#0.1.0\",\n    \"unreachable\": false\n  },\n  \"rules\": \"krates\",\n  \"version\": 1\n}\n",
     ),
-    ("unreachable z < a b|b", "refused: no package fits `z`"),
+    // what the document lacks can't be reached, but the word may be a slip
+    (
+        "unreachable z < a b|b",
+        "`z` can't be reached: no package of the document fits\n",
+    ),
+    (
+        "unreachable sered < a serde|serde",
+        "`sered` can't be reached: no package of the document fits; these come near:\n    serde@0.1.0\n",
+    ),
+    (
+        "unreachable sered --json < a serde|serde",
+        "{\n  \"answer\": {\n    \"id\": null,\n    \"near\": [\n      \"serde@0.1.0\"\n    ],\n    \"unreachable\": true\n  },\n  \"rules\": \"krates\",\n  \"version\": 1\n}\n",
+    ),
     (
         "unreachable d < a|d|d@0.2.0",
         "refused: `d` fits several packages; name one of them:\n    d@0.1.0\n    d@0.2.0",

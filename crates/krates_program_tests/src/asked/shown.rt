@@ -62,13 +62,13 @@ fn hostile_words(alloc: Global, line: &[String]) -> Result<Vec<String>, Fail> {
 
 /// What is printed of documents.
 fn printed_of(alloc: Global, asked: &Asked, documents: &str) -> Result<String, Fail> {
-    let (first, second) = documents.split_once(" // ").unwrap_or((documents, "a"));
+    let (old, document) = documents.split_once(" // ").unwrap_or(("a", documents));
     let choice = choice_of(asked)?;
-    let other = hostile_document(alloc, second)?;
-    let document = hostile_document(alloc, first)?;
+    let old = hostile_document(alloc, old)?;
+    let document = hostile_document(alloc, document)?;
     told_of(
         alloc,
-        Reporter::new(alloc, asked, choice).answer(document, Some(other)),
+        Reporter::new(alloc, asked, choice).answer(document, Some(old)),
     )
 }
 
@@ -156,11 +156,11 @@ static LINES: &[Row] = &[
 static JSON: &[Row] = &[
     (
         "list --json < a¤ / members a¤",
-        "[\n  {\n    \"id\": \"path+file:///w/a¤json#0.1.0\",\n    \"name\": \"a¤json\",\n    \"source\": null,\n    \"version\": \"0.1.0\"\n  }\n]\n",
+        "{\n  \"answer\": [\n    {\n      \"id\": \"path+file:///w/a¤json#0.1.0\",\n      \"name\": \"a¤json\",\n      \"source\": null,\n      \"version\": \"0.1.0\"\n    }\n  ],\n  \"rules\": \"krates\",\n  \"version\": 1\n}\n",
     ),
     (
         "features a --json < a;x¤=",
-        "{\n  \"features\": [\n    {\n      \"name\": \"x¤json\",\n      \"reason\": \"a v0.1.0 is a root, for which cargo lists it\"\n    }\n  ],\n  \"id\": \"path+file:///w/a#0.1.0\"\n}\n",
+        "{\n  \"answer\": {\n    \"features\": [\n      {\n        \"name\": \"x¤json\",\n        \"reason\": \"a v0.1.0 is a root, for which cargo lists it\"\n      }\n    ],\n    \"id\": \"path+file:///w/a#0.1.0\"\n  },\n  \"rules\": \"krates\",\n  \"version\": 1\n}\n",
     ),
     (
         "certify path+file:///w/a¤#0.1.0 < a¤ / members a¤",
@@ -168,7 +168,7 @@ static JSON: &[Row] = &[
     ),
     (
         "sbom < a¤ / members a¤",
-        "{\n  \"$schema\": \"http://cyclonedx.org/schema/bom-1.5.schema.json\",\n  \"bomFormat\": \"CycloneDX\",\n  \"components\": [\n    {\n      \"bom-ref\": \"path+file:///w/a¤escaped#0.1.0\",\n      \"licenses\": [\n        {\n          \"expression\": \"¤escaped\"\n        }\n      ],\n      \"name\": \"a¤escaped\",\n      \"purl\": \"pkg:cargo/ax%1B%5B2K%0D%0A%09%7F%C2%9B31m%E2%80%AE%22%27@0.1.0?download_url=file%3A%2F%2F%2Fw%2Fax%1B%5B2K%0D%0A%09%7F%C2%9B31m%E2%80%AE%22%27\",\n      \"scope\": \"required\",\n      \"type\": \"library\",\n      \"version\": \"0.1.0\"\n    }\n  ],\n  \"dependencies\": [\n    {\n      \"dependsOn\": [],\n      \"ref\": \"path+file:///w/a¤escaped#0.1.0\"\n    }\n  ],\n  \"specVersion\": \"1.5\",\n  \"version\": 1\n}\n",
+        "{\n  \"$schema\": \"http://cyclonedx.org/schema/bom-1.5.schema.json\",\n  \"bomFormat\": \"CycloneDX\",\n  \"components\": [],\n  \"dependencies\": [\n    {\n      \"dependsOn\": [],\n      \"ref\": \"pkg:cargo/ax%1B%5B2K%0D%0A%09%7F%C2%9B31m%E2%80%AE%22%27@0.1.0?download_url=file%3A%2F%2F%2Fw%2Fax%1B%5B2K%0D%0A%09%7F%C2%9B31m%E2%80%AE%22%27\"\n    }\n  ],\n  \"metadata\": {\n    \"component\": {\n      \"bom-ref\": \"pkg:cargo/ax%1B%5B2K%0D%0A%09%7F%C2%9B31m%E2%80%AE%22%27@0.1.0?download_url=file%3A%2F%2F%2Fw%2Fax%1B%5B2K%0D%0A%09%7F%C2%9B31m%E2%80%AE%22%27\",\n      \"licenses\": [\n        {\n          \"license\": {\n            \"name\": \"¤escaped\"\n          }\n        }\n      ],\n      \"name\": \"a¤escaped\",\n      \"purl\": \"pkg:cargo/ax%1B%5B2K%0D%0A%09%7F%C2%9B31m%E2%80%AE%22%27@0.1.0?download_url=file%3A%2F%2F%2Fw%2Fax%1B%5B2K%0D%0A%09%7F%C2%9B31m%E2%80%AE%22%27\",\n      \"type\": \"library\",\n      \"version\": \"0.1.0\"\n    },\n    \"tools\": {\n      \"components\": [\n        {\n          \"name\": \"cargo-krates\",\n          \"type\": \"application\",\n          \"version\": \"0.22.0\"\n        }\n      ]\n    }\n  },\n  \"specVersion\": \"1.5\",\n  \"version\": 1\n}\n",
     ),
 ];
 

@@ -43,11 +43,24 @@ static TREES: &[Row] = &[
     ),
     (
         "tree --json < a b|b a&dev",
-        "[\n  {\n    \"depth\": 0,\n    \"id\": \"path+file:///w/a#0.1.0\",\n    \"repeated\": false\n  },\n  {\n    \"depth\": 1,\n    \"id\": \"path+file:///w/b#0.1.0\",\n    \"repeated\": false\n  },\n  {\n    \"depth\": 2,\n    \"id\": \"path+file:///w/a#0.1.0\",\n    \"repeated\": true\n  }\n]\n",
+        "{\n  \"answer\": [\n    {\n      \"depth\": 0,\n      \"id\": \"path+file:///w/a#0.1.0\",\n      \"repeated\": false\n    },\n    {\n      \"depth\": 1,\n      \"id\": \"path+file:///w/b#0.1.0\",\n      \"repeated\": false\n    },\n    {\n      \"depth\": 2,\n      \"id\": \"path+file:///w/a#0.1.0\",\n      \"repeated\": true\n    }\n  ],\n  \"rules\": \"krates\",\n  \"version\": 1\n}\n",
     ),
     (
         "tree < versions",
         "versions v0.1.0 (/w/ws-versions)\n├── odd_lib v0.5.0\n├── wk-leaf v1.0.0\n├── wk-leaf v2.1.0\n├── wk-leaf v3.0.0-beta.2\n├── wk-lib-renamed v1.2.3\n└── wk-user v1.0.0+build.7\n    ├── wk-lib-renamed v1.2.3\n    └── wk-mac v1.0.0\n        └── wk-leaf v2.1.0\n",
+    ),
+    // as the words draw it
+    (
+        "tree --depth 1 --charset ascii < a b|b c|c",
+        "a v0.1.0 (/w/a)\n`-- b v0.1.0 (/w/b)\n",
+    ),
+    (
+        "tree --prune b -f {p}[{f}] < a b c!|b|c;f= default=f",
+        "a v0.1.0 (/w/a)[]\n└── c v0.1.0 (/w/c)[default,f]\n",
+    ),
+    (
+        "tree -i b --prefix none < a b|b",
+        "b v0.1.0 (/w/b)\na v0.1.0 (/w/a)\n",
     ),
 ];
 
@@ -64,7 +77,7 @@ static DEPENDENTS: &[Row] = &[
     ),
     (
         "dependents --json b < a b|b",
-        "[\n  {\n    \"depth\": 0,\n    \"id\": \"path+file:///w/b#0.1.0\",\n    \"repeated\": false\n  },\n  {\n    \"depth\": 1,\n    \"id\": \"path+file:///w/a#0.1.0\",\n    \"repeated\": false\n  }\n]\n",
+        "{\n  \"answer\": [\n    {\n      \"depth\": 0,\n      \"id\": \"path+file:///w/b#0.1.0\",\n      \"repeated\": false\n    },\n    {\n      \"depth\": 1,\n      \"id\": \"path+file:///w/a#0.1.0\",\n      \"repeated\": false\n    }\n  ],\n  \"rules\": \"krates\",\n  \"version\": 1\n}\n",
     ),
     (
         "dependents wk-leaf@2.1.0 < versions",

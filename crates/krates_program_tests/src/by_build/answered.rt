@@ -1,6 +1,7 @@
 //! What is answered to words about what cargo builds of a small document.
 //!
-//! A line has the words, and after `<` the document, as `krates_samples` reads it or `OPENSSL`, or two with `//` between them. The machine that builds is `linux`, of which rustc says
+//! A line has the words, and after `<` the document, as `krates_samples` reads it or `OPENSSL`, or two with `//` between them, of which the first is
+//! that of before. The machine that builds is `linux`, of which rustc says
 //! `unix` here; a machine of another name is described by that name. The resolver is the second where the words name none.
 
 use krates_build_report::{BuildReportError, BuildReporter};
@@ -68,7 +69,7 @@ fn told_of(alloc: Global, answer: Result<Report, BuildReportError>) -> Result<St
     }
 }
 
-/// What is answered about a build of a document, or about those of two documents.
+/// What is answered about a build of a document, or about those of two, where the first is that of before.
 fn answer_of(
     alloc: Global,
     asked: &Asked,

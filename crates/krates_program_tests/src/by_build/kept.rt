@@ -103,7 +103,7 @@ static LISTS: &[Row] = &[
     ),
     (
         "list --json --target windows < a m|m / targets a:bin m:proc-macro,custom-build",
-        "{\n  \"answer\": [\n    {\n      \"build_script\": false,\n      \"crate\": {\n        \"id\": \"path+file:///w/a#0.1.0\",\n        \"name\": \"a\",\n        \"source\": null,\n        \"version\": \"0.1.0\"\n      },\n      \"for_host\": false,\n      \"for_targets\": true,\n      \"units\": [\n        {\n          \"kind\": \"program\",\n          \"mode\": \"build\",\n          \"name\": \"a\",\n          \"platform\": \"windows\"\n        }\n      ]\n    },\n    {\n      \"build_script\": true,\n      \"crate\": {\n        \"id\": \"path+file:///w/m#0.1.0\",\n        \"name\": \"m\",\n        \"source\": null,\n        \"version\": \"0.1.0\"\n      },\n      \"for_host\": true,\n      \"for_targets\": false,\n      \"units\": [\n        {\n          \"kind\": \"proc-macro\",\n          \"mode\": \"build\",\n          \"name\": \"m\",\n          \"platform\": \"host\"\n        }\n      ]\n    }\n  ],\n  \"build\": {\n    \"all_features\": false,\n    \"features\": [],\n    \"host\": \"linux\",\n    \"no_default_features\": false,\n    \"packages\": \"default\",\n    \"resolver\": \"2\",\n    \"target_kinds\": [],\n    \"targets\": [\n      \"windows\"\n    ]\n  },\n  \"rules\": \"build\"\n}\n",
+        "{\n  \"answer\": [\n    {\n      \"build_script\": false,\n      \"crate\": {\n        \"id\": \"path+file:///w/a#0.1.0\",\n        \"name\": \"a\",\n        \"source\": null,\n        \"version\": \"0.1.0\"\n      },\n      \"for_host\": false,\n      \"for_targets\": true,\n      \"units\": [\n        {\n          \"kind\": \"program\",\n          \"mode\": \"build\",\n          \"name\": \"a\",\n          \"platform\": \"windows\"\n        }\n      ]\n    },\n    {\n      \"build_script\": true,\n      \"crate\": {\n        \"id\": \"path+file:///w/m#0.1.0\",\n        \"name\": \"m\",\n        \"source\": null,\n        \"version\": \"0.1.0\"\n      },\n      \"for_host\": true,\n      \"for_targets\": false,\n      \"units\": [\n        {\n          \"kind\": \"proc-macro\",\n          \"mode\": \"build\",\n          \"name\": \"m\",\n          \"platform\": \"host\"\n        }\n      ]\n    }\n  ],\n  \"build\": {\n    \"all_features\": false,\n    \"features\": [],\n    \"host\": \"linux\",\n    \"no_default_features\": false,\n    \"packages\": \"default\",\n    \"resolver\": \"2\",\n    \"target_kinds\": [],\n    \"targets\": [\n      \"windows\"\n    ]\n  },\n  \"rules\": \"build\",\n  \"version\": 1\n}\n",
     ),
 ];
 
@@ -145,7 +145,71 @@ static TREES: &[Row] = &[
     ),
     (
         "tree --json < a b&build|b / targets a:bin,custom-build b:lib",
-        "{\n  \"answer\": [\n    {\n      \"depth\": 0,\n      \"id\": \"path+file:///w/a#0.1.0\",\n      \"kind\": null,\n      \"repeated\": false\n    },\n    {\n      \"depth\": 1,\n      \"id\": \"path+file:///w/b#0.1.0\",\n      \"kind\": \"build\",\n      \"repeated\": false\n    }\n  ],\n  \"build\": {\n    \"all_features\": false,\n    \"features\": [],\n    \"host\": \"linux\",\n    \"no_default_features\": false,\n    \"packages\": \"default\",\n    \"resolver\": \"2\",\n    \"target_kinds\": [],\n    \"targets\": []\n  },\n  \"rules\": \"build\"\n}\n",
+        "{\n  \"answer\": [\n    {\n      \"depth\": 0,\n      \"id\": \"path+file:///w/a#0.1.0\",\n      \"kind\": null,\n      \"repeated\": false\n    },\n    {\n      \"depth\": 1,\n      \"id\": \"path+file:///w/b#0.1.0\",\n      \"kind\": \"build\",\n      \"repeated\": false\n    }\n  ],\n  \"build\": {\n    \"all_features\": false,\n    \"features\": [],\n    \"host\": \"linux\",\n    \"no_default_features\": false,\n    \"packages\": \"default\",\n    \"resolver\": \"2\",\n    \"target_kinds\": [],\n    \"targets\": []\n  },\n  \"rules\": \"build\",\n  \"version\": 1\n}\n",
+    ),
+    // to a depth, which a head isn't part of; what is drawn at that depth isn't opened further up
+    (
+        "tree --depth 0 < a b|b c|c / targets a:bin b:lib c:lib",
+        "a v0.1.0 (/w/a)\n",
+    ),
+    (
+        "tree --depth 1 < a b c&build|b d|c d|d / targets a:bin,custom-build b:lib c:lib d:lib",
+        "a v0.1.0 (/w/a)\n└── b v0.1.0 (/w/b)\n[build-dependencies]\n└── c v0.1.0 (/w/c)\n",
+    ),
+    (
+        "tree --depth 2 < a b c|b c|c d|d / targets a:bin b:lib c:lib d:lib",
+        "a v0.1.0 (/w/a)\n├── b v0.1.0 (/w/b)\n│   └── c v0.1.0 (/w/c)\n└── c v0.1.0 (/w/c) (*)\n",
+    ),
+    (
+        "tree --depth 3 < a b c|b c|c d|d / targets a:bin b:lib c:lib d:lib",
+        "a v0.1.0 (/w/a)\n├── b v0.1.0 (/w/b)\n│   └── c v0.1.0 (/w/c)\n│       └── d v0.1.0 (/w/d)\n└── c v0.1.0 (/w/c) (*)\n",
+    ),
+    // all again, but nothing below itself
+    (
+        "tree --no-dedupe < a b c|b c|c d|d / targets a:bin b:lib c:lib d:lib",
+        "a v0.1.0 (/w/a)\n├── b v0.1.0 (/w/b)\n│   └── c v0.1.0 (/w/c)\n│       └── d v0.1.0 (/w/d)\n└── c v0.1.0 (/w/c)\n    └── d v0.1.0 (/w/d)\n",
+    ),
+    (
+        "tree --tests --no-dedupe < a b&dev|b a / nodes a b&dev|b a / targets a:lib,test b:lib",
+        "a v0.1.0 (/w/a)\n[dev-dependencies]\n└── b v0.1.0 (/w/b)\n    └── a v0.1.0 (/w/a) (*)\n",
+    ),
+    // without a package and what only it leads to
+    (
+        "tree --prune b < a b c|b d e|c d|d|e / targets a:bin b:lib c:lib d:lib e:lib",
+        "a v0.1.0 (/w/a)\n└── c v0.1.0 (/w/c)\n    └── d v0.1.0 (/w/d)\n",
+    ),
+    (
+        "tree --prune z < a / targets a:bin",
+        "refused: no package fits `z`",
+    ),
+    // turned round, in other characters, without branches, and as a format has it
+    (
+        "tree -i c < a b c|b c|c / targets a:bin b:lib c:lib",
+        "c v0.1.0 (/w/c)\n├── a v0.1.0 (/w/a)\n└── b v0.1.0 (/w/b)\n    └── a v0.1.0 (/w/a)\n",
+    ),
+    (
+        "tree --charset ascii < a b c|b d|c|d / targets a:bin b:lib c:lib d:lib",
+        "a v0.1.0 (/w/a)\n|-- b v0.1.0 (/w/b)\n|   `-- d v0.1.0 (/w/d)\n`-- c v0.1.0 (/w/c)\n",
+    ),
+    (
+        "tree --prefix depth < a b c&build|b d|c|d / targets a:bin,custom-build b:lib c:lib d:lib",
+        "0a v0.1.0 (/w/a)\n1b v0.1.0 (/w/b)\n2d v0.1.0 (/w/d)\n1c v0.1.0 (/w/c)\n",
+    ),
+    (
+        "tree --prefix none --depth 1 < a b c|b c|c / targets a:bin b:lib c:lib",
+        "a v0.1.0 (/w/a)\nb v0.1.0 (/w/b)\nc v0.1.0 (/w/c)\n",
+    ),
+    (
+        "tree -f {p}={l}{r}[{f}] < a b&with=f,g|b;f= g= / targets a:bin b:lib",
+        "a v0.1.0 (/w/a)=[]\n└── b v0.1.0 (/w/b)=[f,g]\n",
+    ),
+    (
+        "tree -f {p}{x} < a / targets a:bin",
+        "error: invalid value '{p}{x}' for '--format <FORMAT>': between braces stands p, l, r or f: package, licence, repository, features\n\nFor more information, try '--help'.\n",
+    ),
+    (
+        "tree a -i a < a / targets a:bin",
+        "error: <SPEC> can't stand beside '--invert <SPEC>'\n\nFor more information, try '--help'.\n",
     ),
 ];
 
@@ -166,11 +230,11 @@ static SUMS: &[Row] = &[
     ),
     (
         "uses --json < a b&dev|b / targets a:bin b:lib",
-        "{\n  \"answer\": {\n    \"build\": [],\n    \"shipped\": [\n      {\n        \"id\": \"path+file:///w/a#0.1.0\",\n        \"name\": \"a\",\n        \"source\": null,\n        \"version\": \"0.1.0\"\n      }\n    ],\n    \"tests\": [\n      {\n        \"id\": \"path+file:///w/b#0.1.0\",\n        \"name\": \"b\",\n        \"source\": null,\n        \"version\": \"0.1.0\"\n      }\n    ]\n  },\n  \"build\": {\n    \"all_features\": false,\n    \"features\": [],\n    \"host\": \"linux\",\n    \"no_default_features\": false,\n    \"packages\": \"default\",\n    \"resolver\": \"2\",\n    \"target_kinds\": [],\n    \"targets\": []\n  },\n  \"rules\": \"build\"\n}\n",
+        "{\n  \"answer\": {\n    \"build\": [],\n    \"shipped\": [\n      {\n        \"id\": \"path+file:///w/a#0.1.0\",\n        \"name\": \"a\",\n        \"source\": null,\n        \"version\": \"0.1.0\"\n      }\n    ],\n    \"tests\": [\n      {\n        \"id\": \"path+file:///w/b#0.1.0\",\n        \"name\": \"b\",\n        \"source\": null,\n        \"version\": \"0.1.0\"\n      }\n    ]\n  },\n  \"build\": {\n    \"all_features\": false,\n    \"features\": [],\n    \"host\": \"linux\",\n    \"no_default_features\": false,\n    \"packages\": \"default\",\n    \"resolver\": \"2\",\n    \"target_kinds\": [],\n    \"targets\": []\n  },\n  \"rules\": \"build\",\n  \"version\": 1\n}\n",
     ),
     (
         "sbom < a / targets a:bin",
-        "{\n  \"$schema\": \"http://cyclonedx.org/schema/bom-1.5.schema.json\",\n  \"bomFormat\": \"CycloneDX\",\n  \"components\": [\n    {\n      \"bom-ref\": \"path+file:///w/a#0.1.0\",\n      \"name\": \"a\",\n      \"properties\": [\n        {\n          \"name\": \"cargo-krates:built-for\",\n          \"value\": \"target\"\n        }\n      ],\n      \"purl\": \"pkg:cargo/a@0.1.0?download_url=file%3A%2F%2F%2Fw%2Fa\",\n      \"scope\": \"required\",\n      \"type\": \"application\",\n      \"version\": \"0.1.0\"\n    }\n  ],\n  \"dependencies\": [\n    {\n      \"dependsOn\": [],\n      \"ref\": \"path+file:///w/a#0.1.0\"\n    }\n  ],\n  \"specVersion\": \"1.5\",\n  \"version\": 1\n}\n",
+        "{\n  \"$schema\": \"http://cyclonedx.org/schema/bom-1.5.schema.json\",\n  \"bomFormat\": \"CycloneDX\",\n  \"components\": [],\n  \"dependencies\": [\n    {\n      \"dependsOn\": [],\n      \"ref\": \"pkg:cargo/a@0.1.0?download_url=file%3A%2F%2Fa\"\n    }\n  ],\n  \"metadata\": {\n    \"component\": {\n      \"bom-ref\": \"pkg:cargo/a@0.1.0?download_url=file%3A%2F%2Fa\",\n      \"name\": \"a\",\n      \"purl\": \"pkg:cargo/a@0.1.0?download_url=file%3A%2F%2Fa\",\n      \"type\": \"application\",\n      \"version\": \"0.1.0\"\n    },\n    \"tools\": {\n      \"components\": [\n        {\n          \"name\": \"cargo-krates\",\n          \"type\": \"application\",\n          \"version\": \"0.22.0\"\n        }\n      ]\n    }\n  },\n  \"specVersion\": \"1.5\",\n  \"version\": 1\n}\n",
     ),
 ];
 
@@ -185,8 +249,16 @@ static DIFFERENCES: &[Row] = &[
         "- c v0.1.0 (/w/c)\n- a v0.1.0 -> c v0.1.0\n- b v0.1.0 (/w/b) feature `f`\n+ b v0.1.0 (/w/b) feature `f`, for what the build itself runs\n",
     ),
     (
+        "diff other --exit-code < a b&with=f|b;f= / targets a:bin b:lib // a b|b;f= / targets a:bin b:lib",
+        "no: - b v0.1.0 (/w/b) feature `f`\n",
+    ),
+    (
+        "diff other --exit-code < a / targets a:bin // a / targets a:bin",
+        "",
+    ),
+    (
         "diff other --json < a b&with=f|b;f= / targets a:bin b:lib // a b|b;f= / targets a:bin b:lib",
-        "{\n  \"answer\": {\n    \"added\": [],\n    \"added_dependencies\": [],\n    \"added_features\": [],\n    \"changed\": [],\n    \"removed\": [],\n    \"removed_dependencies\": [],\n    \"removed_features\": [\n      {\n        \"id\": \"path+file:///w/b#0.1.0\",\n        \"name\": \"f\",\n        \"side\": \"targets\"\n      }\n    ]\n  },\n  \"build\": {\n    \"all_features\": false,\n    \"features\": [],\n    \"host\": \"linux\",\n    \"no_default_features\": false,\n    \"packages\": \"default\",\n    \"resolver\": \"2\",\n    \"target_kinds\": [],\n    \"targets\": []\n  },\n  \"other_build\": {\n    \"all_features\": false,\n    \"features\": [],\n    \"host\": \"linux\",\n    \"no_default_features\": false,\n    \"packages\": \"default\",\n    \"resolver\": \"2\",\n    \"target_kinds\": [],\n    \"targets\": []\n  },\n  \"rules\": \"build\"\n}\n",
+        "{\n  \"answer\": {\n    \"added\": [],\n    \"added_dependencies\": [],\n    \"added_features\": [],\n    \"changed\": [],\n    \"removed\": [],\n    \"removed_dependencies\": [],\n    \"removed_features\": [\n      {\n        \"id\": \"path+file:///w/b#0.1.0\",\n        \"name\": \"f\",\n        \"side\": \"targets\"\n      }\n    ]\n  },\n  \"build\": {\n    \"all_features\": false,\n    \"features\": [],\n    \"host\": \"linux\",\n    \"no_default_features\": false,\n    \"packages\": \"default\",\n    \"resolver\": \"2\",\n    \"target_kinds\": [],\n    \"targets\": []\n  },\n  \"old_build\": {\n    \"all_features\": false,\n    \"features\": [],\n    \"host\": \"linux\",\n    \"no_default_features\": false,\n    \"packages\": \"default\",\n    \"resolver\": \"2\",\n    \"target_kinds\": [],\n    \"targets\": []\n  },\n  \"rules\": \"build\",\n  \"version\": 1\n}\n",
     ),
 ];
 

@@ -40,7 +40,7 @@ static WHY: &[Row] = &[
     ),
     (
         "why b --json < a b|b / targets a:bin b:lib",
-        "{\n  \"answer\": {\n    \"id\": \"path+file:///w/b#0.1.0\",\n    \"steps\": [\n      {\n        \"fact\": [\n          \"compiled\",\n          \"path+file:///w/a#0.1.0\",\n          \"bin\",\n          \"a\",\n          \"build\",\n          \"linux\",\n          \"targets\"\n        ],\n        \"uses\": []\n      },\n      {\n        \"fact\": [\n          \"met\",\n          \"path+file:///w/a#0.1.0\",\n          \"root\"\n        ],\n        \"uses\": []\n      },\n      {\n        \"fact\": [\n          \"linked\",\n          \"path+file:///w/a#0.1.0\",\n          \"path+file:///w/b#0.1.0\",\n          \"normal\",\n          \"*\",\n          \"b\"\n        ],\n        \"uses\": [\n          1\n        ]\n      },\n      {\n        \"fact\": [\n          \"needed\",\n          \"path+file:///w/a#0.1.0\",\n          \"path+file:///w/b#0.1.0\",\n          \"normal\",\n          \"*\",\n          \"b\",\n          \"linux\",\n          \"path+file:///w/b#0.1.0\",\n          \"lib\",\n          \"b\",\n          \"build\",\n          \"linux\",\n          \"targets\"\n        ],\n        \"uses\": [\n          0,\n          2\n        ]\n      },\n      {\n        \"fact\": [\n          \"compiled\",\n          \"path+file:///w/b#0.1.0\",\n          \"lib\",\n          \"b\",\n          \"build\",\n          \"linux\",\n          \"targets\"\n        ],\n        \"uses\": [\n          3\n        ]\n      }\n    ]\n  },\n  \"build\": {\n    \"all_features\": false,\n    \"features\": [],\n    \"host\": \"linux\",\n    \"no_default_features\": false,\n    \"packages\": \"default\",\n    \"resolver\": \"2\",\n    \"target_kinds\": [],\n    \"targets\": []\n  },\n  \"rules\": \"build\"\n}\n",
+        "{\n  \"answer\": {\n    \"id\": \"path+file:///w/b#0.1.0\",\n    \"steps\": [\n      {\n        \"fact\": [\n          \"compiled\",\n          \"path+file:///w/a#0.1.0\",\n          \"bin\",\n          \"a\",\n          \"build\",\n          \"linux\",\n          \"targets\"\n        ],\n        \"uses\": []\n      },\n      {\n        \"fact\": [\n          \"met\",\n          \"path+file:///w/a#0.1.0\",\n          \"root\"\n        ],\n        \"uses\": []\n      },\n      {\n        \"fact\": [\n          \"linked\",\n          \"path+file:///w/a#0.1.0\",\n          \"path+file:///w/b#0.1.0\",\n          \"normal\",\n          \"*\",\n          \"b\"\n        ],\n        \"uses\": [\n          1\n        ]\n      },\n      {\n        \"fact\": [\n          \"needed\",\n          \"path+file:///w/a#0.1.0\",\n          \"path+file:///w/b#0.1.0\",\n          \"normal\",\n          \"*\",\n          \"b\",\n          \"linux\",\n          \"path+file:///w/b#0.1.0\",\n          \"lib\",\n          \"b\",\n          \"build\",\n          \"linux\",\n          \"targets\"\n        ],\n        \"uses\": [\n          0,\n          2\n        ]\n      },\n      {\n        \"fact\": [\n          \"compiled\",\n          \"path+file:///w/b#0.1.0\",\n          \"lib\",\n          \"b\",\n          \"build\",\n          \"linux\",\n          \"targets\"\n        ],\n        \"uses\": [\n          3\n        ]\n      }\n    ]\n  },\n  \"build\": {\n    \"all_features\": false,\n    \"features\": [],\n    \"host\": \"linux\",\n    \"no_default_features\": false,\n    \"packages\": \"default\",\n    \"resolver\": \"2\",\n    \"target_kinds\": [],\n    \"targets\": []\n  },\n  \"rules\": \"build\",\n  \"version\": 1\n}\n",
     ),
 ];
 
@@ -64,7 +64,7 @@ static FEATURES: &[Row] = &[
     ),
     (
         "features b --json < a b&with=f|b;f= / targets a:bin b:lib",
-        "{\n  \"answer\": {\n    \"id\": \"path+file:///w/b#0.1.0\",\n    \"sides\": [\n      {\n        \"features\": [\n          {\n            \"name\": \"f\",\n            \"reason\": \"a v0.1.0 asks for it\"\n          }\n        ],\n        \"side\": \"targets\"\n      }\n    ]\n  },\n  \"build\": {\n    \"all_features\": false,\n    \"features\": [],\n    \"host\": \"linux\",\n    \"no_default_features\": false,\n    \"packages\": \"default\",\n    \"resolver\": \"2\",\n    \"target_kinds\": [],\n    \"targets\": []\n  },\n  \"rules\": \"build\"\n}\n",
+        "{\n  \"answer\": {\n    \"id\": \"path+file:///w/b#0.1.0\",\n    \"sides\": [\n      {\n        \"features\": [\n          {\n            \"name\": \"f\",\n            \"reason\": \"a v0.1.0 asks for it\"\n          }\n        ],\n        \"side\": \"targets\"\n      }\n    ]\n  },\n  \"build\": {\n    \"all_features\": false,\n    \"features\": [],\n    \"host\": \"linux\",\n    \"no_default_features\": false,\n    \"packages\": \"default\",\n    \"resolver\": \"2\",\n    \"target_kinds\": [],\n    \"targets\": []\n  },\n  \"rules\": \"build\",\n  \"version\": 1\n}\n",
     ),
 ];
 
@@ -98,8 +98,12 @@ static UNBUILT: &[Row] = &[
         "no: cargo builds b v0.1.0 (/w/b) for the host; `why` says why\n",
     ),
     (
+        "unreachable z --side host < a / targets a:bin",
+        "`z` can't be reached: no package of the document fits\n",
+    ),
+    (
         "unreachable b --json < a b&dev|b / targets a:bin b:lib",
-        "{\n  \"answer\": {\n    \"id\": \"path+file:///w/b#0.1.0\",\n    \"unreachable\": true\n  },\n  \"build\": {\n    \"all_features\": false,\n    \"features\": [],\n    \"host\": \"linux\",\n    \"no_default_features\": false,\n    \"packages\": \"default\",\n    \"resolver\": \"2\",\n    \"target_kinds\": [],\n    \"targets\": []\n  },\n  \"rules\": \"build\"\n}\n",
+        "{\n  \"answer\": {\n    \"id\": \"path+file:///w/b#0.1.0\",\n    \"unreachable\": true\n  },\n  \"build\": {\n    \"all_features\": false,\n    \"features\": [],\n    \"host\": \"linux\",\n    \"no_default_features\": false,\n    \"packages\": \"default\",\n    \"resolver\": \"2\",\n    \"target_kinds\": [],\n    \"targets\": []\n  },\n  \"rules\": \"build\",\n  \"version\": 1\n}\n",
     ),
 ];
 

@@ -20,7 +20,7 @@ static REFUSED: &[Row] = &[
     ),
     (
         "list < a / no graph / targets a:bin",
-        "refused: no resolution graph was provided",
+        "refused: no resolution graph was provided; `cargo metadata --format-version 1` writes one, without --no-deps",
     ),
     (
         "why c < a|b / targets a:bin b:lib",
