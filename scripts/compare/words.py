@@ -3,7 +3,7 @@
 Of each document, without an option and for Linux, the graph is read that the program of drawn_graphs/ draws, and from its lines and the document
 this module says what the other words have to answer, with --json: the crates, the tree of the members, the tree above
 each crate, the names with several crates, the licences, what is shipped (by the lists of builds that ignore kinds),
-the bill of materials, the enabled features, and the difference from the document before. Of each package that isn't
+the bill of materials, the enabled features, the order and the picture, and the difference from the document before. Of each package that isn't
 kept `unreachable` has to say yes, of each that is no.
 
 Each answer has to be as docs/schema/answers.json says. Of a document with more than 200 crates only the first twelve are asked about one by one.
@@ -127,6 +127,37 @@ class Reading:
         """The names of a crate's enabled features."""
         return sorted((name for krate, name in self.graph.features.values() if krate == number), key=str.encode)
 
+    def order(self):
+        """The crates in an order, always the first of those of which all needs are there; or nothing where there is none."""
+        order, left = [], set(range(len(self.crates)))
+        while ready := [number for number in left if left.isdisjoint(self.needs[number])]:
+            order.append(min(ready))
+            left.remove(order[-1])
+        return None if left else [
+            {
+                **{key: self.crate(number)[key] for key in ("id", "name", "version")},
+                "features": [{"name": name} for name in self.features(number)],
+                "dependencies": [self.crates[other] for other in self.needs[number]],
+            }
+            for number in order
+        ]
+
+    def is_cycle(self, ids):
+        """Whether each of these crates needs the next one, and the last the first."""
+        numbers = [self.crates.index(krate) for krate in ids]
+        return bool(numbers) and all(to in self.needs[of] for of, to in zip(numbers, numbers[1:] + numbers[:1]))
+
+    def is_picture(self, told):
+        """Whether a picture has the crates that the members need, and what they need of each other."""
+        reached, left = set(), self.members()
+        while left:
+            number = left.pop()
+            left += self.needs[number] if number not in reached else []
+            reached.add(number)
+        crates = [self.crates[number] for number in sorted(reached)]
+        links = sorted({(self.crates[of], self.crates[to]) for of in reached for to in self.needs[of] if of != to})
+        return [one["id"] for one in told["crates"]] == crates and sorted({(one["from"], one["to"]) for one in told["links"]}) == links
+
     def bill(self):
         """The bill of materials."""
         root, members = self.document["workspace_root"], self.members()
@@ -216,22 +247,20 @@ def component(package, use, root):
     return made
 
 
-def identity(text):
-    """The name, version and source of an id, in either of its forms."""
-    if " " in text:
-        name, version, source = text.split(" ", 2)
-        return name, version, source[1:-1]
-    source, rest = text.rsplit("#", 1)
-    name, _, version = rest.rpartition("@")
-    return name or source.split("?")[0].rsplit("/", 1)[1], version, source
+def identity(one, krate):
+    """What a crate of a reading is compared by: name, version, and source or place."""
+    package, root = one.packages[krate], one.document["workspace_root"]
+    manifest = package["manifest_path"]
+    home = package["source"] or (manifest.removeprefix(root) if manifest.startswith(root + "/") else "elsewhere " + manifest)
+    return package["name"], package["version"], home
 
 
 def difference(first, second):
-    """What one reading has and another lacks; crates are compared by what their ids say."""
+    """What one reading has and another lacks."""
     def lacking(one, other):
         """The crates of one reading that the other lacks."""
-        there = set(map(identity, other.crates))
-        return [one.crate(number) for number, krate in enumerate(one.crates) if identity(krate) not in there]
+        there = {identity(other, krate) for krate in other.crates}
+        return [one.crate(number) for number, krate in enumerate(one.crates) if identity(one, krate) not in there]
 
     def pairs(one):
         """The dependencies of a reading, as two ids each."""
@@ -239,8 +268,18 @@ def difference(first, second):
 
     def lost(one, other):
         """The dependencies of one reading that the other lacks."""
-        there = {(identity(of), identity(to)) for of, to in pairs(other)}
-        return [{"from": of, "to": to} for of, to in pairs(one) if (identity(of), identity(to)) not in there]
+        there = {(identity(other, of), identity(other, to)) for of, to in pairs(other)}
+        return [{"from": of, "to": to} for of, to in pairs(one) if (identity(one, of), identity(one, to)) not in there]
+
+    def features(one, other):
+        """The features of one reading that the other lacks, of crates that both have."""
+        there = {identity(other, krate): set(other.features(number)) for number, krate in enumerate(other.crates)}
+        return [
+            {"id": krate, "name": name}
+            for number, krate in enumerate(one.crates)
+            for name in one.features(number)
+            if name not in there.get(identity(one, krate), {name})
+        ]
 
     def versions(crates, name):
         """The versions of the crates of a name."""
@@ -254,6 +293,8 @@ def difference(first, second):
         "added": added,
         "removed_dependencies": lost(first, second),
         "added_dependencies": lost(second, first),
+        "removed_features": features(first, second),
+        "added_features": features(second, first),
     }
 
 
@@ -281,6 +322,12 @@ def differences(reading):
     with concurrent.futures.ThreadPoolExecutor(os.cpu_count()) as pool:
         told = list(pool.map(lambda one: reading.ask(*one[0], statuses=(0, 1)), asked))
     count, wrong = len(asked), [words for (words, wanted), answer in zip(asked, told) if answer != wanted]
+    order, picture = reading.ask("order", statuses=(0, 1)), reading.ask("graph")
+    count += 2
+    if order["order"] != reading.order() or order["order"] is None and not reading.is_cycle(order["cycle"]):
+        wrong.append(("order",))
+    if not reading.is_picture(picture):
+        wrong.append(("graph",))
     for number in range(min(len(reading.crates), 12)):
         count += 1
         told = reading.ask("features", reading.crates[number])

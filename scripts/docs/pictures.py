@@ -1,6 +1,6 @@
 """Draws the pictures of docs/pictures, by Graphviz's `dot`, or says whether each is up to date.
 
-The picture of the crates is made from crates.txt, the others from lists of this module; each type and function that
+The picture of the crates is made from crates.txt, that of an answer from what the guide shows of it, the others from lists of this module; each type and function that
 the picture of the data names has to be in the sources.
 
 A reader needs neither this module nor Graphviz, and neither does the check: the pictures are committed, each with the
@@ -238,7 +238,19 @@ def proof_picture():
     return "\n".join(lines)
 
 
-PICTURES = {"crates": crates_picture, "data": data_picture, "example": example_picture, "proof": proof_picture}
+def answer_picture():
+    """The text of the picture that the guide shows as an answer of `cargo krates graph`."""
+    guide = (ROOT / "docs" / "GUIDE.md").read_text(encoding="utf-8")
+    return re.search(r"^\$ cargo krates graph .*?^(digraph crates \{.*?^\})$", guide, re.M | re.S)[1]
+
+
+PICTURES = {
+    "answer": answer_picture,
+    "crates": crates_picture,
+    "data": data_picture,
+    "example": example_picture,
+    "proof": proof_picture,
+}
 
 
 def mark(text, picture):

@@ -90,7 +90,9 @@ SHOWN_BY = {
     "hand_over": ("CallRefusal::status",),
     # what a word of `cargo krates` answers is made of values, which its text and its JSON show
     "Reporter::answer": (
-        "duplicates lacking lost_dependencies materials is_unreachable DirectLinks::dependents"
+        "duplicates lacking materials is_unreachable DependencyEdge::all_in EnabledFeature::all_in DirectLinks::order"
+        " Snapshot::of_graph OrderedCrates::of OrderedCrates::is_order LinkedCrates::picture push_begin push_box"
+        " push_arrow push_end DirectLinks::dependents"
         " DirectLinks::dependencies DirectLinks::of DirectLinks::leads DirectLinks::tree Builds::of"
         " Builds::all Builds::agree Builds::uses Packages::one Packages::any Bill::of"
         " Changed::between Difference::between Duplicates::of licences Tree::of ExplainedFeatures::of"

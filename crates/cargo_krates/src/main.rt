@@ -6,6 +6,7 @@
 mod failure;
 
 use crate::failure::AnswerFailure;
+use krates::cm::TargetKind;
 use krates::{Metadata, Package};
 use krates_build_report::BuildReporter;
 use krates_host::build::{AskedBuild, build_setting};
@@ -67,7 +68,7 @@ fn prepare(inputs: &Inputs<'_>, rules: &mut Rules) -> Result<(), AnswerFailure> 
         Rules::Krates(choice) => {
             choice.targets = targets::targets_of(inputs, choice)?;
         }
-        Rules::Build(_) => configuration::note_files(&inputs.shell)?,
+        Rules::Build(_) => configuration::note_files(inputs)?,
     }
     Ok(())
 }
@@ -126,17 +127,25 @@ fn by_two(
 /// Says by which rules the answer is, and what these leave out or don't.
 fn note_krates(shell: &Shell<'_>, choice: &Choice, packages: &[Package]) {
     shell.note_krates();
-    note_host(shell, choice);
+    note_host(shell, choice, packages);
     note_exclusions(shell, choice, packages);
 }
 
-/// Says what targets alone leave out.
-fn note_host(shell: &Shell<'_>, choice: &Choice) {
-    if !choice.triples.is_empty() {
+/// Says what targets alone leave out, if there is something that runs on the host.
+fn note_host(shell: &Shell<'_>, choice: &Choice, packages: &[Package]) {
+    if !choice.triples.is_empty() && packages.iter().any(runs_on_host) {
         shell.note(
             "build scripts and proc-macros run on the host: a --target for it adds all that passes there, --by build what they need",
         );
     }
+}
+
+/// Whether a package has a build script, or is a procedural macro.
+fn runs_on_host(package: &Package) -> bool {
+    package.targets.iter().any(|target| {
+        target.kind.contains(&TargetKind::CustomBuild)
+            || target.kind.contains(&TargetKind::ProcMacro)
+    })
 }
 
 /// Says which exclusions leave nothing out.

@@ -1,4 +1,4 @@
--- The direct dependents of a crate, as those of the kept crates that need it, and what a graph lacks of them.
+-- The direct dependents of a crate, as those of the kept crates that need it.
 use Rattle.std.proofs.Common.{◌≡◌, ℕ, suc, ◌<◌, List, [], ◌∷◌, ◌++◌, length, map, Option, Some, None, option_map, Less, arith, refl, sym, ap, ◌∙◌, subst, inl, inr}
 use Rattle.std.proofs.lemmas.Bool.Decides.{nat_tests}
 use Rattle.std.proofs.lemmas.List.{flat_map_more, map-append}
@@ -17,11 +17,11 @@ use Rattle.krates_drawing.specs.declared.node.Node.{Node}
 use Rattle.krates_drawing.specs.declared.node.Node.TheVariants.{Krate, Feature}
 use Rattle.krates_queries.specs.Numbers.{id_in}
 use Rattle.krates_queries.specs.declared.queries.direct.DirectDependent.{DirectDependent}
-use Rattle.krates_answers.specs.Difference.{IsLost, IsMissing, Pair, pairs_to, pairs_with, parent_of}
+use Rattle.krates_answers.specs.Difference.{IsDependency, Pair, pairs_to, pairs_with, parent_of}
 use Rattle.krates_answers.specs.DirectLinks.{Needs}
-use Rattle.krates_answers.specs.Those.{AddsThose, AreThose}
+use Rattle.krates_answers.specs.Those.{AreThose}
 use Rattle.krates_answers.proofs.OrderedParts.{Ascend, AreThose-from_part}
-use Rattle.krates_answers.proofs.ThoseLemmas.{AreThose-adds, AreThose-both, AreThose-like, AreThose-map}
+use Rattle.krates_answers.proofs.ThoseLemmas.{AreThose-adds, AreThose-map}
 
 -- ---- the kept crates are in the order of their numbers
 
@@ -113,7 +113,7 @@ those_parents {N} k d ds lt are =
       none_left = λ c m needs. subst (λ (ns : List ℕ). Member ns c.number) (sym same) (member_of numbers c.number ((are.exactly c.number).1 needs.depends));
     })
 
--- ---- what is lost so far
+-- ---- the pairs so far
 
 -- the pairs of one more dependent
 pub one_more_pair : {N E : Type 0} (k : KeptCrates N E) (child : Match N) (ds : List (DirectDependent N)) (d : DirectDependent N) → pairs_to k child (ds ++ d ∷ []) ≡ pairs_to k child ds ++ pairs_to k child (d ∷ [])
@@ -126,17 +126,12 @@ pub its_pair : {N E : Type 0} (k : KeptCrates N E) (child : Match N) (d : Direct
 its_pair k child d parent is = ap (λ o. pairs_with child (cons_option o [])) is
 
 -- the pairs of one more child
-pub one_more_lost : {N E : Type 0} (here there : KeptCrates N E) (child : Match N) (ds : List (DirectDependent N)) (done : List (Match N)) (old new : List (Pair N))
-    → child.number < length (ids_of here) → AreDependents here.graph.nodes here.graph.edges child.number (map dependent_view ds)
-    → AddsThose (IsMissing there) (pairs_to here child ds) old new
-    → AreThose (IsLost here there) (flat_map (λ c. pairs_with c (crates_of here)) done) old
-    → AreThose (IsLost here there) (flat_map (λ c. pairs_with c (crates_of here)) (done ++ child ∷ [])) new
-one_more_lost {N} here there child ds done old new lt are adds before =
+pub one_more_child : {N E : Type 0} (k : KeptCrates N E) (child : Match N) (ds : List (DirectDependent N)) (done : List (Match N)) (old new : List (Pair N)) → child.number < length (ids_of k)
+    → AreDependents k.graph.nodes k.graph.edges child.number (map dependent_view ds) → new ≡ old ++ pairs_to k child ds → AreThose (IsDependency k) (flat_map (λ c. pairs_with c (crates_of k)) done) old
+    → AreThose (IsDependency k) (flat_map (λ c. pairs_with c (crates_of k)) (done ++ child ∷ [])) new
+one_more_child {N} k child ds done old new lt are adds before =
     let with_child : Match N → Pair N = λ parent. record { parent = parent; child = child } in
-    let pairs_of_child : Match N → List (Pair N) = λ c. pairs_with c (crates_of here) in
-    let Needed : Pair N → Type 0 = λ pair. Needs here pair.parent.number pair.child.number in
-    let needed : AreThose Needed (pairs_of_child child) (pairs_to here child ds) = AreThose-map with_child (those_parents here child.number ds lt are) in
-    let lost : AreThose (IsLost here there) (pairs_of_child child) adds.added =
-    AreThose-like (λ pair. ((λ both. record { needs = both.0; missing = both.1 }), (λ h. (h.needs, h.missing)))) (AreThose-both needed adds.those) in
-    subst (λ (all : List (Pair N)). AreThose (IsLost here there) all new) (flat_map_more pairs_of_child [] done child)
-    (AreThose-adds before (record { added = adds.added; appended = adds.appended; those = lost }))
+    let pairs_of_child : Match N → List (Pair N) = λ c. pairs_with c (crates_of k) in
+    let needed : AreThose (IsDependency k) (pairs_of_child child) (pairs_to k child ds) = AreThose-map with_child (those_parents k child.number ds lt are) in
+    subst (λ (all : List (Pair N)). AreThose (IsDependency k) all new) (flat_map_more pairs_of_child [] done child)
+    (AreThose-adds before (record { added = pairs_to k child ds; appended = adds; those = needed }))

@@ -1,4 +1,5 @@
 pub mod ChangedLemmas
+pub mod ComparedLemmas
 pub mod DependentNumbers
 pub mod DifferenceLemmas
 pub mod DuplicateLemmas
@@ -13,12 +14,12 @@ pub mod KeptInOrder
 pub mod LabelLemmas
 pub mod LinesBelow
 pub mod ListedNumbers
-pub mod LookedUp
 pub mod MaterialLemmas
 pub mod MeaningLemmas
 pub mod MeantLemmas
 pub mod NamingLemmas
 pub mod OneMoreGrouped
+pub mod OrderLemmas
 pub mod OrderedParts
 pub mod PackageTextLemmas
 pub mod PairedNumbers
@@ -26,6 +27,7 @@ pub mod PushedNumbers
 pub mod ReadingLemmas
 pub mod Reversed
 pub mod RootLines
+pub mod SamePackageLemmas
 pub mod SearchedNumbers
 pub mod SeveralLemmas
 pub mod TakenLemmas

@@ -15,6 +15,10 @@ taken_takes {P = P} now xs i x old new lt is before has added =
     subst (λ all. AreThose P all (map now new)) (sym (one_taken xs i (now x) lt is))
     (subst (AreThose P (take i xs ++ now x ∷ [])) (sym (ap (map now) added ∙ map-append now old (x ∷ []))) (AreThose-snoc_takes before has))
 
+pub taken_itself : {A : Type 0} {P : A → Type 0} (xs : List A) (i : ℕ) (x : A) (old new : List A) → i < length xs → x ≡ get_or xs i x → AreThose P (take i xs) old → P x → new ≡ old ++ x ∷ [] → AreThose P (take (i + 1) xs) new
+taken_itself {P = P} xs i x old new lt is before has added =
+    subst (λ all. AreThose P all new) (sym (one_taken xs i x lt is)) (subst (AreThose P (take i xs ++ x ∷ [])) (sym added) (AreThose-snoc_takes before has))
+
 pub taken_leaves : {A : Type 0} {P : A → Type 0} (xs : List A) (i : ℕ) (x : A) (those : List A) → i < length xs → x ≡ get_or xs i x → AreThose P (take i xs) those → (P x → ⊥) → AreThose P (take (i + 1) xs) those
 taken_leaves {P = P} xs i x those lt is before lacks = subst (λ all. AreThose P all those) (sym (one_taken xs i x lt is)) (AreThose-snoc_leaves before lacks)
 

@@ -1,20 +1,16 @@
--- What one graph has and another lacks.
-use Rattle.std.specs.Prelude.{ℕ, List, Option, map, option_map}
+-- What crates need of each other, as parts of an answer.
+use Rattle.std.specs.Prelude.{List, Option, map, option_map}
 use Rattle.std.specs.List.{filter_map, flat_map}
+use Rattle.krates_cm.specs.Document.{Text}
 use Rattle.krates_cm.specs.declared.package.Package.{Package}
-use Rattle.krates_queries.specs.Kept.{KeptCrates, IsNotKept, ids_of}
+use Rattle.krates_queries.specs.Kept.{KeptCrates}
 use Rattle.krates_queries.specs.KrateNodes.{Match, crates_of, match_view}
 use Rattle.krates_queries.specs.Numbers.{kid_at}
 use Rattle.krates_queries.specs.declared.queries.direct.DirectDependent.{DirectDependent}
-use Rattle.krates_rules.specs.Facts.{Id}
-use Rattle.krates_rules.specs.Resolved.{StandsAt, id_of}
 use Rattle.krates_answers.specs.DirectLinks.{Needs}
+use Rattle.krates_answers.specs.SamePackage.{MeanSame}
 use Rattle.krates_answers.specs.Those.{AreThose}
 use Rattle.krates_answers.specs.declared.difference.DependencyEdge.{DependencyEdge}
-
--- these are exactly the crates that the first keeps and the second doesn't, by number
-abbrev pub AreLacking : {N E : Type 0} → KeptCrates N E → KeptCrates N E → List (Match N) → Type 0
-AreLacking here there found = AreThose (λ m. IsNotKept there (id_of m.id)) (crates_of here) found
 
 -- two crates, of which the first may depend on the second
 pub record Pair (N : Type 0) : Type 0 where
@@ -25,6 +21,11 @@ pub record Pair (N : Type 0) : Type 0 where
 abbrev pub dependency_view : DependencyEdge → Pair Package
 dependency_view d = record { parent = match_view d.parent; child = match_view d.child }
 
+-- both crates of one mean the same as those of the other, each of a checkout of a workspace with this root
+pub record MeanSameDependency (root : Text) (pair : Pair Package) (other_root : Text) (other : Pair Package) : Type 0 where
+  pub child : MeanSame root pair.child.krate other_root other.child.krate
+  pub parent : MeanSame root pair.parent.krate other_root other.parent.krate
+
 -- each of these crates before the child
 abbrev pub pairs_with : {N : Type 0} → Match N → List (Match N) → List (Pair N)
 pairs_with child parents = map (λ parent. record { parent = parent; child = child }) parents
@@ -33,26 +34,13 @@ pairs_with child parents = map (λ parent. record { parent = parent; child = chi
 abbrev pub pairs_of : {N E : Type 0} → KeptCrates N E → List (Pair N)
 pairs_of k = flat_map (λ child. pairs_with child (crates_of k)) (crates_of k)
 
--- the crate with the first id depends directly on that with the second
-pub record HasDependency {N E : Type 0} (k : KeptCrates N E) (p d : Id) : Type 0 where
-  pub parent : ℕ
-  pub child : ℕ
-  pub from : StandsAt (ids_of k) p parent
-  pub to : StandsAt (ids_of k) d child
-  pub needs : Needs k parent child
+-- the first depends directly on the second
+abbrev pub IsDependency : {N E : Type 0} → KeptCrates N E → Pair N → Type 0
+IsDependency k pair = Needs k pair.parent.number pair.child.number
 
--- no crate with the id of the parent depends directly on one with that of the child
-abbrev pub IsMissing : {N E : Type 0} → KeptCrates N E → Pair N → Type 0
-IsMissing k pair = HasDependency k (id_of pair.parent.id) (id_of pair.child.id) → ⊥
-
--- the parent depends directly on the child in the first graph, and not in the second
-pub record IsLost {N E : Type 0} (here there : KeptCrates N E) (pair : Pair N) : Type 0 where
-  pub needs : Needs here pair.parent.number pair.child.number
-  pub missing : IsMissing there pair
-
--- these are exactly the pairs of crates of the first for which this holds, each once, in the order of `pairs_of`
-abbrev pub AreLost : {N E : Type 0} → KeptCrates N E → KeptCrates N E → List (Pair N) → Type 0
-AreLost here there found = AreThose (IsLost here there) (pairs_of here) found
+-- these are exactly the pairs of kept crates of which the first depends directly on the second, each once, in the order of `pairs_of`
+abbrev pub AreDependencies : {N E : Type 0} → KeptCrates N E → List (Pair N) → Type 0
+AreDependencies k pairs = AreThose (IsDependency k) (pairs_of k) pairs
 
 -- ---- steps
 

@@ -108,7 +108,7 @@ impl DirectLinks {
     }
 
     /// The links in the other direction.
-    fn reversed(&self, alloc: Global) -> Result<DirectLinks, AllocError>
+    pub(crate) fn reversed(&self, alloc: Global) -> Result<DirectLinks, AllocError>
         ensures { IfOk result (AreLinks (length self.now) (λ a b. IsListed self.now b a)) }
     {
         let mut lists = empty_lists(alloc, self.lists.len())?;

@@ -4,10 +4,12 @@
 
 pub mod builds;
 pub mod changed;
+pub mod compared;
 pub mod crate_uses;
 pub mod difference;
 pub mod direct_links;
 pub mod duplicates;
+pub mod enabled_feature;
 mod grouped;
 pub mod kept;
 mod labelled;
@@ -15,8 +17,10 @@ pub mod licences;
 pub mod materials;
 pub mod meaning;
 pub mod naming;
+pub mod order;
 mod package_text;
 mod pushing;
+mod same_package;
 mod similar;
 pub mod three_graphs;
 pub mod tree;

@@ -3,13 +3,16 @@
 use krates::{DepKind, Kid, KrateMatch, NodeId, Package};
 use krates_answers::difference::DependencyEdge;
 use krates_answers::direct_links::DirectLinks;
+use krates_answers::enabled_feature::EnabledFeature;
 use krates_answers::meaning::{Meant, Packages};
 use krates_answers::naming::NamingError;
 use krates_build_answers::{BuiltCrates, build_links};
 use krates_build_tables::Tables;
 use krates_built::Units;
 use krates_questions::Document;
+use krates_report::difference::Snapshot;
 use krates_report::feature_list::FeatureList;
+use krates_report::picture::{CrateMark, KindLink, LinkedCrates};
 use krates_report::tree::head_number;
 use krates_units::Side;
 use krates_words::BuildSide;
@@ -120,30 +123,134 @@ impl<'a> Build<'a> {
     }
 
     /// What the crate at one position needs of the one at another.
-    pub(crate) fn edge(&self, parent: NodeId, child: NodeId) -> Option<DependencyEdge<'_>> {
+    fn edge(&self, parent: NodeId, child: NodeId) -> Option<DependencyEdge<'_>> {
         match (self.at(parent), self.at(child)) {
             (Some(parent), Some(child)) => Some(DependencyEdge { parent, child }),
             _ => None,
         }
     }
 
-    /// The position of the crate with that id, if it is built.
-    pub(crate) fn position_of(&self, kid: &Kid) -> Option<NodeId> {
-        match self.document.crate_number(kid) {
-            Some(number) => self.position(number),
-            None => None,
+    /// The features that are enabled of the crates that are built, each on its side. The only error is running out of memory.
+    pub(crate) fn enabled_features(
+        &self,
+        alloc: Global,
+    ) -> Result<Vec<EnabledFeature<'_>>, AllocError> {
+        let mut features = Vec::new(alloc);
+        for feature in self.units.features() {
+            if let Some(krate) = self.built_package(feature.krate) {
+                push(
+                    &mut features,
+                    EnabledFeature {
+                        krate,
+                        is_for_host: Some(feature.side == Side::Host),
+                        name: feature.name,
+                    },
+                )?;
+            }
+        }
+        Ok(features)
+    }
+
+    /// The package of the crate with that number, if it is built.
+    fn built_package(&self, number: usize) -> Option<&Package> {
+        if self.position(number).is_some() {
+            self.package(number)
+        } else {
+            None
         }
     }
 
-    /// Whether the crate with that id is built, and its feature isn't enabled on this side.
-    pub(crate) fn lacks_feature(&self, kid: &Kid, side: Side, name: &str) -> bool {
-        let Some(number) = self.document.crate_number(kid) else {
-            return false;
-        };
-        let is_enabled = self.units.features().iter().any(|other| other.krate == number
-            && other.side == side
-            && other.name == name);
-        self.position(number).is_some() && !is_enabled
+    /// What it says of its workspace, as far as it is compared with another's. The only error is running out of memory.
+    pub(crate) fn snapshot(&self, alloc: Global) -> Result<Snapshot<'_>, AllocError> {
+        let crates = self.crates(alloc)?;
+        let dependencies = self.edges(alloc)?;
+        let features = self.enabled_features(alloc)?;
+        Ok(Snapshot {
+            root: self.document.metadata().workspace_root.as_str(),
+            crates,
+            dependencies,
+            features,
+        })
+    }
+
+    /// What the crates that are built need of each other, by the position of the crate that is needed, and then by that of the other.
+    fn edges(&self, alloc: Global) -> Result<Vec<DependencyEdge<'_>>, AllocError> {
+        let dependents = self.dependents(alloc)?;
+        let mut edges = Vec::new(alloc);
+        for position in 0..self.count() {
+            let child = NodeId::new(position);
+            let parents = dependents.of(child).unwrap_or(&[]);
+            self.push_edges(child, parents, &mut edges)?;
+        }
+        Ok(edges)
+    }
+
+    /// Adds what these need of one crate.
+    fn push_edges<'s>(
+        &'s self,
+        child: NodeId,
+        parents: &[NodeId],
+        edges: &mut Vec<DependencyEdge<'s>>,
+    ) -> Result<(), AllocError> {
+        for parent in parents {
+            if let Some(edge) = self.edge(*parent, child) {
+                push(edges, edge)?;
+            }
+        }
+        Ok(())
+    }
+
+    /// The crates that are built, with what they need, for a picture. The only error is running out of memory.
+    pub(crate) fn linked(&self, alloc: Global) -> Result<LinkedCrates<'_>, AllocError> {
+        let crates = self.crates(alloc)?;
+        let marks = self.marks(alloc)?;
+        let links = self.kind_links(alloc)?;
+        Ok(LinkedCrates {
+            crates,
+            marks,
+            links,
+        })
+    }
+
+    /// What a picture says of each crate, by position.
+    fn marks(&self, alloc: Global) -> Result<Vec<CrateMark>, AllocError> {
+        let mut marks = Vec::new(alloc);
+        for number in &self.numbers {
+            marks.push(CrateMark {
+                is_member: self.is_member(*number),
+                is_for_host: !self.built.is_for_targets(*number),
+            })?;
+        }
+        Ok(marks)
+    }
+
+    /// Whether the crate with that number is a member of the workspace.
+    fn is_member(&self, number: usize) -> bool {
+        match self.package(number) {
+            Some(package) => self
+                .document
+                .metadata()
+                .workspace_members
+                .contains(&package.id),
+            None => false,
+        }
+    }
+
+    /// What the crates that are built need of each other, by position and kind, ascending, each once.
+    fn kind_links(&self, alloc: Global) -> Result<Vec<KindLink>, AllocError> {
+        let mut links = Vec::new(alloc);
+        for link in build_links(alloc, &self.units)? {
+            if let Some((from, to)) = self.pair(link.from.krate, link.to.krate) {
+                links.push(KindLink {
+                    from,
+                    to,
+                    kind: link.kind,
+                })?;
+            }
+        }
+        links.sort()?;
+        links.dedup();
+        Ok(links)
     }
 
     /// The features of the crate at each position, on either side, with commas between them.

@@ -5,7 +5,6 @@
 mod bill;
 pub mod build;
 mod certificate;
-mod difference;
 pub mod error;
 mod features;
 mod list;

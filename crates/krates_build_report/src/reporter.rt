@@ -7,7 +7,6 @@ ghost use Rattle.krates_rules.specs.Admission.{IsAdmitted};
 use crate::bill::bill_of;
 use crate::build::Build;
 use crate::certificate::{Certified, certificate_of};
-use crate::difference::BuildDifference;
 use crate::error::BuildReportError;
 use crate::features::BuiltFeatures;
 use crate::list::BuiltList;
@@ -27,11 +26,14 @@ use krates_questions::{Document, Ids, admit};
 use krates_report::Report;
 use krates_report::absent::Absent;
 use krates_report::answer::{Answer, printed};
+use krates_report::difference::Difference;
 use krates_report::drawn_tree::DrawnTree;
 use krates_report::duplicates::Duplicates;
+use krates_report::order::OrderedCrates;
+use krates_report::picture::PictureFrame;
 use krates_report::tree::{Tree, without};
 use krates_units::BuildSetting;
-use krates_words::{Asked, BuildSide, TreeWords, Word};
+use krates_words::{Asked, BuildSide, PictureWords, TreeWords, WhyForm, Word};
 use serde_json::Value;
 use std::alloc::{AllocError, Global};
 
@@ -130,7 +132,9 @@ impl<'a> BuildReporter<'a> {
         old: &Build<'_>,
         new: &Build<'_>,
     ) -> Result<Report, BuildReportError> {
-        let answer = BuildDifference::between(self.alloc, old, new)?;
+        let before = old.snapshot(self.alloc)?;
+        let after = new.snapshot(self.alloc)?;
+        let answer = Difference::between(self.alloc, &before, &after)?;
         Ok(Report {
             text: self.text(&answer)?,
             is_yes: !self.has_exit_code() || answer.is_empty(),
@@ -274,7 +278,9 @@ impl<'a> BuildReporter<'a> {
             Word::Licences => self.licences(build),
             Word::Tree { spec, words } => self.tree_below(build, spec.as_ref(), words),
             Word::Dependents { spec, words } => self.tree_above(build, spec.as_str(), words),
-            Word::Why { spec, steps } => self.why(build, spec.as_str(), *steps),
+            Word::Why { spec, form } => self.why(build, spec.as_str(), *form),
+            Word::Order => self.order(build),
+            Word::Graph { words } => self.picture(build, words),
             Word::Features { spec } => self.features(build, spec.as_str()),
             Word::Unreachable { spec, side } => self.unbuilt(build, spec.as_str(), *side),
             Word::Certify { spec } => self.certificate(build, spec.as_ref()),
@@ -351,7 +357,8 @@ impl<'a> BuildReporter<'a> {
         roots: &[NodeId],
         words: &TreeWords,
     ) -> Result<Report, BuildReportError> {
-        let links = self.without_pruned(build, links, words)?;
+        let pruned = self.pruned(build, &words.pruned)?;
+        let links = without(self.alloc, links, &pruned)?;
         let features = self.features_in(build, words)?;
         let crates = build.crates(self.alloc)?;
         let tree = Tree::drawn_by(self.alloc, crates, Ok(links), roots, words)?;
@@ -363,18 +370,39 @@ impl<'a> BuildReporter<'a> {
         Ok(yes(self.text(&answer)?))
     }
 
-    /// The links but those to crates that are left out of a tree.
-    fn without_pruned(
-        &self,
-        build: &Build<'_>,
-        links: DirectLinks,
-        words: &TreeWords,
-    ) -> Result<DirectLinks, BuildReportError> {
+    /// The positions of the crates that are left out.
+    fn pruned(&self, build: &Build<'_>, specs: &[String]) -> Result<Vec<NodeId>, BuildReportError> {
         let mut pruned = Vec::new(self.alloc);
-        for spec in &words.pruned {
+        for spec in specs {
             pruned.extend(self.root(build, spec.as_str())?)?;
         }
-        Ok(without(self.alloc, links, &pruned)?)
+        Ok(pruned)
+    }
+
+    /// The picture of the crates that are built, as the words draw it.
+    fn picture(&self, build: &Build<'_>, words: &PictureWords) -> Result<Report, BuildReportError> {
+        let pruned = self.pruned(build, &words.pruned)?;
+        let roots = build.asked(self.alloc)?;
+        let linked = build.linked(self.alloc)?;
+        let frame = PictureFrame {
+            roots: &roots,
+            pruned: &pruned,
+            words,
+        };
+        let answer = linked.picture(self.alloc, frame)?;
+        Ok(yes(self.text(&answer)?))
+    }
+
+    /// An order in which the crates can be built. It is a no where there is none.
+    fn order(&self, build: &Build<'_>) -> Result<Report, BuildReportError> {
+        let crates = build.crates(self.alloc)?;
+        let features = build.enabled_features(self.alloc)?;
+        let links = build.dependencies(self.alloc);
+        let answer = OrderedCrates::of(self.alloc, crates, links, features)?;
+        Ok(Report {
+            text: self.text(&answer)?,
+            is_yes: answer.is_order(),
+        })
     }
 
     /// The features of each crate, where the format of a tree has them.
@@ -401,7 +429,7 @@ impl<'a> BuildReporter<'a> {
         &self,
         build: &Build<'_>,
         spec: &str,
-        has_steps: bool,
+        form: WhyForm,
     ) -> Result<Report, BuildReportError> {
         let number = build.one(self.alloc, spec)?;
         let (Some(package), Some(fact)) = (build.package(number), built_fact(build, number)) else {
@@ -416,7 +444,7 @@ impl<'a> BuildReporter<'a> {
             package,
             steps,
             words,
-            has_steps,
+            form,
         };
         Ok(yes(self.text(&answer)?))
     }

@@ -7,8 +7,10 @@ use krates_build_facts::{BuildFact, BuildStep, PlatformNumber};
 use krates_build_naming::{FactNames, words_of};
 use krates_report::answer::Answer;
 use krates_report::crate_name::ShortName;
+use krates_report::dot;
 use krates_report::json::{JsonObject, Values};
 use krates_report::lines::Lines;
+use krates_words::WhyForm;
 use serde_json::Value;
 use std::alloc::{AllocError, Global};
 
@@ -23,8 +25,8 @@ pub(crate) struct WhyBuilt<'d, 'a> {
     pub(crate) steps: Vec<BuildStep<'a>>,
     /// The words of the fact that each step gives.
     pub(crate) words: Vec<Vec<String>>,
-    /// Whether the text has the steps instead of sentences.
-    pub(crate) has_steps: bool,
+    /// How it is printed.
+    pub(crate) form: WhyForm,
 }
 
 impl WhyBuilt<'_, '_> {
@@ -48,6 +50,28 @@ impl WhyBuilt<'_, '_> {
             if let Some(number) = self.step_of(premise) {
                 write!(lines, "{before}{number}");
                 before = " ";
+            }
+        }
+    }
+
+    /// Adds a picture: a box for each step, with the words of its fact, and an arrow to it from each step that it follows from.
+    fn push_dot(&self, lines: &mut Lines) -> Result<(), AllocError> {
+        let alloc = lines.allocator();
+        dot::push_begin(lines);
+        for (number, (step, words)) in self.steps.iter().zip(&self.words).enumerate() {
+            let label = words_text(alloc, words)?;
+            dot::push_box(alloc, number, label.as_str(), "", lines)?;
+            self.push_arrows(number, step, lines);
+        }
+        dot::push_end(lines);
+        Ok(())
+    }
+
+    /// Adds an arrow to a step from each that it follows from.
+    fn push_arrows(&self, number: usize, step: &BuildStep<'_>, lines: &mut Lines) {
+        for premise in &step.premises {
+            if let Some(used) = self.step_of(premise) {
+                dot::push_arrow(used, number, "", lines);
             }
         }
     }
@@ -78,15 +102,17 @@ impl WhyBuilt<'_, '_> {
 }
 
 impl Answer for WhyBuilt<'_, '_> {
-    /// The derivation in plain sentences, below the crate; or its steps, a line for each.
+    /// The derivation in plain sentences, below the crate; or its steps, a line for each; or a picture of these in the language DOT.
     fn push_lines(&self, lines: &mut Lines) -> Result<(), AllocError> {
-        if self.has_steps {
-            self.push_steps(lines);
-            return Ok(());
+        match self.form {
+            WhyForm::Steps => self.push_steps(lines),
+            WhyForm::Dot => self.push_dot(lines)?,
+            WhyForm::Sentences => {
+                write!(lines, "cargo builds {}:", ShortName(self.package));
+                lines.end();
+                Steps::new(self.build, &self.steps).push(lines);
+            }
         }
-        write!(lines, "cargo builds {}:", ShortName(self.package));
-        lines.end();
-        Steps::new(self.build, &self.steps).push(lines);
         Ok(())
     }
 
@@ -108,6 +134,18 @@ fn push_words(words: &[String], lines: &mut Lines) {
     for word in words {
         write!(lines, " {word}");
     }
+}
+
+/// Words in one text, with a space between each two.
+fn words_text(alloc: Global, words: &[String]) -> Result<String, AllocError> {
+    let mut text = String::new(alloc);
+    for word in words {
+        if !text.is_empty() {
+            text.push_str(" ")?;
+        }
+        text.push_str(word.as_str())?;
+    }
+    Ok(text)
 }
 
 /// Words as JSON.

@@ -1,8 +1,7 @@
 //! Files of cargo's configuration, of which a build may have more than its words say.
 
 use crate::failure::Failure;
-use crate::inputs::variable;
-use crate::shell::Shell;
+use crate::inputs::{Inputs, variable};
 use krates_shown::Shown;
 use std::alloc::AllocError;
 use std::{env, fs};
@@ -10,17 +9,45 @@ use std::{env, fs};
 /// The names of such a file in a folder. Cargo reads the first that is there.
 static NAMES: [&str; 2] = ["config", "config.toml"];
 
-/// Says of each file of configuration that cargo would read for a build here that it isn't looked at: those in the folder that this process is
-/// run in and in the folders above it, and the one in cargo's own (Cargo Book, "Configuration", "Hierarchical structure"). It is refused as
-/// `Variable`; it may instead return `Memory`. Time O(folders).
-pub fn note_files(shell: &Shell<'_>) -> Result<(), Failure> {
-    for file in &files(shell.rt)? {
-        shell.note(format_args!(
-            "{}: flags and overrides of cargo's configuration aren't looked at",
-            Shown(file.as_str())
-        ));
+/// What begins a line of such a file that changes what is built, behind the bracket of a table or `build.` (Cargo Book, "Configuration").
+static CHANGING: [&str; 7] = [
+    "rustflags",
+    "rustc",
+    "target",
+    "host",
+    "env",
+    "unstable",
+    "include",
+];
+
+/// Says of each file of configuration that cargo would read for a build here, and that may change what is built, that it isn't looked at: of those
+/// in the folder that this process is run in and in the folders above it, and of the one in cargo's own (Cargo Book, "Configuration", "Hierarchical
+/// structure"). It is refused as `Variable`; it may instead return `Memory`. Time O(folders), and O(n) for n bytes of the files.
+pub fn note_files(inputs: &Inputs<'_>) -> Result<(), Failure> {
+    for file in &files(inputs.shell.rt)? {
+        if changes_build(inputs, file.as_str()) {
+            inputs.shell.note(format_args!(
+                "{}: flags and overrides of cargo's configuration aren't looked at",
+                Shown(file.as_str())
+            ));
+        }
     }
     Ok(())
+}
+
+/// Whether a file may change what is built. One that can't be read may.
+fn changes_build(inputs: &Inputs<'_>, file: &str) -> bool {
+    match inputs.text_in(file) {
+        Ok(text) => text.lines().any(changes),
+        Err(_) => true,
+    }
+}
+
+/// Whether a line of such a file may change what is built.
+fn changes(line: &str) -> bool {
+    let key = line.trim_start().trim_start_matches('[');
+    let key = key.strip_prefix("build.").unwrap_or(key);
+    !key.starts_with("target-dir") && CHANGING.iter().any(|word| key.starts_with(word))
 }
 
 /// The paths of the files of configuration that cargo would read here, from the topmost folder down, and then of the one in cargo's own folder.

@@ -18,6 +18,7 @@ mod rustc;
 pub mod shell;
 pub mod status;
 pub mod targets;
+mod wrapped;
 
 pub use failure::Failure;
 pub use inputs::Inputs;

@@ -2,7 +2,9 @@
 
 use crate::shell::Shell;
 use crate::status::{NO_ANSWER, WRONG};
+use crate::wrapped::wrapped;
 use krates_words::WordsError;
+use std::alloc::AllocError;
 use std::env::{Env, FillError};
 use std::process::ExitCode;
 use std::{env, io};
@@ -55,11 +57,34 @@ fn unread_word(rt: &HostRuntime) -> Option<Vec<u8>> {
     None
 }
 
+/// Prints help, as wide as the variable `COLUMNS` says, and returns the status.
+fn print_help(shell: &Shell<'_>, text: &str) -> ExitCode {
+    let Some(width) = columns(shell.rt) else {
+        return shell.print(text, true);
+    };
+    match wrapped(shell.rt.alloc(), text, width) {
+        Ok(text) => shell.print(text.as_str(), true),
+        Err(AllocError) => {
+            shell.error("out of memory");
+            ExitCode::from(NO_ANSWER)
+        }
+    }
+}
+
+/// The number in the variable `COLUMNS`, if it has one.
+fn columns(rt: &HostRuntime) -> Option<usize> {
+    match env::var(rt, "COLUMNS") {
+        Ok(text) => text.as_str().parse::<usize>().ok(),
+        Err(_) => None,
+    }
+}
+
 /// Prints the help that was asked for, or says what is wrong with the words, and returns the status.
 pub fn refuse_asked(rt: &HostRuntime, error: &WordsError) -> ExitCode {
     let shell = Shell::new(rt);
     match error {
-        WordsError::Asked(text) => shell.print(text.as_str(), true),
+        WordsError::Asked(text) => print_help(&shell, text.as_str()),
+        WordsError::Page(text) => shell.print(text.as_str(), true),
         WordsError::Wrong(text) => {
             shell.wrong(text.as_str());
             ExitCode::from(WRONG)

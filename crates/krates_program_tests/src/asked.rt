@@ -3,6 +3,7 @@
 mod documents;
 mod kept;
 mod names;
+mod pictures;
 mod reasons;
 mod shown;
 mod trees;
@@ -13,18 +14,26 @@ use krates::Metadata;
 use krates::cm::MetadataCommand;
 use krates::target::Target;
 use krates_report::{Report, ReportError, Reporter};
-use krates_samples::documents::metadata;
+use krates_samples::documents::{document, metadata};
 use krates_samples::table::{Question, Row, hold};
 use krates_words::{Asked, Choice, Rules, asked_of};
 use std::alloc::{AllocError, Global};
 use std::test::Fail;
 
-/// The document of a line, or the real one.
+/// The document of a line, with its workspace in another folder.
+fn elsewhere(alloc: Global, line: &str) -> Result<Metadata, Fail> {
+    let text = document(alloc, line)?.replace(alloc, "/w", "/home/me/w")?;
+    Ok(MetadataCommand::parse(alloc, text.as_str())?)
+}
+
+/// The document of a line, or the real one. A line that begins with `elsewhere` has the workspace in another folder.
 pub(crate) fn document_of(alloc: Global, line: &str) -> Result<Metadata, Fail> {
     if line == "versions" {
-        Ok(MetadataCommand::parse(alloc, VERSIONS)?)
-    } else {
-        metadata(alloc, line)
+        return Ok(MetadataCommand::parse(alloc, VERSIONS)?);
+    }
+    match line.strip_prefix("elsewhere ") {
+        Some(line) => elsewhere(alloc, line),
+        None => metadata(alloc, line),
     }
 }
 

@@ -3,5 +3,6 @@
 mod answered;
 mod certified;
 mod kept;
+mod pictures;
 mod reasons;
 mod refused;

@@ -1,6 +1,6 @@
 //! What is asked of a document, answered.
 
-ghost use Rattle.std.specs.Prelude.{◌≡◌, [], IfOk, IsTrue};
+ghost use Rattle.std.specs.Prelude.{[], IfOk};
 ghost use Rattle.krates_cm.specs.Document.{metadata_view};
 ghost use Rattle.krates_report.specs.Builds.{IsBuildOf, IsDivisionOf};
 ghost use Rattle.krates_words.specs.Choice.{IsSettingOf};
@@ -9,26 +9,30 @@ use crate::absent::Absent;
 use crate::answer::{Answer, pretty, printed};
 use crate::bill::{Bill, BillSubject};
 use crate::builds::{builds, built};
-use crate::difference::Difference;
+use crate::difference::{Difference, Snapshot};
+use crate::divided::{Divided, Others};
 use crate::drawn_tree::DrawnTree;
 use crate::duplicates::Duplicates;
 use crate::error::ReportError;
 use crate::feature_list::FeatureList;
 use crate::kept::{List, UsedKrates};
+use crate::order::OrderedCrates;
+use crate::picture::{LinkedCrates, PictureFrame};
 use crate::tree::{Tree, without};
 use crate::why::{Certainty, ExplainedFeatures, Why};
 use krates::derive::{Derivation, Fact};
 use krates::resolve::Setting;
-use krates::{Builder, Kid, KrateMatch, Krates, Metadata, Node, NodeId, OnFilter, Package};
+use krates::{Builder, Kid, Krates, Metadata, Node, NodeId, Package};
 use krates_answers::builds::Builds;
 use krates_answers::direct_links::DirectLinks;
+use krates_answers::enabled_feature::EnabledFeature;
 use krates_answers::kept::kept_crates;
 use krates_answers::licences::licences;
-use krates_answers::meaning::{Meant, Packages};
+use krates_answers::meaning::Meant;
 use krates_answers::naming::NamingError;
 use krates_answers::unreachable::is_unreachable;
 use krates_certificate::{Certificate, CertificatePart};
-use krates_words::{Asked, BillWords, Choice, TreeWords, Word};
+use krates_words::{Asked, BillWords, Choice, PictureWords, TreeWords, WhyForm, Word};
 use std::alloc::{AllocError, Global};
 
 /// What is printed, and whether it is a yes.
@@ -37,7 +41,7 @@ pub struct Report {
     /// The lines, or the JSON.
     pub text: String,
     /// Whether the answer is yes: false only if it was asked whether a crate is unreachable, and it isn't, or whether two documents differ,
-    /// and they do.
+    /// and they do, or for an order, and there is none.
     pub is_yes: bool,
 }
 
@@ -46,82 +50,6 @@ impl Report {
     fn yes(text: String) -> Report {
         Report { text, is_yes: true }
     }
-}
-
-/// A filter that keeps the packages that a build doesn't, as long as there is memory.
-#[derive(Drop)]
-struct Others {
-    packages: Vec<Package>,
-    is_whole: bool,
-}
-
-impl OnFilter for Others {
-    ghost use Rattle.std.specs.Prelude.{◌≡◌, ◌++◌, ◌∷◌, [], IsTrue};
-
-    ghost filters = { λ old pkg new. IsTrue new.is_whole
-        → (IsTrue old.is_whole × (new.packages.items ≡ old.packages.items ++ pkg ∷ [])) };
-
-    fn filtered(&mut self, pkg: Package) {
-        self.is_whole = self.packages.push(pkg).is_ok() && self.is_whole;
-    }
-}
-
-impl Others {
-    /// These and the graph that doesn't keep them, if there was memory for all of them.
-    fn beside(self, krates: Krates) -> Result<Divided, ReportError>
-        ensures graph { IfOk result (λ divided. divided.krates ≡ krates) }
-        ensures others { IfOk result (λ divided. IsTrue self.is_whole × (divided.others ≡ self.packages)) }
-    {
-        let Others { packages, is_whole } = self;
-        if is_whole {
-            Ok(Divided {
-                krates,
-                others: packages,
-            })
-        } else {
-            Err(ReportError::Memory)
-        }
-    }
-}
-
-/// The graph of a document and the packages that it doesn't keep.
-#[derive(Drop)]
-struct Divided {
-    krates: Krates,
-    others: Vec<Package>,
-}
-
-impl Divided {
-    /// The one kept crate that a word means.
-    fn one(&self, alloc: Global, word: &str) -> Result<KrateMatch<'_, Package>, NamingError> {
-        let kept = kept_crates(alloc, &self.krates)?;
-        let others = references(alloc, &self.others)?;
-        let packages = Packages {
-            kept: &kept,
-            others: &others,
-        };
-        packages.one(alloc, word)
-    }
-
-    /// The one package that a word means, kept or not.
-    fn any(&self, alloc: Global, word: &str) -> Result<Meant<'_>, NamingError> {
-        let kept = kept_crates(alloc, &self.krates)?;
-        let others = references(alloc, &self.others)?;
-        let packages = Packages {
-            kept: &kept,
-            others: &others,
-        };
-        packages.any(alloc, word)
-    }
-}
-
-/// The packages, borrowed.
-fn references(alloc: Global, packages: &[Package]) -> Result<Vec<&Package>, AllocError> {
-    let mut references = Vec::new(alloc);
-    for package in packages {
-        references.push(package)?;
-    }
-    Ok(references)
 }
 
 /// The enabled features of each kept crate, by number, with commas between them, where the format of a tree has them.
@@ -207,11 +135,14 @@ impl Reporter<'_> {
     /// What is printed of one document.
     fn of_one(&self, metadata: Metadata) -> Result<Report, ReportError> {
         match &self.asked.word {
-            Word::List { .. } | Word::Duplicates | Word::Licences => self.of_graph(metadata),
+            Word::List { .. } | Word::Duplicates | Word::Licences | Word::Order => {
+                self.of_graph(metadata)
+            }
             Word::Tree { .. }
             | Word::Dependents { .. }
             | Word::Why { .. }
             | Word::Features { .. }
+            | Word::Graph { .. }
             | Word::Certify { .. } => self.of_divided(metadata),
             Word::Uses => self.of_builds(metadata),
             Word::Sbom { words } => self.bill(metadata, words),
@@ -317,7 +248,9 @@ impl Reporter<'_> {
         has_exit_code: bool,
     ) -> Result<Report, ReportError> {
         let new = self.built(new)?;
-        let answer = Difference::between(self.alloc, old, &new)?;
+        let before = Snapshot::of_graph(self.alloc, old)?;
+        let after = Snapshot::of_graph(self.alloc, &new)?;
+        let answer = Difference::between(self.alloc, &before, &after)?;
         Ok(Report {
             text: printed(self.alloc, &answer, self.asked.is_json)?,
             is_yes: !has_exit_code || answer.is_empty(),
@@ -351,6 +284,7 @@ impl Reporter<'_> {
                 }))
             }
             Word::Duplicates => self.duplicates_in(krates),
+            Word::Order => self.order_in(krates),
             // the word `licences`
             _ => {
                 let crates = kept_crates(self.alloc, krates)?;
@@ -366,13 +300,26 @@ impl Reporter<'_> {
         self.shown(Duplicates::of(self.alloc, crates, dependents))
     }
 
+    /// An order in which the kept crates can be built. It is a no where there is none.
+    fn order_in(&self, krates: &Krates) -> Result<Report, ReportError> {
+        let crates = kept_crates(self.alloc, krates)?;
+        let features = EnabledFeature::all_in(self.alloc, krates)?;
+        let links = DirectLinks::dependencies(self.alloc, krates);
+        let answer = OrderedCrates::of(self.alloc, crates, links, features)?;
+        Ok(Report {
+            text: printed(self.alloc, &answer, self.asked.is_json)?,
+            is_yes: answer.is_order(),
+        })
+    }
+
     /// The answer to a word about one crate: the tree of what it needs or of those that need it, why it is kept, its enabled features,
     /// or a certificate.
     fn in_divided(&self, divided: &Divided) -> Result<Report, ReportError> {
         match &self.asked.word {
             Word::Tree { spec, words } => self.tree_below(divided, spec.as_ref(), words),
             Word::Dependents { spec, words } => self.tree_above(divided, spec.as_str(), words),
-            Word::Why { spec, steps } => self.why_in(divided, spec.as_str(), *steps),
+            Word::Why { spec, form } => self.why_in(divided, spec.as_str(), *form),
+            Word::Graph { words } => self.picture_in(divided, words),
             Word::Features { spec } => self.features_in(divided, spec.as_str()),
             Word::Certify { spec } => self.certificate_in(divided, spec.as_ref()),
             // no other word comes here
@@ -428,7 +375,7 @@ impl Reporter<'_> {
         roots: &[NodeId],
         words: &TreeWords,
     ) -> Result<Report, ReportError> {
-        let pruned = self.pruned(divided, words)?;
+        let pruned = self.pruned(divided, &words.pruned)?;
         let crates = kept_crates(self.alloc, &divided.krates)?;
         let features = features_by_krate(self.alloc, &divided.krates, words)?;
         let links = without(self.alloc, links, &pruned);
@@ -440,10 +387,24 @@ impl Reporter<'_> {
         }))
     }
 
-    /// The numbers of the crates that are left out of a tree.
-    fn pruned(&self, divided: &Divided, words: &TreeWords) -> Result<Vec<NodeId>, ReportError> {
+    /// The picture of the kept crates, as the words draw it.
+    fn picture_in(&self, divided: &Divided, words: &PictureWords) -> Result<Report, ReportError> {
+        let pruned = self.pruned(divided, &words.pruned)?;
+        let members = members_of(self.alloc, &divided.krates)?;
+        let crates = kept_crates(self.alloc, &divided.krates)?;
+        let linked = LinkedCrates::of_graph(self.alloc, &divided.krates, crates, &members)?;
+        let frame = PictureFrame {
+            roots: &members,
+            pruned: &pruned,
+            words,
+        };
+        self.shown(linked.picture(self.alloc, frame))
+    }
+
+    /// The numbers of the crates that are left out.
+    fn pruned(&self, divided: &Divided, specs: &[String]) -> Result<Vec<NodeId>, ReportError> {
         let mut pruned = Vec::new(self.alloc);
-        for spec in &words.pruned {
+        for spec in specs {
             let found = divided.one(self.alloc, spec.as_str())?;
             pruned.push(found.node_id)?;
         }
@@ -457,18 +418,13 @@ impl Reporter<'_> {
     }
 
     /// Why a crate is kept.
-    fn why_in(
-        &self,
-        divided: &Divided,
-        spec: &str,
-        has_steps: bool,
-    ) -> Result<Report, ReportError> {
+    fn why_in(&self, divided: &Divided, spec: &str, form: WhyForm) -> Result<Report, ReportError> {
         let found = divided.one(self.alloc, spec)?;
         match divided.krates.why(found.node_id)? {
             Some(derivation) => self.shown(Ok(Why {
                 krate: found.krate,
                 derivation,
-                has_steps,
+                form,
             })),
             None => Ok(Report::yes(String::new(self.alloc))),
         }

@@ -1,6 +1,6 @@
 //! Trees of crates.
 
-ghost use Rattle.std.specs.Prelude.{◌≡◌, IfOk, Ok};
+ghost use Rattle.std.specs.Prelude.{◌≡◌, IfOk, None, Ok, false};
 ghost use Rattle.krates_answers.specs.DirectLinks.{IsListed};
 ghost use Rattle.krates_answers.specs.Tree.{IsTree, roots_among};
 
@@ -69,7 +69,10 @@ impl<'a> Tree<'a> {
         links: Result<DirectLinks, AllocError>,
         roots: &[NodeId],
         words: &TreeWords,
-    ) -> Result<Tree<'a>, AllocError> {
+    ) -> Result<Tree<'a>, AllocError>
+        ensures plain { words.now.depth ≡ None → words.now.no_dedupe ≡ false → IfOk result
+            (λ tree. (links ≡ Ok tree.links) × IsTree (IsListed tree.links) (roots_among tree.links roots.now) tree.lines.items) }
+    {
         if words.depth.is_none() && !words.no_dedupe {
             return Tree::of(alloc, crates, links, roots);
         }

@@ -2,11 +2,13 @@
 
 use crate::answer::Answer;
 use crate::crate_name::ShortName;
+use crate::dot;
 use crate::json::{InJson, JsonObject, list_json, string};
 use crate::lines::Lines;
 use crate::sentences::{last_reason, push_sentences};
 use krates::derive::{Derivation, Step};
 use krates::{KrateMatch, Krates, Node, NodeId, Package};
+use krates_words::WhyForm;
 use serde_json::Value;
 use std::alloc::{AllocError, Global};
 
@@ -17,8 +19,8 @@ pub struct Why<'a> {
     pub krate: &'a Package,
     /// A derivation that ends in it.
     pub derivation: Derivation,
-    /// Whether the text has the steps instead of sentences.
-    pub has_steps: bool,
+    /// How it is printed.
+    pub form: WhyForm,
 }
 
 impl InJson for Step {
@@ -42,16 +44,40 @@ impl Why<'_> {
     }
 }
 
-impl Answer for Why<'_> {
-    /// The derivation in plain sentences, below the crate; or its steps, a line for each.
-    fn push_lines(&self, lines: &mut Lines) -> Result<(), AllocError> {
-        if self.has_steps {
-            self.push_steps(lines);
-            return Ok(());
+impl Why<'_> {
+    /// Adds a picture: a box for each step, with its fact, and an arrow to it from each step that it uses.
+    fn push_dot(&self, lines: &mut Lines) -> Result<(), AllocError> {
+        let alloc = lines.allocator();
+        dot::push_begin(lines);
+        for (number, step) in self.derivation.steps.iter().enumerate() {
+            let label = step.fact.to_string(alloc)?;
+            dot::push_box(alloc, number, label.as_str(), "", lines)?;
+            push_arrows(number, &step.uses, lines);
         }
-        write!(lines, "{} is kept:", ShortName(self.krate));
-        lines.end();
-        push_sentences(&self.derivation, lines);
+        dot::push_end(lines);
+        Ok(())
+    }
+}
+
+/// Adds an arrow to a step from each of these.
+fn push_arrows(number: usize, uses: &[usize], lines: &mut Lines) {
+    for used in uses {
+        dot::push_arrow(*used, number, "", lines);
+    }
+}
+
+impl Answer for Why<'_> {
+    /// The derivation in plain sentences, below the crate; or its steps, a line for each; or a picture of these in the language DOT.
+    fn push_lines(&self, lines: &mut Lines) -> Result<(), AllocError> {
+        match self.form {
+            WhyForm::Steps => self.push_steps(lines),
+            WhyForm::Dot => self.push_dot(lines)?,
+            WhyForm::Sentences => {
+                write!(lines, "{} is kept:", ShortName(self.krate));
+                lines.end();
+                push_sentences(&self.derivation, lines);
+            }
+        }
         Ok(())
     }
 

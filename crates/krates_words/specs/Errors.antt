@@ -22,5 +22,6 @@ IsWrongOrMemory _ = ⊥
 -- what is printed: the text alone, or that memory ran out
 abbrev pub words_error_text : WordsError → Option Text
 words_error_text (errors.Asked text) = Some (string_bytes text)
+words_error_text (errors.Page text) = Some (string_bytes text)
 words_error_text (errors.Wrong text) = Some (string_bytes text)
 words_error_text errors.Memory = Some (codes "error: out of memory\n")

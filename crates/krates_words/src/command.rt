@@ -17,10 +17,10 @@ SPEC names a package as cargo's -p does: serde, serde@1.0.152, or its id.
 pub(crate) static VERSION: &str = "0.22.0";
 
 /// What `--ignore-kind` takes.
-static KINDS: [&str; 3] = ["normal", "build", "dev"];
+pub(crate) const KINDS: [&str; 3] = ["normal", "build", "dev"];
 
 /// What `--edges` takes.
-const EDGES: [&str; 7] = [
+pub(crate) const EDGES: [&str; 7] = [
     "normal",
     "build",
     "dev",
@@ -85,7 +85,9 @@ impl KnownWord {
             options: self.own,
         };
         own.push_args(alloc, &mut args)?;
-        push_groups(alloc, &mut args, &FOR_ANSWERS)?;
+        if self.is_answer {
+            push_groups(alloc, &mut args, &FOR_ANSWERS)?;
+        }
         Ok(args)
     }
 }
@@ -128,6 +130,12 @@ impl KnownOption {
             Takes::Argument { is_required } => {
                 Ok(arg.action(ArgAction::Set).required(is_required))
             }
+            Takes::ArgumentOf(values) => Ok(
+                arg.action(ArgAction::Set)
+                    .required(true)
+                    .value_parser(ValueParser::Names(values))
+                    .hide_possible_values(true),
+            ),
             Takes::Document => self
                 .taking(arg)
                 .conflicts_with_all(&CARGO_OPTIONS.map(|option| option.name)),
@@ -148,7 +156,7 @@ impl KnownOption {
             Takes::Kind => among(arg, "KIND", &KINDS),
             Takes::Number(name) => one(arg, name).value_parser(ValueParser::Unsigned(0, u64::MAX)),
             Takes::Certified => one(arg, "FILE").required(true),
-            Takes::Document | Takes::Argument { .. } => one(arg, "FILE"),
+            Takes::Document | Takes::Argument { .. } | Takes::ArgumentOf(_) => one(arg, "FILE"),
         }
     }
 

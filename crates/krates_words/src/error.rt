@@ -15,6 +15,8 @@ use std::fmt;
 pub enum WordsError {
     /// They ask for help or the version, which is this text.
     Asked(String),
+    /// They ask for what completes them in a shell, or for the manual page, which is this text.
+    Page(String),
     /// They are wrong, as this text says.
     Wrong(String),
     /// Memory ran out.
@@ -95,7 +97,8 @@ impl fmt::Display for WordsError {
 
     fn fmt<W: fmt::Write>(&self, f: &mut fmt::Formatter<W>) -> fmt::Result {
         match self {
-            WordsError::Asked(text) | WordsError::Wrong(text) => f.write_str(text.as_str()),
+            WordsError::Asked(text) | WordsError::Page(text) | WordsError::Wrong(text) =>
+                f.write_str(text.as_str()),
             WordsError::Memory => f.write_str("error: out of memory\n"),
         }
     }

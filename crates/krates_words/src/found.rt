@@ -1,7 +1,10 @@
 //! What is asked, from what `clap` found in the words.
 
+use crate::completions::completions;
 use crate::error::WordsError;
 use crate::found_rules::{build_words, choice};
+use crate::manual::manual;
+use crate::picture_words::{PictureWords, WhyForm};
 use crate::rules::By;
 use crate::together::check;
 use crate::values::{required, text, texts};
@@ -17,6 +20,9 @@ pub(crate) fn asked(alloc: Global, found: &ArgMatches<'_>) -> Result<Asked, Word
     let Some((name, found)) = found.subcommand() else {
         return Err(WordsError::wrong(alloc, "a word is missing"));
     };
+    if let Some(page) = page(alloc, name, found)? {
+        return Err(WordsError::Page(page));
+    }
     let by = By::of(found);
     check(alloc, by, found)?;
     let rules = rules(alloc, by, found)?;
@@ -34,6 +40,15 @@ pub(crate) fn asked(alloc: Global, found: &ArgMatches<'_>) -> Result<Asked, Word
     })
 }
 
+/// The page that a word of this name asks for, if it asks for one.
+fn page(alloc: Global, name: &str, found: &ArgMatches<'_>) -> Result<Option<String>, AllocError> {
+    match name {
+        "completions" => Ok(Some(completions(alloc, found.get_str("SHELL").unwrap_or("bash"))?)),
+        "man" => Ok(Some(manual(alloc)?)),
+        _ => Ok(None),
+    }
+}
+
 /// The word of this name.
 fn word(alloc: Global, name: &str, found: &ArgMatches<'_>) -> Result<Word, WordsError> {
     match name {
@@ -46,6 +61,10 @@ fn word(alloc: Global, name: &str, found: &ArgMatches<'_>) -> Result<Word, Words
         "duplicates" => Ok(Word::Duplicates),
         "licences" => Ok(Word::Licences),
         "uses" => Ok(Word::Uses),
+        "order" => Ok(Word::Order),
+        "graph" => Ok(Word::Graph {
+            words: PictureWords::of(alloc, found)?,
+        }),
         "sbom" => Ok(Word::Sbom {
             words: BillWords::of(alloc, found)?,
         }),
@@ -90,7 +109,7 @@ fn word_of_crate(alloc: Global, name: &str, found: &ArgMatches<'_>) -> Result<Wo
         }),
         "why" => Ok(Word::Why {
             spec,
-            steps: found.get_flag("steps"),
+            form: WhyForm::of(alloc, found)?,
         }),
         "features" => Ok(Word::Features { spec }),
         "unreachable" => Ok(Word::Unreachable {

@@ -21,6 +21,8 @@ pub(crate) enum Takes {
     Number(&'static str),
     /// Nothing behind it: it is itself a value, that of an argument behind the word, which may have to be there.
     Argument { is_required: bool },
+    /// The same, one of these values.
+    ArgumentOf(&'static [&'static str]),
     /// A file, in place of what cargo is told.
     Document,
     /// A file that has to be there.
@@ -38,6 +40,18 @@ pub(crate) struct KnownOption {
     pub(crate) takes: Takes,
     /// What it does.
     pub(crate) help: &'static str,
+}
+
+impl KnownOption {
+    /// Whether it is itself a value, that of an argument behind the word.
+    pub(crate) fn is_argument(&self) -> bool {
+        matches!(self.takes, Takes::Argument { .. } | Takes::ArgumentOf(_))
+    }
+
+    /// Whether a value follows its name.
+    pub(crate) fn takes_value(&self) -> bool {
+        !self.is_argument() && !matches!(self.takes, Takes::Nothing)
+    }
 }
 
 /// Options under one heading of help.
@@ -505,6 +519,30 @@ pub(crate) const STEPS: KnownOption = KnownOption {
     short: None,
     takes: Takes::Nothing,
     help: "Print the steps of the derivation, a line for each",
+};
+
+/// Draws a picture for Graphviz.
+pub(crate) const DOT: KnownOption = KnownOption {
+    name: "dot",
+    short: None,
+    takes: Takes::Nothing,
+    help: "Print a picture in the language DOT, which Graphviz draws",
+};
+
+/// Draws a picture for Mermaid.
+pub(crate) const MERMAID: KnownOption = KnownOption {
+    name: "mermaid",
+    short: None,
+    takes: Takes::Nothing,
+    help: "Print a picture in the language of Mermaid, which many pages of Markdown draw",
+};
+
+/// A shell, after a word.
+pub(crate) const SHELL: KnownOption = KnownOption {
+    name: "SHELL",
+    short: None,
+    takes: Takes::ArgumentOf(&["bash", "zsh", "fish"]),
+    help: "The shell: bash, zsh, fish",
 };
 
 /// Certifies all.

@@ -7,6 +7,7 @@ mod cargo;
 mod check_words;
 mod choice;
 mod command;
+mod completions;
 mod edges;
 mod error;
 mod feature_names;
@@ -14,6 +15,8 @@ mod found;
 mod found_rules;
 mod known;
 mod known_options;
+mod manual;
+mod picture_words;
 mod rules;
 mod setting_words;
 mod shell_words;
@@ -32,6 +35,7 @@ pub use cargo::CargoWords;
 pub use check_words::{CheckWords, check_words_of};
 pub use choice::Choice;
 pub use error::WordsError;
+pub use picture_words::{PictureForm, PictureWords, WhyForm};
 pub use rules::Rules;
 pub use shell_words::{ColorChoice, ShellWords};
 pub use stated::StatedSetting;
@@ -88,8 +92,8 @@ pub enum Word {
     Why {
         /// The package specification or id of the crate.
         spec: String,
-        /// Whether the steps of the derivation are printed: `--steps`.
-        steps: bool,
+        /// How the derivation is printed: `--steps` and `--dot`.
+        form: WhyForm,
     },
     /// The features of a crate that are enabled.
     Features {
@@ -102,6 +106,13 @@ pub enum Word {
     Licences,
     /// What each crate is used for.
     Uses,
+    /// An order in which the crates can be built.
+    Order,
+    /// A picture of the crates and what they need.
+    Graph {
+        /// What the words say of it.
+        words: PictureWords,
+    },
     /// What went since another document, and what came.
     Diff {
         /// The file with the other document, which was before this one; `-` for standard input.
@@ -151,7 +162,7 @@ pub enum Input {
 /// What the words after the program's name mean. A first word `krates`, which cargo passes on where it runs the
 /// program, is skipped.
 ///
-/// It is refused as `Asked` where the words ask for help or the version, as `Wrong` where they mean nothing known or combine what
+/// It is refused as `Asked` where the words ask for help or the version, as `Page` where they ask for completions or the manual page, as `Wrong` where they mean nothing known or combine what
 /// can't go together, and else as `Memory`. Time O(length of the words).
 pub fn asked_of(alloc: Global, words: &[String]) -> Result<Asked, WordsError> {
     let words = without_name(words);

@@ -24,7 +24,18 @@ static DIFFERENCES: &[Row] = &[
     ("diff OTHER -e no-dev < a b&dev|b // a|b", ""),
     (
         "diff --json OTHER < a b|b // a b@0.2.0 c|b@0.2.0|c b@0.2.0",
-        "{\n  \"answer\": {\n    \"added\": [\n      {\n        \"id\": \"path+file:///w/b#b@0.2.0\",\n        \"name\": \"b\",\n        \"source\": null,\n        \"version\": \"0.2.0\"\n      },\n      {\n        \"id\": \"path+file:///w/c#0.1.0\",\n        \"name\": \"c\",\n        \"source\": null,\n        \"version\": \"0.1.0\"\n      }\n    ],\n    \"added_dependencies\": [\n      {\n        \"from\": \"path+file:///w/a#0.1.0\",\n        \"to\": \"path+file:///w/b#b@0.2.0\"\n      },\n      {\n        \"from\": \"path+file:///w/c#0.1.0\",\n        \"to\": \"path+file:///w/b#b@0.2.0\"\n      },\n      {\n        \"from\": \"path+file:///w/a#0.1.0\",\n        \"to\": \"path+file:///w/c#0.1.0\"\n      }\n    ],\n    \"changed\": [\n      {\n        \"from\": [\n          \"0.1.0\"\n        ],\n        \"name\": \"b\",\n        \"to\": [\n          \"0.2.0\"\n        ]\n      }\n    ],\n    \"removed\": [\n      {\n        \"id\": \"path+file:///w/b#0.1.0\",\n        \"name\": \"b\",\n        \"source\": null,\n        \"version\": \"0.1.0\"\n      }\n    ],\n    \"removed_dependencies\": [\n      {\n        \"from\": \"path+file:///w/a#0.1.0\",\n        \"to\": \"path+file:///w/b#0.1.0\"\n      }\n    ]\n  },\n  \"rules\": \"krates\",\n  \"version\": 1\n}\n",
+        "{\n  \"answer\": {\n    \"added\": [\n      {\n        \"id\": \"path+file:///w/b#b@0.2.0\",\n        \"name\": \"b\",\n        \"source\": null,\n        \"version\": \"0.2.0\"\n      },\n      {\n        \"id\": \"path+file:///w/c#0.1.0\",\n        \"name\": \"c\",\n        \"source\": null,\n        \"version\": \"0.1.0\"\n      }\n    ],\n    \"added_dependencies\": [\n      {\n        \"from\": \"path+file:///w/a#0.1.0\",\n        \"to\": \"path+file:///w/b#b@0.2.0\"\n      },\n      {\n        \"from\": \"path+file:///w/c#0.1.0\",\n        \"to\": \"path+file:///w/b#b@0.2.0\"\n      },\n      {\n        \"from\": \"path+file:///w/a#0.1.0\",\n        \"to\": \"path+file:///w/c#0.1.0\"\n      }\n    ],\n    \"added_features\": [],\n    \"changed\": [\n      {\n        \"from\": [\n          \"0.1.0\"\n        ],\n        \"name\": \"b\",\n        \"to\": [\n          \"0.2.0\"\n        ]\n      }\n    ],\n    \"removed\": [\n      {\n        \"id\": \"path+file:///w/b#0.1.0\",\n        \"name\": \"b\",\n        \"source\": null,\n        \"version\": \"0.1.0\"\n      }\n    ],\n    \"removed_dependencies\": [\n      {\n        \"from\": \"path+file:///w/a#0.1.0\",\n        \"to\": \"path+file:///w/b#0.1.0\"\n      }\n    ],\n    \"removed_features\": []\n  },\n  \"rules\": \"krates\",\n  \"version\": 1\n}\n",
+    ),
+    // the same workspace in two folders
+    ("diff OTHER < a b|b // elsewhere a b|b", ""),
+    (
+        "diff OTHER < a b|b // elsewhere a b@0.2.0|b@0.2.0",
+        "~ b 0.1.0 -> 0.2.0\n- b v0.1.0 (/w/b)\n+ b v0.2.0 (/home/me/w/b)\n- a v0.1.0 -> b v0.1.0\n+ a v0.1.0 -> b v0.2.0\n",
+    ),
+    // features of crates that both have
+    (
+        "diff OTHER < a;x= y= / nodes a;x // a;x= y= / nodes a;y",
+        "- a v0.1.0 (/w/a) feature `x`\n+ a v0.1.0 (/w/a) feature `y`\n",
     ),
     // by the status
     ("diff OTHER --exit-code < a b|b // a b|b", ""),
