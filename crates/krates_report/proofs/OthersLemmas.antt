@@ -6,8 +6,8 @@ use Rattle.krates_cm.specs.declared.package.Package.{Package}
 use Rattle.krates_drawing.specs.declared.edge.Edge.{Edge}
 use Rattle.krates_queries.specs.Kept.{KeptCrates}
 use Rattle.krates_report.specs.declared.error.ReportError.{ReportError}
-use Rattle.krates_report.specs.declared.reporter.Divided.{Divided}
-use Rattle.krates_report.specs.declared.reporter.Others.{Others}
+use Rattle.krates_report.specs.declared.divided.Divided.{Divided}
+use Rattle.krates_report.specs.declared.divided.Others.{Others}
 
 -- one package more, where all could be kept
 abbrev pub Keeps : Others → Package → Others → Type 0

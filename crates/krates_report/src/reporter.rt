@@ -248,8 +248,18 @@ impl Reporter<'_> {
         has_exit_code: bool,
     ) -> Result<Report, ReportError> {
         let new = self.built(new)?;
+        self.difference_between(old, &new, has_exit_code)
+    }
+
+    /// What went and what came between two graphs. With an exit code it is a no where anything did.
+    fn difference_between(
+        &self,
+        old: &Krates,
+        new: &Krates,
+        has_exit_code: bool,
+    ) -> Result<Report, ReportError> {
         let before = Snapshot::of_graph(self.alloc, old)?;
-        let after = Snapshot::of_graph(self.alloc, &new)?;
+        let after = Snapshot::of_graph(self.alloc, new)?;
         let answer = Difference::between(self.alloc, &before, &after)?;
         Ok(Report {
             text: printed(self.alloc, &answer, self.asked.is_json)?,
