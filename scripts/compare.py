@@ -16,6 +16,7 @@ documents are the two small ones of scripts/documents. The word is one of these:
     why            the steps that say why krates-list keeps a crate with a reading of the rules
     words          the answers of cargo-krates by krates to its words with a plain reading of the document and the drawn graph
     written        what is read of a document that was read and written with what was read of it at first
+    bills          the bills of materials of cargo-krates with the schemas of CycloneDX, which a package of Debian has
     certificates   the certificates that cargo-krates writes by krates, and COUNT damaged ones (1,000 where none is given), with
                    what krates-check says of them
     built          what `units_of` derives about builds with the unit graphs of cargo, which FOLDER has in files of its own
@@ -29,12 +30,12 @@ crates/krates_list, crates/cargo_krates and crates/krates_check, or $KRATES_LIST
 makes its own. The others that make one do so by scripts/compare/program.sh in two minutes: `built` and `cargo` that of built_units/, unless
 $BUILT_UNITS names it, and `graphs`, `queries` and `words` that of drawn_graphs/, unless $DRAWN_GRAPHS names it.
 
-The status is 0 where nothing differs and something was compared, 1 where not, and 2 where a program isn't there.
+The status is 0 where nothing differs and something was compared, 1 where not, and 2 where a program, or what the schemas need, isn't there.
 """
 import pathlib
 import sys
 
-from compare import built, cargo, certificates, expected, queries, why, words, workspace, written
+from compare import bills, built, cargo, certificates, expected, queries, why, words, workspace, written
 from compare.programs import is_there, program
 from krates_sources import ROOT, wrong_words
 
@@ -46,6 +47,7 @@ WORDS = {
     "why": (why.compare, ["krates_list"]),
     "words": (words.compare, ["cargo_krates"]),
     "written": (written.compare, []),
+    "bills": (bills.compare, ["cargo_krates"]),
     "certificates": (certificates.compare, ["cargo_krates", "krates_check"]),
     "built": (built.compare, []),
     "cargo": (cargo.compare, []),
@@ -72,6 +74,8 @@ def main(given):
         if not is_there(crate):
             print(f"there is no program {program(crate)}: run 'rt run < stdin' in crates/{crate}", file=sys.stderr)
             return 2
+    if word == "bills" and not bills.is_ready():
+        return 2
     return 0 if compare(folder, *more) else 1
 
 
